@@ -30,7 +30,7 @@ numbered front n rest small = ap (λ (l : List ℕ). front ++ (l ++ rest)) (deci
 answer-faulty : (told : InputFault) (text : List ℕ) → answers.fault_text told ≡ text → (fault : AsmFault) → fault_text fault ≡ text → Tells (answer_to (Faulty told)) fault
 answer-faulty told text e fault f = record { output = refl; message = ap (λ (l : List ℕ). line (codes "compass: " ++ l)) (e ∙ sym f); status = refl }
 
--- the answer to an input with this fault tells it
+-- the answer to an input with this fault shows it
 tells : (found : Input) (told : InputFault) (fault : AsmFault) → found ≡ Faulty told → answers.fault_text told ≡ fault_text fault → Tells (answer_to found) fault
 tells found told fault e text = subst (λ (i : Input). Tells (answer_to i) fault) (sym e) (answer-faulty told (fault_text fault) text fault refl)
 
@@ -42,7 +42,7 @@ line-told found number (card.BadCharacter column) small few e =
     (numbered (codes "BadLine ") number (codes " BadCharacter " ++ decimal_of column) small
     ∙ ap (λ (l : List ℕ). codes "BadLine " ++ (decimal number ++ (codes " BadCharacter " ++ l))) (decimal-same column few))
 
--- a fault of the input is told by the answer
+-- a fault of the input is reported by the answer
 pub told-by : (bytes : List ℕ) (fault : AsmFault) → AreSmall fault → TellsFaultOf (input_in bytes) fault → IsToldBy (answer_of bytes) fault
 told-by bytes OutOfMemory small is = tt
 told-by bytes DeckFull small is = tells (input_in bytes) input.DeckFull DeckFull is refl

@@ -1,4 +1,4 @@
--- What the faults of a step tell of the input and of the ports.
+-- What the faults of a step show of the input and of the ports.
 use Rattle.std.proofs.Common.{ℕ, ◌≡◌, refl}
 use Rattle.definitions.specs.DeckInput.{Input}
 use Rattle.asm_main.specs.declared.asm_fault.AsmFault.{AsmFault}

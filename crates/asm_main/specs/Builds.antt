@@ -48,13 +48,13 @@ pub record Gives (answer : Answer) (old new : Option (List ℕ)) (tally : Tally)
   pub message : answer.message ≡ []
   pub status : run_status (Ok tally) ≡ answer.status
 
--- a run that told a fault of the input told this answer
+-- a run that reported a fault of the input reported this answer
 pub record Tells (answer : Answer) (fault : AsmFault) : Type 0 where
   pub output : answer.output ≡ []
   pub message : answer.message ≡ line (codes "compass: " ++ fault_text fault)
   pub status : answer.status ≡ 3
 
--- where the fault is one of the input, it told this answer
+-- where the fault is one of the input, it reported this answer
 abbrev pub IsToldBy : Answer → AsmFault → Type 0
 IsToldBy answer fault = IfSome (input_fault fault) (λ told. Tells answer fault)
 

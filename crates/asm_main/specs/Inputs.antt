@@ -26,7 +26,7 @@ abbrev pub bad_line : ℕ → CardFault → InputFault
 bad_line number card.TooWide = input.BadLineTooWide number
 bad_line number (card.BadCharacter column) = input.BadLineBadCharacter number column
 
--- the fault of the input that a fault tells, if it is one
+-- the fault of the input that a fault shows, if it is one
 abbrev pub input_fault : AsmFault → Option InputFault
 input_fault OutOfMemory = None
 input_fault DeckFull = Some input.DeckFull
@@ -50,7 +50,7 @@ cut_fault (cut.BadName number) = BadName number
 abbrev pub IsFaultOf : Input → AsmFault → Type 0
 IsFaultOf found fault = MatchOption (input_fault fault) ((fault ≡ OutOfMemory) × IsSound found) (λ told. found ≡ Faulty told)
 
--- a fault that tells one of the input tells the one that it has
+-- a fault that shows one of the input shows the one that it has
 abbrev pub TellsFaultOf : Input → AsmFault → Type 0
 TellsFaultOf found fault = IfSome (input_fault fault) (λ told. found ≡ Faulty told)
 
@@ -73,12 +73,12 @@ abbrev pub IsSoundBefore : AsmFault → Option (List ℕ) → Option (List ℕ) 
 IsSoundBefore OutOfMemory old new = ReadsSound old new
 IsSoundBefore fault old new = ⊤
 
--- the numbers that a fault of a card tells can be written
+-- the numbers that a fault of a card shows can be written
 abbrev pub IsSmallColumn : CardFault → Type 0
 IsSmallColumn card.TooWide = ⊤
 IsSmallColumn (card.BadCharacter column) = column < 2 ^ 64
 
--- the numbers that a fault tells can be written
+-- the numbers that a fault shows can be written
 abbrev pub AreSmall : AsmFault → Type 0
 AreSmall (BadLine number fault) = (number < 2 ^ 64) × IsSmallColumn fault
 AreSmall (BadName number) = number < 2 ^ 64

@@ -78,7 +78,7 @@ impl Built {
         }
     }
 
-    /// Writes the listings of the decks, and tells how many bytes these were; or writes exactly the first
+    /// Writes the listings of the decks, and returns how many bytes these were; or writes exactly the first
     /// `sent` of them up to the first fault. Takes no memory.
     pub fn write_listings<W: Write>(&mut self, output: &mut Counted<W>) -> Result<usize, Broken>
         ensures sends { Sends (W.contents output.old.0) (W.contents output.new.0) (listings (decks_of self.old)) result }

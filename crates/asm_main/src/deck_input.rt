@@ -1,4 +1,4 @@
-//! Reads the lines of a run as decks, or tells the first fault among them.
+//! Reads the lines of a run as decks, or returns the first fault among them.
 ghost use Rattle.std.specs.Prelude.{◌≡◌, ◌≤◌, length, OnOk, IfOk, IfErr, IfSome};
 ghost use Rattle.std.specs.Io.KnownBytes.{IsAtEnd};
 ghost use Rattle.definitions.specs.InputLines.{Line};
@@ -57,7 +57,7 @@ pub fn read_decks<R: BufRead>(
     ensures all_read { OnOk result (IsAtEnd (R.remaining input.new.0)) }
     ensures sound { OnOk result (ReadsSound (R.remaining input.old.0) (R.remaining input.new.0)) }
 
-    // Want of memory is told only where what was read shows no fault.
+    // Want of memory is reported only where what was read shows no fault.
     ensures memory { IfErr result (λ fault. IsSoundBefore fault (R.remaining input.old.0) (R.remaining input.new.0)) }
 
     // Where the bytes are known, the decks, or the fault of the input, are those of the definitions.

@@ -6,7 +6,7 @@
 //! longer ones each part is measured, and made once more when it is sent. So nothing is written before
 //! all is read, and nothing asks for memory behind the first byte. The contract of `asm_run` has two halves. Where the bytes of the ports are known,
 //! `answer`, `told` and `part` say that what went out, the fault's text and the status are those of
-//! `answer_of`. The other clauses say what was read and in which order, which faults are told, and
+//! `answer_of`. The other clauses say what was read and in which order, which faults are reported, and
 //! when the ports' counts of faults rise.
 #![tactic(auto)]
 

@@ -33,7 +33,7 @@ pub fn asm_build_with<R: BufRead>(
     line: &mut LineBuf,
 ) -> Result<Built, AsmFault>
     // Where the bytes of the input are known, the decks are those of the definitions, or the fault of
-    // the input is told, its text and its status.
+    // the input is reported, its text and its status.
     ensures decks { IfOk result (λ built.
         IfSome (R.remaining input.old.0) (λ bytes. AreDecksOf (input_in bytes) (decks_of built))) }
     ensures told { IfErr result (λ fault.
@@ -44,7 +44,7 @@ pub fn asm_build_with<R: BufRead>(
     ensures fault { IfErr result (λ fault.
         IfSome (R.remaining input.old.0) (λ bytes. TellsFaultOf (input_in bytes) fault)) }
 
-    // Want of memory is told only where what was read shows no fault.
+    // Want of memory is reported only where what was read shows no fault.
     ensures memory { IfErr result (λ fault. IsSoundBefore fault (R.remaining input.old.0) (R.remaining input.new.0)) }
 
     ensures all_read { OnOk result (IsAtEnd (R.remaining input.new.0)) }
@@ -63,7 +63,7 @@ pub fn asm_build<R: BufRead>(
     input: &mut Counted<R>,
 ) -> Result<Built, AsmFault>
     // Where the bytes of the input are known, the decks are those of the definitions, or the fault of
-    // the input is told, its text and its status.
+    // the input is reported, its text and its status.
     ensures decks { IfOk result (λ built.
         IfSome (R.remaining input.old.0) (λ bytes. AreDecksOf (input_in bytes) (decks_of built))) }
     ensures told { IfErr result (λ fault.
@@ -74,7 +74,7 @@ pub fn asm_build<R: BufRead>(
     ensures fault { IfErr result (λ fault.
         IfSome (R.remaining input.old.0) (λ bytes. TellsFaultOf (input_in bytes) fault)) }
 
-    // Want of memory is told only where what was read shows no fault.
+    // Want of memory is reported only where what was read shows no fault.
     ensures memory { IfErr result (λ fault. IsSoundBefore fault (R.remaining input.old.0) (R.remaining input.new.0)) }
 
     ensures all_read { OnOk result (IsAtEnd (R.remaining input.new.0)) }
@@ -120,19 +120,19 @@ pub fn asm_run<R: BufRead, W: Write>(
     ensures fault { IfErr result (λ fault.
         IfSome (R.remaining input.old.0) (λ bytes. TellsFaultOf (input_in bytes) fault)) }
 
-    // Want of memory is told only where what was read shows no fault.
+    // Want of memory is reported only where what was read shows no fault.
     ensures memory { IfErr result (λ fault. IsSoundBefore fault (R.remaining input.old.0) (R.remaining input.new.0)) }
 
     // Nothing is written before all is read.
     ensures all_read { IsReadBefore result (R.remaining input.new.0) }
 
     // The build of some decks went out, those of the input; the tally counts its flagged statements
-    // and LINK lines. After a fault of the writer exactly the bytes that it tells went out, after any
+    // and LINK lines. After a fault of the writer exactly the bytes that it reports went out, after any
     // other none.
     ensures built { IfOk result (IsBuilt (R.remaining input.old.0) (W.contents output.old.0) (W.contents output.new.0)) }
     ensures output { IfErr result (IsOutputAfter (R.remaining input.old.0) (W.contents output.old.0) (W.contents output.new.0)) }
 
-    // A fault of a port is told only where that port failed in the call.
+    // A fault of a port is reported only where that port failed in the call.
     ensures input_count_ok { OnOk result (input.new.1 ≡ input.old.1) }
     ensures output_count_ok { OnOk result (output.new.1 ≡ output.old.1) }
     ensures input_count { IfErr result (λ fault. input.new.1 ≡ input_count_after fault input.old.1) }

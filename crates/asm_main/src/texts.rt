@@ -25,7 +25,7 @@ fn where_chosen(chosen: bool, text: &[u8]) -> &[u8]
     if chosen { text } else { b"" }
 }
 
-/// Writes the listings where they are chosen, and tells how many bytes these were.
+/// Writes the listings where they are chosen, and returns how many bytes these were.
 fn write_listings<W: Write>(
     output: &mut Counted<W>,
     built: &mut Built,
@@ -43,7 +43,7 @@ fn write_listings<W: Write>(
     }
 }
 
-/// Writes the chosen ones of listings and map, and tells how many bytes these were.
+/// Writes the chosen ones of listings and map, and returns how many bytes these were.
 fn write_front<W: Write>(
     output: &mut Counted<W>,
     built: &mut Built,

@@ -310,7 +310,7 @@ fn text_fault<'a>(flagged: &FlaggedStatement<'a>) -> Option<Found<'a>> {
     }
 }
 
-/// What the operation takes, told at its field, or at the operation where it has none.
+/// What the operation takes, shown at its field, or at the operation where it has none.
 fn form_fault<'a>(flagged: &FlaggedStatement<'a>) -> Found<'a> {
     let statement = &flagged.statement;
     let says = form_of(flagged.kind(), statement.operation, statement.name);

@@ -22,7 +22,7 @@ pub struct Misfit<'a> {
     pub most: i64,
 }
 
-/// A value, and the range that it is not in. `says` tells what has this range, with its mark in front.
+/// A value, and the range that it is not in. `says` shows what has this range, with its mark in front.
 #[derive(Clone, Copy)]
 pub struct OutOfRange<'a> {
     pub text: Shown<'a>,
@@ -57,7 +57,7 @@ pub enum Words<'a> {
     Near(Shown<'a>, NearName),
 }
 
-/// Whether a text is a number by itself, whose value needs no telling.
+/// Whether a text is a number by itself, whose value needs no showing.
 fn is_number(text: &[u8]) -> bool {
     match text.split_first() {
         Some((b'-' | b'+', digits)) => is_unsigned(digits),

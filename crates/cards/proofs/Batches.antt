@@ -15,7 +15,7 @@ use Rattle.cards.proofs.Crossing.{Beside, InFront, Behind, Over, Out, beside, Is
 use Rattle.cards.proofs.Following.{differ}
 use Rattle.cards.proofs.Converging.{goes, crossed_all, Crossed, all-crossed, before-goes, past-goes, front-goes, behind-goes, over-goes}
 
--- what these whereabouts tell is where cards stand after these edits of others
+-- what these whereabouts show is where cards stand after these edits of others
 abbrev pub Tells : Whereabouts → List Edit → Type 0
 Tells stands edits = (place now : ℕ) → stands place ≡ Ok now → goes edits place ≡ Some now
 
@@ -79,7 +79,7 @@ remove-tells stands others own now before past = λ place last e. elim (leb_tell
       ap (λ (n : ℕ). goes others n) (let same : place ≡ place + 1 - 1 = omega arith in same) ∙ past (place + 1) found.0 (omega arith) found.1 ∙ ap (λ (n : ℕ). Some n) (sym found.2))
 ]
 
--- an edit of the sender at its place of now, told by the card beside which it is made, and the whereabouts behind it
+-- an edit of the sender at its place of now, known by the card beside which it is made, and the whereabouts behind it
 record OwnEdit (edit : Edit) (now : ℕ) (stands : Whereabouts) (edits : List Edit) (cards : List Card) : Type 0 where
   pub own : Beside
   pub place : ℕ

@@ -11,7 +11,7 @@ use Rattle.cards.specs.Carrying.{moved}
 use Rattle.cards.specs.Converging.{HasPlace}
 use Rattle.cards.proofs.Commuting.{insert-insert, set-insert_behind, set-insert_in_front, remove-insert_behind, remove-insert_in_front, set-set_apart, remove-set_behind, remove-set_in_front, remove-remove}
 
--- an edit, told by the card beside which it is made: an insertion in front of it or behind it, another card over it, or its removal
+-- an edit, known by the card beside which it is made: an insertion in front of it or behind it, another card over it, or its removal
 pub data Beside : Type 0 where
   InFront : Card → Beside
   Behind : Card → Beside

@@ -1,4 +1,4 @@
--- The first edit that does not apply is told by the number of cards.
+-- The first edit that does not apply is known by the number of cards.
 use Rattle.std.specs.Prelude.{remove}
 use Rattle.std.proofs.Common.{ℕ, zero, suc, ◌≡◌, ◌+◌, ◌-◌, ◌≤◌, ◌<◌, Bool, true, false, not, List, [], ◌∷◌, ◌++◌, length, take, drop, get_or, Option, Some, None, refl, sym, ap, subst, ◌∙◌, arith, option_map, nat_le}
 use Rattle.std.proofs.lemmas.Bool.{leb-true, leb-false, and_parts}
@@ -56,7 +56,7 @@ take-removed (suc n) (card ∷ cards) = ap (λ l. card ∷ l) (take-removed n ca
 pub remove-front : (place : ℕ) (cards : List Card) → take (place - 1) (edited cards (Remove place)) ≡ take (place - 1) cards
 remove-front place cards = take-removed (place - 1) cards
 
--- what keeps an edit from applying is told by the number of cards
+-- what keeps an edit from applying is known by the number of cards
 pub fault-of-count : (edit : Edit) (cards : List Card) → fault_of edit cards ≡ fault_at edit (length cards)
 fault-of-count (Insert place card) cards = refl
 fault-of-count (Replace place card) cards = refl

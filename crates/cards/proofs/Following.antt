@@ -1,4 +1,4 @@
--- Where cards stand once the sender's edit is made, told by where they stood before it.
+-- Where cards stand once the sender's edit is made, known by where they stood before it.
 use Rattle.std.proofs.Common.{ℕ, ◌≡◌, ◌+◌, ◌-◌, ◌==◌, ◌≤◌, ◌<◌, ◌⊎◌, inl, inr, Bool, true, false, Some, None, if◌then◌else◌, suc, refl, sym, ap, ◌∙◌, arith, nat_lt}
 use Rattle.std.proofs.lemmas.Bool.Decides.{leb_tells, Decides-eqb}
 use Rattle.definitions.specs.Cards.{Card}
@@ -156,7 +156,7 @@ remove-past Out q a a1 z z1 p across moves past = elim across [
 ]
 remove-past (Over new) q a a1 z z1 p across moves past = absurd past
 
--- the sender's edit and another's, told by their places
+-- the sender's edit and another's, known by their places
 across-insert : (own : Beside) (q a a1 : ℕ) (new : Card) → moved (Insert q new) a ≡ Some a1 → ((q ≤ a) × (a1 ≡ a + 1) × (shifted own a q ≡ q)) ⊎ ((a < q) × (a1 ≡ a) × (shifted own a q ≡ bumped own q))
 across-insert own q a a1 new moves = elim (insert-moves q a a1 new moves) [ inl h ↦ inl (h.0, h.1, shifted-low own a q h.0) | inr h ↦ inr (h.0, h.1, shifted-high own a q h.0) ]
 

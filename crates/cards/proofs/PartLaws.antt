@@ -8,7 +8,7 @@ use Rattle.definitions.specs.Fields.{without_blanks}
 use Rattle.definitions.proofs.TextLaws.{same_text-true, same_text-refl}
 use Rattle.cards.specs.Joins.FieldParts.{in_time}
 
--- what the test of two texts tells
+-- what the test of two texts shows
 pub same_text-Decides : (a b : List ℕ) → Decides (same_text a b) (a ≡ b)
 same_text-Decides a b = (same_text-true a b, λ e. subst (λ t. same_text a t ≡ true) e (same_text-refl a))
 

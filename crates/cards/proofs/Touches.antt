@@ -1,4 +1,4 @@
--- What is told of a card that was changed is so.
+-- What is stated of a card that was changed is so.
 use Rattle.std.proofs.Common.{ℕ, ◌≡◌, ◌⊎◌, inl, inr, List, [], ◌∷◌, ◌++◌, Option, Some, None, Result, Ok, Err, refl, ap, subst, ◌∙◌}
 use Rattle.cards.specs.declared.edits.Edit.{Edit}
 use Rattle.cards.specs.declared.edits.Edit.TheVariants.{Insert, Replace, Remove}
@@ -47,7 +47,7 @@ changed-from : (number start : ℕ) (made : List MadeEdit) (touched : Touched) �
 changed-from number start [] touched e = absurd (cc)
 changed-from number start (first ∷ later) touched e = changed-first (moved first.edit start) number start first later touched refl (λ next more. changed-from number next later touched more) e
 
--- what whereabouts tell as touched was changed
+-- what whereabouts show as touched was changed
 abbrev pub AreTrue : Whereabouts → List MadeEdit → Type 0
 AreTrue stands made = (place : ℕ) (touched : Touched) → stands place ≡ Err touched → WasChanged made touched
 

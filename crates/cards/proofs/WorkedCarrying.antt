@@ -69,6 +69,6 @@ at_the_end = refl
 own_cards : behind (makes 4 (Insert 1 z) ∷ []) (Insert 1 x ∷ Replace 1 y ∷ Remove 3 ∷ Insert 3 x ∷ []) ≡ Ok (Insert 2 x ∷ Replace 2 y ∷ Remove 4 ∷ Insert 4 x ∷ [])
 own_cards = refl
 
--- a touched card is told by its number among those that the sender saw
+-- a touched card is known by its number among those that the sender saw
 told_as_seen : behind (makes 4 (Insert 1 z) ∷ makes 6 (Replace 3 z) ∷ []) (Insert 1 x ∷ Remove 2 ∷ Insert 1 y ∷ Replace 3 x ∷ []) ≡ changed 2 6
 told_as_seen = refl

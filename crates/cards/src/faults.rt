@@ -1,4 +1,4 @@
-//! Which edits apply, told by the number of cards, without memory.
+//! Which edits apply, known by the number of cards, without memory.
 ghost use Rattle.std.specs.Prelude.{◌≡◌, ◌≤◌, ◌<◌, ◌+◌, ℕ, List, length, None};
 ghost use Rattle.definitions.specs.Cards.{Card};
 ghost use Rattle.cards.specs.Counts.{fault_at, count_after, fault_from};

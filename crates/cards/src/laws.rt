@@ -17,7 +17,7 @@ pub fn carried_edits_converge()
         carried (seen_before made) edits ≡ Ok moved → Converge seen (edits_in made) edits moved }
 {}
 
-/// A card that is told as touched is one that the sender saw, and the version that is told changed it:
+/// A card that is reported as touched is one that the sender saw, and the version that is reported changed it:
 /// what others made before left it as it was.
 pub fn touched_cards_were_changed()
     ensures { (made : List MadeEdit) (edits : List Edit) (touched : Told) →

@@ -81,11 +81,11 @@ struct Named<'w, 'a> {
     /// Whether the listings have code at the left of its card.
     manual: bool,
     quiet: bool,
-    /// Whether nothing is written, and only what is flagged is told.
+    /// Whether nothing is written, and only what is flagged is reported.
     check: bool,
     /// Whether messages show the cards.
     explain: bool,
-    /// Whether standard error is a terminal, where a last line tells how much is flagged.
+    /// Whether standard error is a terminal, where a last line shows how much is flagged.
     at_terminal: bool,
     /// What standard input is called in messages.
     name: Option<&'a str>,
@@ -128,10 +128,10 @@ fn with_journal<'a>(alloc: Global, command: Command<'a>) -> Result<Command<'a>, 
     command.arg(journal_word(alloc)?)?.arg(version_word(alloc)?)
 }
 
-/// The command with the words of what is told of flagged statements.
+/// The command with the words of what is reported of flagged statements.
 fn with_messages<'a>(alloc: Global, command: Command<'a>) -> Result<Command<'a>, AllocError> {
     let quiet = "Tells no flagged statements and no LINK lines of files on standard error";
-    let check = "Writes nothing, tells what is flagged, and how much in a last line";
+    let check = "Writes nothing; shows what is flagged, and how much in a last line";
     let explain = "Shows the card below each message, and where on it the fault is";
     let name = "What standard input is called in messages";
     let check = plain_word(alloc, "check", check)
@@ -158,7 +158,7 @@ fn layout_word<'a>(alloc: Global) -> Arg<'a> {
 
 /// The command with the words of where the output goes.
 fn with_outputs<'a>(alloc: Global, command: Command<'a>) -> Result<Command<'a>, AllocError> {
-    let symbols = "Puts a table of the symbols of each deck behind the listings";
+    let symbols = "Puts a table of the symbols of each deck after the listings";
     let binary = "Where the words of the image go, packed; FILE.sections gets where they stand";
     command
         .arg(valued_word(alloc, "listing", "FILE", "Where the listings go"))?
@@ -254,7 +254,7 @@ fn inputs_of<'w, 'a>(words: &'w ArgMatches<'a>, standard: &'w [&'a str; 1]) -> &
 }
 
 /// `compass asm`: what the words name, or standard input to standard output. Where standard error is a terminal,
-/// messages show the cards, and a last line tells how much is flagged.
+/// messages show the cards, and a last line shows how much is flagged.
 pub fn assemble<R>(rt: &R, words: &ArgMatches<'_>, at_terminal: bool) -> ExitCode
 where
     R: AllocGlobal + Input + Print + Eprint + Files + RandomSource,
@@ -429,7 +429,7 @@ where
     }
 }
 
-/// Writes the parts of what was built of open files, unless that is only checked, and tells what is flagged in
+/// Writes the parts of what was built of open files, unless that is only checked, and shows what is flagged in
 /// these.
 fn write_and_tell<'a, R, I>(
     rt: &R,

@@ -1,4 +1,4 @@
-//! The image of a run as packed words: the file that the words name, and the text beside it that tells where
+//! The image of a run as packed words: the file that the words name, and the text beside it that shows where
 //! they stand.
 
 use crate::image_files::sections_beside;
@@ -42,7 +42,7 @@ fn packed(alloc: Global, built: &mut Built) -> Result<PackedImage, ImageFault> {
 }
 
 /// Makes the file of the packed words, and that of the text beside them. Both are begun before one of them is
-/// there, and the one that can't be made is told.
+/// there, and the one that can't be made is reported.
 pub(crate) fn write_binary<'a, R>(
     rt: &R,
     alloc: Global,
@@ -108,7 +108,7 @@ fn packing_fault<'a>(name: &'a str, fault: ImageFault) -> RunFault<'a> {
 }
 
 /// Whether packed words may be written to a name: not to standard output, nor to what is there and is no plain
-/// file, since the text that tells where they stand has to lie beside them.
+/// file, since the text that shows where they stand has to lie beside them.
 pub(crate) fn may_hold_words<R: Files>(rt: &R, name: &str) -> bool {
     match fs::metadata(rt, name) {
         Ok(about) => about.is_file(),

@@ -8,7 +8,7 @@ use cards::StatementRoom;
 use deck_objects::{Object, SharedObject};
 use std::hash::RandomState;
 
-/// How messages are told: where the lines of the input stand, the names of its files, and whether the cards are
+/// How messages are shown: where the lines of the input stand, the names of its files, and whether the cards are
 /// shown below; and the keys of the tables of this run.
 #[derive(Drop)]
 pub(crate) struct Telling<'t, I> {
@@ -21,7 +21,7 @@ pub(crate) struct Telling<'t, I> {
 /// What the LINK lines of a map begin with.
 const LINK: &[u8] = b"LINK ";
 
-/// Tells the flagged statements and the LINK lines of what was built of these files.
+/// Reports the flagged statements and the LINK lines of what was built of these files.
 pub(crate) fn tell_flagged<R: AllocGlobal + Eprint, I: FileColumns>(
     rt: &R,
     built: &Built,
@@ -37,7 +37,7 @@ pub(crate) fn tell_flagged<R: AllocGlobal + Eprint, I: FileColumns>(
     }
 }
 
-/// Tells how many statements are flagged in how many decks, and how many LINK lines the map has.
+/// Reports how many statements are flagged in how many decks, and how many LINK lines the map has.
 pub(crate) fn tell_summary<R: Eprint>(rt: &R, tally: Tally, decks: usize) {
     let Tally { errors, links } = tally;
     let decks_word = if decks == 1 { "deck" } else { "decks" };
@@ -68,7 +68,7 @@ fn is_flagged(object: &Object) -> bool {
     false
 }
 
-/// Tells the flagged statements of a deck whose IDENT card is this line of the input.
+/// Reports the flagged statements of a deck whose IDENT card is this line of the input.
 fn tell_object<R: AllocGlobal + Eprint, I: FileColumns>(
     rt: &R,
     object: &Object,
@@ -86,7 +86,7 @@ fn tell_object<R: AllocGlobal + Eprint, I: FileColumns>(
     }
 }
 
-/// Tells the flagged statements of a deck.
+/// Reports the flagged statements of a deck.
 fn tell_deck<R: Eprint, I: FileColumns>(
     rt: &R,
     deck: &DeckWords,
@@ -131,7 +131,7 @@ struct Cards<'o> {
     first: u64,
 }
 
-/// Tells the letters of a statement that begins with the first of these cards, a line for each.
+/// Reports the letters of a statement that begins with the first of these cards, a line for each.
 fn tell_letters<R: Eprint, I: FileColumns>(
     rt: &R,
     statement: &FlaggedStatement<'_>,
@@ -144,7 +144,7 @@ fn tell_letters<R: Eprint, I: FileColumns>(
     }
 }
 
-/// Tells a message in the column that its file has, and shows its card where that is asked for, as it was read.
+/// Reports a message in the column that its file has, and shows its card where that is asked for, as it was read.
 fn tell_message<R: Eprint, I: FileColumns>(
     rt: &R,
     letter: u8,
@@ -163,7 +163,7 @@ fn tell_message<R: Eprint, I: FileColumns>(
     }
 }
 
-/// Tells a letter, and the words of its message.
+/// Reports a letter, and the words of its message.
 fn tell_words<R: Eprint>(rt: &R, letter: u8, message: &Message<'_>) {
     let letter = char::from(letter);
     let words = message.words;
@@ -183,14 +183,14 @@ fn show_card<R: Eprint>(rt: &R, object: &Object, card: usize, column: usize) {
     let _ = eprintln!(rt; "^");
 }
 
-/// Tells a place, and a colon behind it.
+/// Reports a place, and a colon behind it.
 fn tell_place<R: Eprint>(rt: &R, place: LinePlace, column: usize, names: &[&str]) {
     let name = names.get(place.part).copied().unwrap_or("");
     let line = place.line;
     let _ = eprint!(rt; "{name}:{line}:{column}:");
 }
 
-/// Tells the LINK lines of the map, each at the IDENT card of its deck.
+/// Reports the LINK lines of the map, each at the IDENT card of its deck.
 fn tell_links<R: Eprint, I: FileColumns>(rt: &R, built: &Built, telling: &Telling<'_, I>) {
     for line in built.map().split(|byte| *byte == b'\n') {
         if let Some(link) = line.strip_prefix(LINK) {
@@ -199,7 +199,7 @@ fn tell_links<R: Eprint, I: FileColumns>(rt: &R, built: &Built, telling: &Tellin
     }
 }
 
-/// Tells one of them; one of a common block has no deck and no place.
+/// Reports one of them; one of a common block has no deck and no place.
 fn tell_link<R: Eprint, I: FileColumns>(
     rt: &R,
     link: &[u8],

@@ -136,7 +136,7 @@ fn read<'a>(alloc: Global, name: &'a str, text: &[u8]) -> Result<Image, FileFaul
     })
 }
 
-/// The image in a file: packed words where a text stands beside it that tells their places, and else octal text.
+/// The image in a file: packed words where a text stands beside it that shows their places, and else octal text.
 fn image_at<'a, R: Files + Input + Eprint>(
     rt: &R,
     alloc: Global,

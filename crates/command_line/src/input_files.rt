@@ -112,7 +112,7 @@ fn is_named_pipe<R: Files>(rt: &R, name: &str) -> bool {
     }
 }
 
-/// Opens a file. Of a pipe it is told that it is one: nothing may ever write into it.
+/// Opens a file. Of a pipe it is reported that it is one: nothing may ever write into it.
 fn open_file<R: Files + Eprint>(rt: &R, name: &str) -> io::Result<R::File> {
     if is_named_pipe(rt, name) {
         let _ = eprintln!(rt;

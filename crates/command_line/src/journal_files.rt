@@ -32,7 +32,7 @@ pub(crate) enum JournalError {
     /// The file can't be read.
     #[error("the journal can't be read")]
     ReadFault,
-    /// This record, counted from 1, is damaged, or tells a change that can't be made again. It begins at
+    /// This record, counted from 1, is damaged, or shows a change that can't be made again. It begins at
     /// this byte.
     #[error("record {number}, at byte {begin}, is damaged or can't be made again")]
     BadRecord { number: u64, begin: u64 },
@@ -129,7 +129,7 @@ pub fn log_words<'a>(alloc: Global) -> Result<Command<'a>, AllocError> {
         .help("The journal of a service")
         .required(true)
         .action(ArgAction::Set);
-    let deck = "Prints the changes of this deck alone, each with its cards or edits behind it";
+    let deck = "Prints the changes of this deck alone, each with its cards or edits after it";
     Command::new(alloc, "log")
         .about("Prints the changes that a journal has, a line each")
         .arg(file)?

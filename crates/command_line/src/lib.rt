@@ -15,7 +15,7 @@ mod input_files;
 mod journal_files;
 mod tab_places;
 
-// A run of `compass asm`, and what it tells.
+// A run of `compass asm`, and what it shows.
 mod assembling;
 mod binaries;
 mod flagged;

@@ -46,7 +46,7 @@ pub(crate) struct Clash<'a> {
     pub other: FileName<'a>,
 }
 
-/// A plain file, as the system tells it from others.
+/// A plain file, as the system distinguishes it from others.
 #[derive(Clone, Copy)]
 struct FileNumber {
     device: u64,
@@ -60,7 +60,7 @@ enum Found {
     File(FileNumber),
     /// None yet: it would be made at this path, which has no link in it.
     Nothing(String),
-    /// What may be read and written at once, as a terminal, or what the run will tell to be a fault.
+    /// What may be read and written at once, as a terminal, or what the run will report as a fault.
     Other,
 }
 
@@ -86,7 +86,7 @@ fn found_at<R: Files>(rt: &R, alloc: Global, path: &str) -> Found {
     }
 }
 
-/// Which file a name names. Want of memory for it is told by the run.
+/// Which file a name names. Want of memory for it is reported by the run.
 fn found_named<R: Files>(rt: &R, alloc: Global, name: FileName<'_>) -> Found {
     if name.behind.is_empty() {
         return found_at(rt, alloc, name.word);

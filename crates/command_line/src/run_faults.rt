@@ -33,7 +33,7 @@ pub(crate) struct LineFault<'a> {
 pub(crate) struct BadCharacter(pub Option<u8>);
 
 /// The character, and a comma behind it: one that can't be shown by its number. Of a tab and a carriage return
-/// the words of the line tell enough.
+/// the words of the line say enough.
 impl fmt::Display for BadCharacter {
     fn fmt<W: fmt::Write>(&self, f: &mut fmt::Formatter<W>) -> fmt::Result {
         match self.0 {

@@ -11,7 +11,7 @@ use std::rt::Files;
 /// The open file of standard output, as the system shows it.
 const OUTPUT: &str = "/proc/self/fd/1";
 
-/// What the system tells of it: where the next write goes, and how it was opened.
+/// What the system reports of it: where the next write goes, and how it was opened.
 const ABOUT: &str = "/proc/self/fdinfo/1";
 
 /// The flag of a file that is written at its end alone.
@@ -40,7 +40,7 @@ fn room_of(most: u64, standing: Standing) -> u64
     most.saturating_sub(at)
 }
 
-/// What a line tells that begins with this name.
+/// What a line shows that begins with this name.
 fn told<'a>(text: &'a str, name: &str) -> Option<&'a str> {
     for line in text.lines() {
         if let Some(value) = line.strip_prefix(name) {
@@ -50,14 +50,14 @@ fn told<'a>(text: &'a str, name: &str) -> Option<&'a str> {
     None
 }
 
-/// Where the next write goes, and whether it goes to the end, by what the system tells of an open file.
+/// Where the next write goes, and whether it goes to the end, by what the system reports of an open file.
 fn place_in(text: &str) -> Option<(u64, bool)> {
     let place = told(text, "pos:")?.parse::<u64>().ok()?;
     let flags = u64::from_str_radix(told(text, "flags:")?, 8).ok()?;
     Some((place, flags & APPENDS != 0))
 }
 
-/// How standard output stands; none where it is no plain file, or the system doesn't tell.
+/// How standard output stands; none where it is no plain file, or the system doesn't report.
 fn output_standing<R: Files>(rt: &R, alloc: Global) -> Option<Standing> {
     let about = fs::metadata(rt, OUTPUT).ok()?;
     if !about.is_file() {

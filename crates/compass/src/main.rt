@@ -105,7 +105,7 @@ where
     }
 }
 
-/// Tells that a number of the command line is out of its range, with the status of such faults.
+/// Reports that a number of the command line is out of its range, with the status of such faults.
 fn refuse_numbers<R: Eprint>(rt: &R) -> ExitCode {
     let _ = eprintln!(rt;
         "compass: an option is missing or out of its range; see compass serve --help"
@@ -113,7 +113,7 @@ fn refuse_numbers<R: Eprint>(rt: &R) -> ExitCode {
     ExitCode::from(COMMAND_LINE_STATUS)
 }
 
-/// Tells what `clap` answers to words that ask for no run: help, version or a fault, with its
+/// Reports what `clap` answers to words that ask for no run: help, version or a fault, with its
 /// status; want of memory is a fault as in a run.
 fn answer<R: Print + Eprint>(rt: &R, error: &Error) -> ExitCode {
     if error.kind() == clap::error::ErrorKind::OutOfMemory {
@@ -131,14 +131,14 @@ fn status_of(exit_code: i32) -> u8
     u8::try_from(exit_code).unwrap_or(COMMAND_LINE_STATUS)
 }
 
-/// Tells that the command line is no text: a fault of it as those that `clap` tells, with their
+/// Reports that the command line is no text: a fault of it as those that `clap` shows, with their
 /// status.
 fn refuse_words<R: Eprint>(rt: &R, fault: WordsFault) -> ExitCode {
     let _ = eprintln!(rt; "compass: {fault}");
     ExitCode::from(COMMAND_LINE_STATUS)
 }
 
-/// Tells that a standard stream is closed and its number can't be taken, with the status of want of memory.
+/// Reports that a standard stream is closed and its number can't be taken, with the status of want of memory.
 fn refuse_streams<R: Eprint>(rt: &R) -> ExitCode {
     let _ = eprintln!(rt; "compass: no file can be opened");
     ExitCode::from(MEMORY_STATUS)

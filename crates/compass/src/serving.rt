@@ -122,7 +122,7 @@ fn number_or(words: &ArgMatches<'_>, name: &str, unless_said: usize) -> usize {
     words.get_one(name).unwrap_or(unless_said)
 }
 
-/// How many processors the system lets the process have; 1 where it doesn't tell.
+/// How many processors the system lets the process have; 1 where it doesn't report.
 fn processors(rt: &impl Threads) -> usize {
     match thread::available_parallelism(rt) {
         Ok(count) => count.get(),
@@ -131,7 +131,7 @@ fn processors(rt: &impl Threads) -> usize {
 }
 
 /// What the words of `compass serve` ask for. None comes only where `clap` let through what it was
-/// told to refuse.
+/// asked to refuse.
 pub(crate) fn settings_of<'a>(rt: &impl Threads, words: &ArgMatches<'a>) -> Option<Settings<'a>>
     ensures { IfSome result AreInRange }
 {
@@ -168,7 +168,7 @@ fn page_of(words: &ArgMatches<'_>) -> Option<u16> {
     words.get_one("page")
 }
 
-/// Runs the service that the words ask for, and tells a fault in one line on standard error.
+/// Runs the service that the words ask for, and reports a fault in one line on standard error.
 pub(crate) fn run_service<R>(rt: &R, settings: &Settings<'_>, words: &ArgMatches<'_>) -> ExitCode
 where
     R: AllocGlobal
@@ -234,7 +234,7 @@ fn tell<R: Eprint>(rt: &R, fault: ServeFault, settings: &Settings<'_>, page: u16
             "compass: {fault}: the journal can't be read or written; look at the file and its folder, or choose another with --journal"
         ),
         ServeFault::BadVersions => eprintln!(rt;
-            "compass: {fault}: {root}/.beskloun.versions tells no version; put a number above all that were told there, a blank and a name into it"
+            "compass: {fault}: {root}/.beskloun.versions has no version; put a number above all that were given out there, a blank and a name into it"
         ),
         ServeFault::BadJournal { number, begin } => eprintln!(rt;
             "compass: {fault}: record {number} of the journal, at byte {begin}, is damaged or can't be made again; nothing was changed; mend the file, or choose another with --journal"

@@ -105,7 +105,7 @@ sized-alike kind front earlier stood there ahead cards sized statement other is 
       bare = λ b. ap (λ (s : Settled). operand_literals s.read.operand) (sym same) ∙ is.bare b;
     }
 
--- what is told of views, where the lists that they are of are split
+-- what is stated of views, where the lists that they are of are split
 alike-later : (middle other earlier before all whole : List Settled) (names : List (List ℕ)) (operand : Operand) (what : code.Defines) → all ≡ middle ++ earlier → whole ≡ other ++ before →
     map unnumbered middle ≡ map unnumbered other →
     Agree (λ name. defined name earlier) (λ name. defined name before) names → AreExternalsAlike (λ name. defined name earlier) (λ name. defined name before) operand what →

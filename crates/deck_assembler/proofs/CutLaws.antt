@@ -101,7 +101,7 @@ cut-behind (card ∷ rest) earlier behind front e count = by (continues (rest ++
         let found = more behind front (are ∙ rest-of fresh statement statements (behind ++ front) other) (omega (arith, own, whole, count)) in
         (found.0, begins rest is found.1)
 
--- behind two lists of cards it is told alike whether a comma card goes on with a statement: all that tells it is the same, or none does
+-- behind two lists of cards it is decided alike whether a comma card goes on with a statement: all that decides it is the same, or none does
 abbrev SeeAlike : Bool → ℕ → Bool → ℕ → Type 0
 SeeAlike owner commas other_owner other_commas =
     ((owner ≡ other_owner) × (commas ≡ other_commas)) ⊎ (((owner && nat_le commas 8) ≡ false) × ((other_owner && nat_le other_commas 8) ≡ false))

@@ -56,7 +56,7 @@ use Rattle.deck_assembler.proofs.OntoLaws.{append-none, drop-none, first-of, res
 use Rattle.deck_assembler.proofs.PartLaws.{shown-object}
 use Rattle.deck_assembler.proofs.WalkLaws.{stood-step}
 
--- a coded statement is told by its operation, its block, its place and its fields
+-- a coded statement is known by its operation, its block, its place and its fields
 abbrev IsCodedAs : DeckKind → List BlockRow → List code.Item → CodedLine → Settled → List Item → Type 0
 IsCodedAs kind rows items line settled fields = let one : Coded = record { settled = settled; fields = fields } in IsCoded kind rows items line one
 

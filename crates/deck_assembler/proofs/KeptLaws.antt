@@ -106,7 +106,7 @@ zero-operation : (operation : Operation) → stores_zeros operation ≡ true →
 zero-operation op.Bssz e = refl
 zero-operation _ e = absurd (true≢false (sym e))
 
--- the line of a statement of which so much is told
+-- the line of a statement of which so much is known
 pub line-coded : (kind : DeckKind) (rows : List BlockRow) (view : View) (settled : Settled) (sizing : Sizing) (told : CodedItems) (before after items : List code.Item) (fields : List Item) (line : lines.CodedLine) →
     operation_as line.operation ≡ settled.read.operation → IsNamed (slice_get rows line.block) settled.block → line.place ≡ sizing.place → line.end ≡ sizing.end → line.begins_run ≡ sizing.begins_run →
     IsTold kind view settled sizing told before after fields → AreKeptAs kind settled.read.operand sizing line.fields items fields → are_zeros line.fields ≡ is_zeros told →

@@ -30,7 +30,7 @@ pub mod MeetLaws
 pub mod DeckLaws
 -- Known fields as one number.
 pub mod KnownLaws
--- Fields told word by word.
+-- Fields listed word by word.
 pub mod ListedLaws
 -- The fields of statements are short.
 pub mod ShortLaws

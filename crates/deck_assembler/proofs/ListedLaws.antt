@@ -1,4 +1,4 @@
--- Fields told word by word are the same fields to whoever links.
+-- Fields listed word by word are the same fields to whoever links.
 use Rattle.std.proofs.Common.{◌≡◌, ◌∙◌, ℕ, ◌+◌, ◌/◌, ◌%◌, ◌^◌, ◌<◌, Bool, true, false, ◌&&◌, List, [], ◌∷◌, ◌++◌, flat_map, refl, ap, ap₂, sym, arith, if◌then◌else◌}
 use Rattle.std.specs.Prelude.{nat_lt, nat_eq}
 use Rattle.std.proofs.lemmas.Bool.{and_parts, ltb-true}
@@ -73,7 +73,7 @@ has-in_words word [] h = absurd h
 has-in_words word (field ∷ fields) h =
     has-append (in_words word field) (flat_map (in_words word) fields) (has-words_of word field field.letters field.content (width-in_words word field))
 
--- a list tells the words of fields, or the fields
+-- a list has the words of fields, or the fields
 listed-by : (P : List Item → Type 0) (kind : DeckKind) (operand : Operand) (fields : List Item) → P (flat_map (in_words (word_bits kind)) fields) → P fields → P (listed_fields kind operand fields)
 listed-by P kind (WordsOperand data') fields words same = words
 listed-by P kind (TextOperand count characters) fields words same = words
@@ -90,7 +90,7 @@ unfit-listed : (layout : Layout) (based : Based) (from : ℕ) (kind : DeckKind) 
 unfit-listed layout based from kind operand fields =
     listed-by (λ l. unfit_words layout based from l ≡ unfit_words layout based from fields) kind operand fields (unfit-in_words layout based from (word_bits kind) fields) refl
 
--- fields as a list tells them
+-- fields as a list has them
 pub bits-listed : (kind : DeckKind) (operand : Operand) (fields : List Item) → AreBitsOf (listed_fields kind operand fields) fields
 bits-listed kind operand fields = record {
   some = has-listed kind operand fields;

@@ -156,7 +156,7 @@ on-tail kind old cards earlier span sizer deck passed new on within has same the
       };
     }
 
--- what is told of what was found, if anything was
+-- what is stated of what was found, if anything was
 pub some-weaker : {T : Type 0} {P Q : T → Type 0} (found : Option T) → ((x : T) → P x → Q x) → IfSome found P → IfSome found Q
 some-weaker None f h = tt
 some-weaker (Some x) f h = f x h

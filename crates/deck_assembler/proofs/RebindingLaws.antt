@@ -1,4 +1,4 @@
--- The test of what a statement reads tells whether it is bound otherwise.
+-- The test of what a statement reads shows whether it is bound otherwise.
 use Rattle.std.proofs.Common.{◌≡◌, ◌∙◌, ℕ, Bool, true, false, not, ◌||◌, List, [], ◌∷◌, ◌++◌, Option, Some, None, flat_map, refl, ap, ap₂, sym}
 use Rattle.std.specs.Prelude.{Result, Ok, Err, ◌&&◌, pos, length, nat_le, if◌then◌else◌}
 use Rattle.std.specs.List.{list_any}

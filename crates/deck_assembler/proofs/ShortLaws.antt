@@ -1,4 +1,4 @@
--- The fields of a statement, as a list tells them, are short; but for the zeros of a BSSZ.
+-- The fields of a statement, as a list has them, are short; but for the zeros of a BSSZ.
 use Rattle.std.proofs.Common.{◌≡◌, ◌∙◌, ℕ, zero, suc, ◌+◌, ◌-◌, ◌*◌, ◌/◌, ◌%◌, ◌^◌, ◌<◌, ◌≤◌, Bool, true, false, ◌&&◌, List, [], ◌∷◌, ◌++◌, Option, Some, None, map, flat_map, refl, ap, ap₂, sym, subst, arith, if◌then◌else◌}
 use Rattle.std.specs.Prelude.{nat_le}
 use Rattle.std.proofs.Math.Nat.{mod-lt}

@@ -1,4 +1,4 @@
--- What was kept of an operand tells its literals, and that it gives no names.
+-- What was kept of an operand shows its literals, and that it gives no names.
 use Rattle.std.proofs.Common.{◌≡◌, ℕ, true, true≢false, Option, Some, None, List, [], refl, sym, ap, ◌∙◌, subst}
 use Rattle.std.specs.Prelude.{flat_map}
 use Rattle.definitions.specs.Expressions.{Expression, Literal}

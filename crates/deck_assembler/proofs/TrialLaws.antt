@@ -42,7 +42,7 @@ tried-step old new sized later next kind first second ahead = λ earlier stood s
           subst (λ (all : DeckKind × (List (ℕ × Form) × List (ℕ × Form))). AreAlikeFrom all.0 (symbol_in all.1.0) (symbol_in all.1.1) (statement ∷ earlier) later statements) (λ i. (kind i, (first i, second i))) rest,
         )
 
--- what is told of two lists
+-- what is stated of two lists
 both-all : {X : Type 0} (P : X → Type 0) (a b : List X) → AllByRecursion P a → AllByRecursion P b → AllByRecursion P (a ++ b)
 both-all P [] b h k = k
 both-all P (x ∷ a) b h k = (h.0, both-all P a b h.1 k)

@@ -2,7 +2,7 @@
 //! piece, its symbols, externals, literals and the lengths of its blocks; then its lines with their fields
 //! and its entries. What an object is, `deck_objects` says.
 //!
-//! `assemble` makes the object of a deck, and lets go of the rest.
+//! `assemble` makes the object of a deck, and frees the rest.
 //!
 //! `SizedDeck::new` takes one statement after the other: reads it, sizes it behind the state so
 //! far, takes in its literals and what it defines, and steps lengths and state by its effect. A

@@ -123,7 +123,7 @@ fn list_fields(count: usize, items: &mut Vec<Item>) -> Result<LineFields, AllocE
     listed_from(first, items)
 }
 
-/// What a line keeps of the fields that are told of its statement. The list has what it had before
+/// What a line keeps of the fields that are listed of its statement. The list has what it had before
 /// the statement, and behind that what the line has listed; where memory runs out it is as it was.
 pub(crate) fn line_fields(told: CodedItems, items: &mut Vec<Item>) -> Result<LineFields, AllocError>
     ensures kept { IfOk result (λ kept. (kind : DeckKind) (operand : Operand) (sizing : sizings.Sizing) (before : List fields.Item) (fields : List definitions.Item) →

@@ -47,7 +47,7 @@ fn add_left(words: &mut Literals, left: LiteralsLeft<'_>) -> Result<(), AllocErr
     }
 }
 
-/// Takes in the literals of an expression, and tells whether it has none. Some of them are taken in
+/// Takes in the literals of an expression, and returns whether it has none. Some of them are taken in
 /// where memory runs out.
 fn add_expression(words: &mut Literals, expression: &Expr<'_>) -> Result<bool, AllocError>
     ensures words { OnOk result (words.new ≡ with_literals (literals_in expression.now) words.old) }
@@ -64,7 +64,7 @@ fn add_expression(words: &mut Literals, expression: &Expr<'_>) -> Result<bool, A
     }
 }
 
-/// Takes in the literals in K or n of an instruction, and tells whether an expression stands there
+/// Takes in the literals in K or n of an instruction, and returns whether an expression stands there
 /// without one.
 fn add_shape(words: &mut Literals, shape: &Shape<'_>) -> Result<bool, AllocError>
     ensures words { OnOk result (words.new ≡ with_literals (shape_literals shape.now.field) words.old) }
@@ -137,7 +137,7 @@ fn add_fields(words: &mut Literals, fields: BitFields<'_>) -> Result<(), AllocEr
     }
 }
 
-/// Takes in the literals of an operand, from left to right, and tells whether it is an instruction's
+/// Takes in the literals of an operand, from left to right, and returns whether it is an instruction's
 /// with an expression and without a literal. Some of them are taken in where memory runs out.
 pub(crate) fn add_literals(words: &mut Literals, reading: &Reading<'_>) -> Result<bool, AllocError>
     requires { IsLawful reading.now }
@@ -180,7 +180,7 @@ fn add_field_kept(words: &mut Literals, field: &KeptField) -> Result<(), AllocEr
     }
 }
 
-/// Whether what was kept of the operand of this operation tells its literals: all but what is read again
+/// Whether what was kept of the operand of this operation shows its literals: all but what is read again
 /// does, and the words of DATA have none.
 pub(crate) fn is_told(operation: Operation, kept: &KeptReading) -> bool
     ensures { result ≡ is_told (operation_as operation) kept.now }
@@ -214,7 +214,7 @@ fn add_kept_literals(words: &mut Literals, kept: &KeptReading) -> Result<(), All
     }
 }
 
-/// Takes in the literals of a statement that was sized, whose operand tells them: it is not looked at
+/// Takes in the literals of a statement that was sized, whose operand shows them: it is not looked at
 /// where it is known to have none. Some of them are taken in where memory runs out.
 pub(crate) fn add_told_literals(
     words: &mut Literals,

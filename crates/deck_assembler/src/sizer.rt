@@ -143,7 +143,7 @@ impl Sizer {
     }
 
     /// Takes in the literals of a statement that was sized before, what it defines, and the words that
-    /// it reaches: its operand is read again where what was kept does not tell them.
+    /// it reaches: its operand is read again where what was kept does not show them.
     fn note_kept(
         &mut self,
         statement: &Statement<'_>,
@@ -208,7 +208,7 @@ impl Sizer {
     }
 
     /// Takes in what a statement gives to its deck: its literals, what it defines, and the words that
-    /// it reaches; and tells whether its operand is known to have no literal. Some of it is taken in
+    /// it reaches; and returns whether its operand is known to have no literal. Some of it is taken in
     /// where memory runs out.
     fn note(
         &mut self,

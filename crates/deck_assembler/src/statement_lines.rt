@@ -17,7 +17,7 @@ use operations::Operation;
 use statement_coder::{CodedItems, Item, KeptSizing};
 use std::alloc::AllocError;
 
-/// The line of a statement of which this was told, in a block that has this index among the blocks
+/// The line of a statement of which this is known, in a block that has this index among the blocks
 /// of its deck. The list keeps what it had before the statement, and behind that what the line has
 /// listed; where memory runs out it is as it was.
 pub fn coded_line(

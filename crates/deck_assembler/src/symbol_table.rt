@@ -75,7 +75,7 @@ impl SymbolTable {
         are_entries_same(&self.forms, &other.forms)
     }
 
-    /// Defines a symbol, if the text is a name that has no value yet, and tells whether it had none.
+    /// Defines a symbol, if the text is a name that has no value yet, and returns whether it had none.
     /// Without memory the symbols are as before.
     pub fn define(&mut self, name: &[u8], form: Form) -> Result<bool, AllocError>
         ensures defined { OnOk result (symbol_in self.new ≡ with_symbol name.now form (symbol_in self.old)) }
@@ -89,7 +89,7 @@ impl SymbolTable {
     }
 }
 
-/// Gives a name its value, unless it has one, and tells whether it had none. Without memory all is as
+/// Gives a name its value, unless it has one, and returns whether it had none. Without memory all is as
 /// before.
 fn keep(forms: &mut Forms, code: u64, form: Form) -> Result<bool, AllocError>
     ensures kept { OnOk result ((other : ℕ) → lookup (nat_eq other) forms.new.entries ≡ or_form (lookup (nat_eq other) forms.old.entries) (if other == code then Some form else None)) }

@@ -68,7 +68,7 @@ pub(crate) struct Taken {
 }
 
 impl Sizer {
-    /// Sizes the statement of a span, which is the next one, and tells whether it is END.
+    /// Sizes the statement of a span, which is the next one, and returns whether it is END.
     #[inline(never)]
     fn take_span(
         &mut self,
@@ -94,7 +94,7 @@ impl Sizer {
         Ok(ended)
     }
 
-    /// The statement of a span, which is the next one, as it was sized; and tells whether it is END.
+    /// The statement of a span, which is the next one, as it was sized; and returns whether it is END.
     fn keep_span(
         &mut self,
         alloc: Global,
@@ -120,7 +120,7 @@ impl Sizer {
     }
 
     /// The statement of a span, which is the next one: it is kept where it stays as it was in the old
-    /// deck, and else sized. Tells whether it is END.
+    /// deck, and else sized. Returns whether it is END.
     fn take_next(
         &mut self,
         alloc: Global,
@@ -163,7 +163,7 @@ impl Sizer {
         }
     }
 
-    /// Takes the statements of these spans up to END, and tells how many they are, and where the tail
+    /// Takes the statements of these spans up to END, and returns how many they are, and where the tail
     /// begins: those that stay of the old deck are as they were, the others are sized, and each of them
     /// counts one. Where memory runs out some of them are taken.
     pub(crate) fn take_up_to_end(

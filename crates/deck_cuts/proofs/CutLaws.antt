@@ -1,4 +1,4 @@
--- What a fault of the cut tells, and the cut of cards one by one.
+-- What a fault of the cut shows, and the cut of cards one by one.
 use Rattle.std.proofs.Common.{ℕ, ◌≡◌, ◌+◌, ◌<◌, ◌≤◌, List, [], ◌∷◌, ◌++◌, Option, None, Some, Result, Ok, Err, length, reverse, take, drop, get_or, sym, ap, subst, ◌∙◌, arith, length-take, take-append-drop, IfErr, IfSome}
 use Rattle.std.specs.Prelude.{IsErrAnd, MatchOption}
 use Rattle.std.proofs.lemmas.List.{reverse-append, length-reverse, take_more, take_all}

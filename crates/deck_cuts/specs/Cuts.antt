@@ -12,7 +12,7 @@ use Rattle.deck_cuts.specs.declared.cut_fault.CutFault.TheVariants.{OutOfMemory,
 abbrev pub newest_first : List Deck → List Deck
 newest_first decks = reverse (map in_card_order decks)
 
--- whether a card begins a deck, which is told by that card alone
+-- whether a card begins a deck, which is known by that card alone
 abbrev pub begins_deck : Card → Bool
 begins_deck card = same_text (fields_of (card ∷ [])).operation (codes "IDENT")
 
@@ -31,7 +31,7 @@ abbrev pub IsSound : Input → Type 0
 IsSound (Decks found) = ⊤
 IsSound (Faulty fault) = ⊥
 
--- the fault of the input that a fault tells, if it is one
+-- the fault of the input that a fault shows, if it is one
 abbrev pub input_fault : CutFault → Option InputFault
 input_fault OutOfMemory = None
 input_fault DeckFull = Some input.DeckFull
@@ -43,6 +43,6 @@ input_fault (BadName number) = Some (input.BadName number)
 abbrev pub IsFaultOf : Input → CutFault → Type 0
 IsFaultOf found fault = MatchOption (input_fault fault) (IsSound found) (λ told. found ≡ Faulty told)
 
--- a fault that tells one of the input tells the one that it has
+-- a fault that shows one of the input shows the one that it has
 abbrev pub TellsFaultOf : Input → CutFault → Type 0
 TellsFaultOf found fault = IfSome (input_fault fault) (λ told. found ≡ Faulty told)

@@ -15,7 +15,7 @@ use std::alloc::Global;
 /// How many decks there are at most.
 const MOST_DECKS: usize = 64;
 
-/// What a card is to the decks, told by the card alone.
+/// What a card is to the decks, known by the card alone.
 #[derive(Drop)]
 enum CardRole {
     /// An IDENT card, with a lawful name.
@@ -26,8 +26,8 @@ enum CardRole {
     Continues,
 }
 
-/// Adds the card of this number to decks: an IDENT card, which is told by that card alone, begins one. After a
-/// fault no clause says what became of the decks.
+/// Adds the card of this number to decks: an IDENT card, which is known by that card alone, begins one. After a
+/// fault what became of the decks is not proved.
 pub fn add_card(
     alloc: Global,
     decks: &mut Vec<Deck>,
@@ -58,7 +58,7 @@ fn role_of(card: &Card) -> CardRole
     }
 }
 
-/// Whether a card begins a deck, which is told by that card alone.
+/// Whether a card begins a deck, which is known by that card alone.
 pub fn begins_deck(card: &Card) -> bool
     ensures { result ≡ begins_deck card.now }
 {

@@ -1,4 +1,4 @@
--- Paths in one folder are told apart by what stands behind the deck's name.
+-- Paths in one folder are distinguished by what stands behind the deck's name.
 use Rattle.std.proofs.Common.{ℕ, ◌≡◌, ◌≢◌, List, [], ◌∷◌, ◌++◌, sym, ap, ◌∙◌, arith}
 use Rattle.std.specs.Prelude.{codes, decimal, slice_index}
 use Rattle.std.proofs.lemmas.List.{append_cancel_left}

@@ -1,4 +1,4 @@
--- The rows of known files, line by line: what is left to be read, with what is known so far, is what all lines tell.
+-- The rows of known files, line by line: what is left to be read, with what is known so far, is what all lines show.
 use Rattle.std.proofs.Common.{ℕ, ◌≡◌, List, [], ◌∷◌, ◌++◌, Option, Some, None, refl, sym, ap, ◌∙◌, arith, append-nil}
 use Rattle.definitions.specs.InputLines.{InputLine, lines_of}
 use Rattle.text_ports.specs.Lines.{ReadsLine}

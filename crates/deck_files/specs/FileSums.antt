@@ -1,4 +1,4 @@
--- What a file has, told by its length and its digest (FIPS 180-4), and how much is read of a file to compare it (ours).
+-- What a file has, known by its length and its digest (FIPS 180-4), and how much is read of a file to compare it (ours).
 use Rattle.std.specs.Prelude.{ℕ, ◌≡◌, ◌+◌, ◌-◌, ◌^◌, ◌==◌, ◌&&◌, Bool, List, length, min, take}
 use Rattle.definitions.specs.Characters.{same_text}
 use Rattle.sha2.specs.Sha256.{sha256}

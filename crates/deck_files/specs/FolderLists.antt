@@ -1,4 +1,4 @@
--- FILES of a folder (ours): the folder tells which decks have files, and each of these files is read.
+-- FILES of a folder (ours): the folder lists which decks have files, and each of these files is read.
 use Rattle.std.specs.Prelude.{ℕ, ◌≡◌, ◌⊎◌, List, [], ◌∷◌, ◌++◌, Option, Some, None, length}
 use Rattle.definitions.specs.Cards.{Card}
 use Rattle.deck_files.specs.declared.load_fault.LoadFault.TheVariants.{OutOfMemory}
@@ -28,7 +28,7 @@ module _ {F : Type 0} (has_done : F → List Step → Type 0) where
     next_file : (entries : List DeckEntry) (rows : List FileRow) (middle last : F) (entry : DeckEntry) (count : Option ℕ) → ReadsRows folder number first entries rows middle →
         Counts (place folder entry.name number) count middle last → ReadsRows folder number first (entries ++ entry ∷ []) (with_row (row_of entry count) rows) last
 
-  -- the folder told which decks have files, and these are the rows of them all
+  -- the folder listed which decks have files, and these are the rows of them all
   pub record ListsFiles (folder : List ℕ) (number : ℕ) (rows : List FileRow) (old new : F) : Type 0 where
     pub entries : List DeckEntry
     pub middle : F
@@ -48,7 +48,7 @@ module _ {F : Type 0} (has_done : F → List Step → Type 0) where
     pub read : ReadsRows folder number old front rows last
     pub stopped : StopsAt (place folder name number) last new
 
-  -- the folder refused to tell which decks have files; or it told, and no memory was left for all rows
+  -- the folder refused to list which decks have files; or it listed them, and no memory was left for all rows
   pub data ListFails (folder : List ℕ) (number : ℕ) (fault : ShelfLoadFault) (old new : F) : Type 0 where
     untold : IsUnopened fault → TakesStep has_done old (Decks (folder_path folder), Refused) new → ListFails folder number fault old new
     lacking : (entries : List DeckEntry) (middle : F) → fault ≡ is_lacking → TakesStep has_done old (Decks (folder_path folder), Holds entries) middle → StopsWithin folder number middle new →

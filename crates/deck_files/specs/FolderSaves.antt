@@ -87,7 +87,7 @@ IsFaultOfNew text (WriteFault sent) = sent < length text
 IsFaultOfNew text OutOfMemory = ⊤
 
 module _ {F : Type 0} (has_done : F → List Step → Type 0) where
-  -- the file at the deck's path was opened and read, and tells whether it has just this sum, by what the folder gave of it
+  -- the file at the deck's path was opened and read, and shows whether it has just this sum, by what the folder gave of it
   abbrev pub Compares : Place → FileSum → Bool → F → F → Type 0
   Compares at sum just old new = (bytes : Option (List ℕ)) × IfSome bytes (λ file. just ≡ has_just sum file) × TakesStep has_done old (Open (deck_path at), Gave bytes) new
 

@@ -15,7 +15,7 @@ folder_path (c ∷ folder) = c ∷ folder
 abbrev pub deck_file : List ℕ → List ℕ
 deck_file name = name ++ codes ".DECK"
 
--- the file that keeps what a save was told to write over
+-- the file that keeps what a save was asked to write over
 abbrev pub old_file : List ℕ → List ℕ
 old_file name = name ++ codes ".OLD"
 

@@ -59,7 +59,7 @@ known_of None length version = None
 known_of (Some digest) None version = None
 known_of (Some digest) (Some length) version = Some (record { sum = record { length = length; digest = digest }; version = version })
 
--- what is known of a file by its digits; no version where they tell none
+-- what is known of a file by its digits; no version where they show none
 abbrev pub known_in : List ℕ → Option Known
 known_in text = if length text == 96 then known_of (digest_in (take 64 text)) (number_in (take 16 (drop 64 text))) (number_in (drop 16 (drop 64 text))) else None
 

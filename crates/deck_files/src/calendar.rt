@@ -7,7 +7,7 @@ const DAY: u64 = 86_400;
 /// How many days the months have, where February has 28.
 const MONTHS: [u64; 12] = [31, 28, 31, 30, 31, 30, 31, 31, 30, 31, 30, 31];
 
-/// The last year that a moment can tell.
+/// The last year that a moment can show.
 const LAST_YEAR: u64 = 9_999;
 
 /// A day of a year, both from 0.

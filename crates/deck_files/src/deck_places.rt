@@ -76,7 +76,7 @@ impl<'a> DeckPlace<'a> {
         }
     }
 
-    /// The path of the file that keeps what a save was told to write over.
+    /// The path of the file that keeps what a save was asked to write over.
     pub(crate) fn old_path(&self) -> Result<String, AllocError>
         ensures { IfOk result (λ path. string_bytes path ≡ old_path self.now) }
     {

@@ -1,4 +1,4 @@
-//! What a file has, told by its length and its digest.
+//! What a file has, known by its length and its digest.
 ghost use Rattle.std.specs.Prelude.{◌≡◌, ◌≤◌, ◌<◌, ◌+◌, ◌^◌, ℕ, List, [], ◌∷◌, ◌++◌, length, min, IfOk, IfSome};
 ghost use Rattle.deck_files.specs.FileSums.{Sums, has_just, is_same_sum, most_read, sum_of};
 

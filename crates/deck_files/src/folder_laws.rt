@@ -1,4 +1,4 @@
-//! What a keeper may rest on, as the contract of a function that does nothing.
+//! What an operator may rest on, as the contract of a function that does nothing.
 ghost use Rattle.std.specs.Prelude.{◌≡◌, ◌≢◌, ◌<◌, ◌-◌, ◌^◌, ℕ, List, Option, Some, true};
 ghost use Rattle.definitions.specs.DeckInput.{is_deck_name};
 ghost use Rattle.deck_files.specs.Folders.{Place, deck_path, old_path};
@@ -27,7 +27,7 @@ pub fn known_files_are_read_back()
         → row_in (row_line name known) ≡ Some (record { name = name; known = known }) }
 {}
 
-/// What is read of a file to see whether it has a sum, one byte more than it would have, tells that as all of
+/// What is read of a file to see whether it has a sum, one byte more than it would have, shows that as all of
 /// its bytes would.
 pub fn a_byte_more_tells_the_file()
     ensures { (sum : FileSum) (bytes : List ℕ) → sum.length < 2 ^ 64 - 1 → has_just sum bytes ≡ is_same_sum (sum_of bytes) sum }

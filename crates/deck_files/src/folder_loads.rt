@@ -61,7 +61,7 @@ fn open_plain<F: Folder>(files: &mut F, path: &str) -> Result<F::File, ShelfLoad
     }
 }
 
-/// Loads the cards of a deck's file, and tells what it has.
+/// Loads the cards of a deck's file, and returns what it has.
 pub(crate) fn load_deck<F: Folder>(
     files: &mut F,
     place: &DeckPlace<'_>,

@@ -40,7 +40,7 @@ fn look_at_old<F: Folder>(files: &mut F, place: &DeckPlace<'_>) -> Result<(), Sh
     }
 }
 
-/// Reads the file in a deck's place, and tells whether it has just this sum.
+/// Reads the file in a deck's place, and returns whether it has just this sum.
 fn compare<F: Folder>(
     files: &mut F,
     place: &DeckPlace<'_>,
@@ -118,7 +118,7 @@ fn write_over<F: Folder>(
     }
 }
 
-/// Sees to it that the deck's path may be given to a new file, and tells whether what stands there is to keep
+/// Sees to it that the deck's path may be given to a new file, and returns whether what stands there is to keep
 /// a name. What is no plain file is not written over, so a link stays one; a known file is read, and written
 /// over where it still has just what is known.
 pub(crate) fn make_way<F: Folder>(

@@ -57,7 +57,7 @@ pub struct FolderShelf<'a, R, F = SystemFolder<'a, R>, K = Turns<'a, R>> {
     folder: &'a str,
     number: usize,
     known: &'a KnownFiles,
-    /// Who tells what is known, and notes it.
+    /// What gives what is known, and notes it.
     turns: K,
     /// The newest version that was known of the deck loaded last, before its file was read.
     seen: Option<u64>,

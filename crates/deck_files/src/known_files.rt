@@ -4,7 +4,7 @@
 //! That is kept in the file `.beskloun.files` of the folder, so that a service knows the files of an earlier
 //! one. It is written again after each save and each load that a desk took: first as `.beskloun.files.NEW0`,
 //! which takes its place once the system has kept it. Where it can't be written, the save stands as it is, and
-//! nobody is told: a later service does not know that file, and asks before it is written over. So does one
+//! that is reported to nobody: a later service does not know that file, and asks before it is written over. So does one
 //! that finds a line that is damaged, which knows none.
 
 ghost use Rattle.std.specs.Prelude.{◌≡◌, ◌⊎◌, string_bytes, IfOk, OnErr, OnOk};
@@ -56,7 +56,7 @@ pub struct KnownFiles {
     kept: Option<KeptAt>,
 }
 
-/// What a file of rows tells a desk that goes on behind a version, line by line; none where one of them is no
+/// What a file of rows shows a desk that goes on behind a version, line by line; none where one of them is no
 /// row. A fault is that of memory; bytes that are there are read without one.
 fn rows_of(
     alloc: Global,
@@ -146,9 +146,9 @@ impl KnownFiles {
     /// None is known where nothing is kept there, or it can't be read, or a line of it is damaged. A fault is
     /// that of memory, or of the file that is written again before anything is known by it.
     ///
-    /// A version that is kept there means the cards that the deck had then, as long as the folder tells no
-    /// version twice. A version up to `last` is in the journal, or was told before the desk of another journal
-    /// was begun anew, whose decks have versions behind all that were told in the folder. A greater one was
+    /// A version that is kept there means the cards that the deck had then, as long as the folder gives out no
+    /// version twice. A version up to `last` is in the journal, or was given out before the desk of another journal
+    /// was begun anew, whose decks have versions behind all that were given out in the folder. A greater one was
     /// shown, and its record was never kept: the desk will give it to other cards, so it is left out here, and in
     /// the file before the desk gives any. What the file has stays known.
     pub fn kept_in<R>(

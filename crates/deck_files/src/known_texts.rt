@@ -13,7 +13,7 @@ use hex::FromHex;
 use std::alloc::{AllocError, Global};
 use text_ports::Text;
 
-/// How many digits tell what is known of a file.
+/// How many digits show what is known of a file.
 const DIGITS: usize = 96;
 
 /// A deck, and what is known of its file.
@@ -98,7 +98,7 @@ fn digest_in(text: &[u8]) -> Option<[u8; 32]>
     }
 }
 
-/// What is known of a file by its digits; no version where they tell none.
+/// What is known of a file by its digits; no version where they show none.
 fn known_in(text: &[u8]) -> Option<Known>
     ensures { result ≡ known_in text.now }
 {

@@ -34,7 +34,7 @@ pub fn load<R: Read>(alloc: Global, reader: &mut Counted<R>) -> Result<Vec<Card>
     }
 }
 
-/// Loads the cards of a file as `load` does, and tells what the file has.
+/// Loads the cards of a file as `load` does, and returns what the file has.
 pub(crate) fn load_summed<R: Read>(
     alloc: Global,
     reader: &mut Counted<R>,

@@ -9,7 +9,7 @@ use std::io;
 use std::io::Write;
 
 /// The files that are written whole, by their paths. Each call is one step, as those of a `Folder` are, which
-/// tells besides which decks have files in it; a step that is refused changes nothing.
+/// lists besides which decks have files in it; a step that is refused changes nothing.
 pub(crate) trait WholeFiles {
     ghost use Rattle.std.specs.Prelude.{List};
     ghost use Rattle.deck_files.specs.Steps.{Step, TakesStep, done_if, gave_if};

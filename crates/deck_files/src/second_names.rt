@@ -1,4 +1,4 @@
-//! The file that a save is told to write over keeps a name: a second one, until the new file has its place,
+//! The file that a save is asked to write over keeps a name: a second one, until the new file has its place,
 //! and then `NAME.OLD`.
 ghost use Rattle.std.specs.Prelude.{◌≡◌, ℕ, List, ◌⊎◌, string_bytes, IfErr, IfOk, OnOk};
 ghost use Rattle.deck_files.specs.Folders.{new_path, old_path};

@@ -1,5 +1,5 @@
 //! How many bytes a file may have: the limit that the system has set for the process. A write past it would
-//! end the process by a signal, so none is made there, and the file is told as full.
+//! end the process by a signal, so none is made there, and the file is reported as full.
 ghost use Rattle.std.specs.Prelude.{◌≡◌, ◌==◌, ◌<◌, ◌+◌, ◌≤◌, ◌-◌, ◌^◌, ◌↔◌, IfSome, IsTrue, length, min, position, take};
 ghost use Rattle.definitions.specs.Numerals.{number_of};
 ghost use Rattle.deck_files.specs.SizeLimits.{behind_line, limit_in, number_at, size_in};
@@ -9,7 +9,7 @@ use std::fs;
 use std::io::{self, ErrorKind, Read, Write};
 use std::rt::Files;
 
-/// Where the system tells the limits of the process.
+/// Where the system reports the limits of the process.
 const LIMITS: &str = "/proc/self/limits";
 
 /// How much of it is read: its first lines.
@@ -65,7 +65,7 @@ fn behind_line(text: &[u8]) -> &[u8]
     }
 }
 
-/// The limit in the line of the size of files; none where the line is another, or tells no number, as it does
+/// The limit in the line of the size of files; none where the line is another, or shows no number, as it does
 /// where there is no limit.
 fn size_in(line: &[u8]) -> Option<u64>
     ensures { result ≡ size_in line.now }
@@ -81,21 +81,21 @@ fn size_in(line: &[u8]) -> Option<u64>
     }
 }
 
-/// The limit of the size of files in what the system tells of all: its third line tells it.
+/// The limit of the size of files in what the system reports of all: its third line shows it.
 fn limit_in(text: &[u8]) -> Option<u64>
     ensures { result ≡ limit_in text.now }
 {
     size_in(behind_line(behind_line(text)))
 }
 
-/// What the system tells now.
+/// What the system reports now.
 fn read_limit<R: Files>(rt: &R) -> io::Result<Option<u64>> {
     let mut room = [0u8; ROOM];
     let count = fs::open(rt, LIMITS)?.read(&mut room)?;
     Ok(limit_in(room.split_at(count).0))
 }
 
-/// How many bytes a file may have; `NO_LIMIT` where none is set, or the system doesn't tell.
+/// How many bytes a file may have; `NO_LIMIT` where none is set, or the system doesn't report.
 pub fn size_limit<R: Files>(rt: &R) -> u64 {
     match read_limit(rt) {
         Ok(Some(most)) => most,

@@ -7,7 +7,7 @@ use std::os::unix::fs::MetadataExt;
 use std::rt::Files;
 use std::{fs, io};
 
-/// What the system tells of the plain file at a path, if anything stands there; a link is none.
+/// What the system reports of the plain file at a path, if anything stands there; a link is none.
 pub(crate) fn plain_at<R: Files>(rt: &R, path: &str) -> io::Result<Option<Metadata>> {
     match fs::symlink_metadata(rt, path) {
         Ok(about) if about.is_file() => Ok(Some(about)),

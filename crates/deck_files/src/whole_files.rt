@@ -101,7 +101,7 @@ pub(crate) fn take_owner_and_mode<F: OpenFile + AsFd>(file: &F, old: &Metadata) 
     file.set_permissions(old.permissions())
 }
 
-/// What the system tells of what stands at a path, a link followed, if anything does.
+/// What the system reports of what stands at a path, a link followed, if anything does.
 fn standing_at<R: Files>(rt: &R, path: &str) -> io::Result<Option<Metadata>> {
     match fs::metadata(rt, path) {
         Ok(about) => Ok(Some(about)),

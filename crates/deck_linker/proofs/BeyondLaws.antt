@@ -237,7 +237,7 @@ any-reverse {X = X} p (x ∷ xs) =
     ∙ ap (λ (b : Bool). b || (p x || false)) (any-reverse p xs)
     ∙ sym (or-turned (p x) (list_any p xs))
 
--- the blocks of an object tell whether it stores a word beyond its memory
+-- the blocks of an object show whether it stores a word beyond its memory
 pub rows-beyond : (cards : List Card) (parts : ObjectParts) (object : Object) → ArePartsOf cards parts object → list_any (row_beyond parts) parts.bases ≡ has_beyond object
 rows-beyond cards parts object are =
     list_any-same (row_beyond parts) (λ (row : BlockRow). not (is_common row.name) && block_beyond object row) by_row parts.bases

@@ -143,7 +143,7 @@ row-parted false l a b = refl
 row-parted true true a b = refl
 row-parted true false a b = sym (or-none b)
 
--- the parts of an object tell whether it stores a word beyond its memory
+-- the parts of an object show whether it stores a word beyond its memory
 pub parts-beyond : (cards : List Card) (parts : ObjectParts) (object : Object) → ArePartsOf cards parts object → DoNamesDiffer parts.bases → parts_beyond parts ≡ has_beyond object
 parts-beyond cards parts object are differ =
     let kind = parts.kind in

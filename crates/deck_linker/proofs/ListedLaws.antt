@@ -75,7 +75,7 @@ pub part-behind-all : (old mid new : Option (List ℕ)) (head body : List ℕ) (
 part-behind-all old mid new head body sent more count first part =
     subst (λ (n : ℕ). IsPart old new (head ++ body) (n + more)) (sym count) (part-second old mid new head head body more refl first part)
 
--- the listings and the map of decks, where both are told otherwise
+-- the listings and the map of decks, where both are shown otherwise
 pub listing-told : (decks told : List Deck) (mapped : List ℕ) → told ≡ decks → mapped ≡ map_of decks → flat_map deck_text told ++ mapped ≡ listing_of decks
 listing-told decks told mapped same maps =
     ap₂ (λ (ds : List Deck) (m : List ℕ). flat_map deck_text ds ++ m) same maps ∙ ap (λ (l : List ℕ). l ++ map_of decks) (listings-flat decks)

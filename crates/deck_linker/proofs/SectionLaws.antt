@@ -16,7 +16,7 @@ use Rattle.deck_linker.specs.Joins.Sections.{deck_section, section_text}
 use Rattle.deck_linker.specs.Publishing.{section_if, section_in, section_named, section_of}
 use Rattle.deck_linker.proofs.PlaceLaws.{objects-based}
 
--- one thing more is told in order
+-- one thing more is shown in order
 pub map-step : {X Y : Type 0} (f : X → Y) (xs : List X) (i : ℕ) (x : X) (y : Y) → i < length xs → x ≡ get_or xs i x → y ≡ f x → (old new all : List Y) → old ++ map f (drop i xs) ≡ all → new ≡ old ++ y ∷ [] →
     new ++ map f (drop (i + 1) xs) ≡ all
 map-step {X = X} {Y = Y} f xs i x y inside is told old new all h e =
@@ -42,7 +42,7 @@ texts-of : (layout : Layout) (decks : List Based) → flat_map section_text (map
 texts-of layout [] = refl
 texts-of layout (based ∷ others) = ap₂ (λ (a b : List ℕ). a ++ b) (text-of layout based) (texts-of layout others)
 
--- the image of decks, where its parts are told otherwise
+-- the image of decks, where its parts are shown otherwise
 pub image-told : (decks : List Deck) (sections : List (Option (List ℕ))) (rest : List ℕ) → sections ≡ sections_of decks → rest ≡ end_of decks → flat_map section_text sections ++ rest ≡ image_of decks
 image-told decks sections rest same ends =
     let layout = layout_of (map object_of decks) in
@@ -59,7 +59,7 @@ with-in name layout (b ∷ based) (deck ∷ decks) same =
     let here : b.object ≡ object_of deck = ap (λ (os : List Object). get_or os 0 b.object) same ∙ refl in
     ap₂ (λ (own : List ℕ) (left : Option (List ℕ)). if same_text own name then section_of layout b else left) (ap (λ (o : Object). o.name) (sym here)) (with-in name layout based decks (ap (drop 1) same))
 
--- the section of a name in the image of decks, where its parts are told otherwise
+-- the section of a name in the image of decks, where its parts are shown otherwise
 pub named-told : (name : List ℕ) (decks told : List Deck) (sections : List (Option (List ℕ))) → told ≡ decks → sections ≡ sections_of decks → section_with name told sections ≡ section_named name decks
 named-told name decks told sections same parts =
     let layout = layout_of (map object_of decks) in

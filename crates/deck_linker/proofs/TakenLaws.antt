@@ -155,7 +155,7 @@ fields-more based old new fields i field inside is more h k =
     let Follows : List (Relocation × ℤ) → code.Item → Type 0 = λ values item. DoesContentFollow based.object based.base values (content_as item.content) in
     All-more (Follows new) fields i field inside (All-weaker (Follows old) (Follows new) (λ item g. content-more based old new (content_as item.content) more g) (take i fields) h) (subst (Follows new) is k)
 
--- two lists of which the same is told tell the same at each place
+-- two lists of which the same is shown show the same at each place
 pub same-at : {X Y Z : Type 0} (f : X → Z) (g : Y → Z) (xs : List X) (ys : List Y) (i : ℕ) (x : X) (y : Y) → map f xs ≡ map g ys → i < length xs → x ≡ get_or xs i x → g (get_or ys i y) ≡ f x
 same-at f g [] ys i x y e inside is = absurd (omega arith)
 same-at f g (a ∷ xs) [] i x y e inside is = cc

@@ -79,7 +79,7 @@ fn placed_section(
     Ok(PlacedSection::new(based.base(), values, text, fits))
 }
 
-/// Keeps with the object of a deck what is known of it in a link, and its section, where it has one. Tells
+/// Keeps with the object of a deck what is known of it in a link, and its section, where it has one. Returns
 /// whether it is known that all fields of the deck fit.
 fn keep_placed(
     alloc: Global,
@@ -188,7 +188,7 @@ fn placed_deck(
     }
 }
 
-/// Tells of a deck without a section whether it is known that all its fields fit: as its object keeps it,
+/// Returns of a deck without a section whether it is known that all its fields fit: as its object keeps it,
 /// where the deck stands as it stood there; else it is found out here, and kept.
 fn past_deck(
     alloc: Global,

@@ -60,7 +60,7 @@ fn place_decks(alloc: Global, objects: Vec<SharedObject>) -> Result<(Vec<Based>,
 
 impl Layout {
     /// The layout of these objects, in this order: each REL deck stands at the end of those before it.
-    /// Without memory for it the objects are let go.
+    /// Without memory for it the objects are freed.
     pub fn new(
         alloc: Global,
         keys: RandomState,

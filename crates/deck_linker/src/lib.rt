@@ -3,7 +3,7 @@
 //! exactly as the definitions have them.
 //!
 //! `Layout::new` places the decks and behind them the common blocks, and takes what the decks enter
-//! into a table; names are looked up in maps. Whether a deck passes the end of its memory is told
+//! into a table; names are looked up in maps. Whether a deck passes the end of its memory is read
 //! from the ends of its lines. `DeckLinking` is the link of a deck in a layout; what does not fit
 //! its field is 0. A common block's words are each the last deck's. A `Publication` is seen by
 //! contracts as its version and decks: that its texts and counts are those of the build of these

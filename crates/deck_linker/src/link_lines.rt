@@ -70,7 +70,7 @@ fn push_past(out: &mut LinkText, is_past: bool, name: &[u8]) -> Result<(), Alloc
 }
 
 /// Writes the LINK lines of a deck, where earlier decks enter some names; whether it is known that all its
-/// fields fit is told.
+/// fields fit is shown.
 #[tactic(auto, using(crate::proofs::LineLaws::lines_joined))]
 fn push_deck(
     out: &mut LinkText,

@@ -37,7 +37,7 @@ fn write_front(text: &mut Text, letter: u8, deck: &[u8]) -> Result<(), AllocErro
     text.push_bytes(deck)
 }
 
-/// Writes a line that tells no more than its deck.
+/// Writes a line that shows no more than its deck.
 fn write_short(text: &mut Text, letter: u8, deck: &[u8]) -> Result<(), AllocError>
     ensures line { OnOk result (text.new ≡ text.old ++ link_line (letter ∷ []) deck.now []) }
     ensures counted { OnOk result (length text.old < length text.new) }
@@ -47,7 +47,7 @@ fn write_short(text: &mut Text, letter: u8, deck: &[u8]) -> Result<(), AllocErro
     text.push_byte(b'\n')
 }
 
-/// Writes a line that tells a name.
+/// Writes a line that shows a name.
 fn write_name(text: &mut Text, letter: u8, deck: &[u8], name: &[u8]) -> Result<(), AllocError>
     ensures line { OnOk result (text.new ≡ text.old ++ link_line (letter ∷ []) deck.now (codes " " ++ name.now)) }
     ensures counted { OnOk result (length text.old < length text.new) }
@@ -66,7 +66,7 @@ fn last_digits(address: u128) -> u64
     (address % 0o100000000) as u64
 }
 
-/// Writes a line that tells an address, in 8 octal digits.
+/// Writes a line that shows an address, in 8 octal digits.
 fn write_address(text: &mut Text, letter: u8, deck: &[u8], address: u128) -> Result<(), AllocError>
     ensures line { OnOk result (text.new ≡ text.old ++ link_line (letter ∷ []) deck.now (codes " " ++ octal_of 8 address)) }
     ensures counted { OnOk result (length text.old < length text.new) }
@@ -100,7 +100,7 @@ impl LinkText {
         self.lines
     }
 
-    /// Writes a line that tells no more than its deck.
+    /// Writes a line that shows no more than its deck.
     pub(crate) fn push_short(&mut self, letter: u8, deck: &[u8]) -> Result<(), AllocError>
         ensures { OnOk result (self.new ≡ with_line self.old (link_line (letter ∷ []) deck.now [])) }
     {
@@ -110,7 +110,7 @@ impl LinkText {
         Ok(())
     }
 
-    /// Writes a line that tells a name.
+    /// Writes a line that shows a name.
     pub(crate) fn push_name(
         &mut self,
         letter: u8,
@@ -125,7 +125,7 @@ impl LinkText {
         Ok(())
     }
 
-    /// Writes a line that tells an address.
+    /// Writes a line that shows an address.
     pub(crate) fn push_address(
         &mut self,
         letter: u8,

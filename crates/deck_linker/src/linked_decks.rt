@@ -110,7 +110,7 @@ impl LinkedDecks {
         self.map.as_slice()
     }
 
-    /// Writes the listings of the decks in order, and tells how many bytes these were; or writes exactly
+    /// Writes the listings of the decks in order, and returns how many bytes these were; or writes exactly
     /// the first `sent` bytes of them up to the first fault. Takes no memory.
     pub fn write_listings<W: Write>(&mut self, output: &mut Counted<W>) -> Result<usize, Broken>
         ensures sends { Sends (W.contents output.old.0) (W.contents output.new.0) (listings self.old) result }

@@ -1,4 +1,4 @@
-//! How long the parts of the texts of linked decks are. Each part is made for it, and let go again.
+//! How long the parts of the texts of linked decks are. Each part is made for it, and freed again.
 ghost use Rattle.std.specs.Prelude.{◌≡◌, ◌≤◌, ◌+◌, flat_map, length, IfOk};
 ghost use Rattle.std.specs.List.{AllZip};
 ghost use Rattle.deck_listing.specs.Joins.BlockWords.{AreBlockWords};

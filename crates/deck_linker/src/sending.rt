@@ -17,7 +17,7 @@ use deck_objects::SharedObject;
 use std::io::Write;
 use text_ports::{Broken, Counted, put_all};
 
-/// Sends what stands on a sheet, and tells how many bytes these were.
+/// Sends what stands on a sheet, and returns how many bytes these were.
 fn send<W: Write>(output: &mut Counted<W>, sheet: &mut Sheet) -> Result<usize, Broken>
     requires { length (text_of sheet.old) ≤ room_of sheet.old }
     ensures sends { Sends (W.contents output.old.0) (W.contents output.new.0) (text_of sheet.old) result }
@@ -33,7 +33,7 @@ fn send<W: Write>(output: &mut Counted<W>, sheet: &mut Sheet) -> Result<usize, B
     Ok(len)
 }
 
-/// Sends the listings of decks, each made when it is sent, and tells how many bytes they have.
+/// Sends the listings of decks, each made when it is sent, and returns how many bytes they have.
 pub(crate) fn send_listings<W: Write>(
     output: &mut Counted<W>,
     sheet: &mut Sheet,
@@ -86,7 +86,7 @@ fn send_front<W: Write>(
     }
 }
 
-/// Sends the sections of decks, each made when it is sent, and tells how many bytes they have.
+/// Sends the sections of decks, each made when it is sent, and returns how many bytes they have.
 fn send_sections<W: Write>(
     output: &mut Counted<W>,
     sheet: &mut Sheet,

@@ -77,7 +77,7 @@ pub(crate) fn all_lines<T: TextPart>(parts: &[T], rest: &[u8]) -> usize
     parts_lines(parts) + lines_in(rest)
 }
 
-/// Writes texts one after the other, and tells how many bytes they have.
+/// Writes texts one after the other, and returns how many bytes they have.
 fn write_parts<W: Write, T: TextPart>(output: &mut Counted<W>, parts: &[T]) -> Result<usize, Broken>
     requires { length (flat_map T.text parts.now) < 2 ^ 63 }
     ensures sends { Sends (W.contents output.old.0) (W.contents output.new.0) (flat_map T.text parts.now) result }

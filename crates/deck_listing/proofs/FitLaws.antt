@@ -28,7 +28,7 @@ second-none : {X : Type 0} (xs ys : List X) → xs ++ ys ≡ [] → ys ≡ []
 second-none [] ys e = e
 second-none (x ∷ xs) ys e = cc
 
--- where a text tells of no word, it tells of none under another name and base
+-- where a text shows of no word, it shows of none under another name and base
 none-elsewhere : (name other : List ℕ) (base there : ℕ) (words : List ℕ) → address_lines name base words ≡ [] → address_lines other there words ≡ []
 none-elsewhere name other base there [] e = refl
 none-elsewhere name other base there (word ∷ words) e = cc

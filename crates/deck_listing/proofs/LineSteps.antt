@@ -121,7 +121,7 @@ named-row rows found i row name e h named = named_by (slice_get rows i) refl nam
     named_by None k n = absurd n
     named_by (Some r) k n = ap (λ (b : BlockRow). b.name) (h ∙ ap (λ (bs : List BlockRow). get_or bs i row) e ∙ get_or_from_slice_get rows i r row k) ∙ n
 
--- what the test of names tells of the block of a statement
+-- what the test of names shows of the block of a statement
 pub test-block : (rows found : List BlockRow) (items : List code.Item) (kind : DeckKind) (line : lines.CodedLine) (coded : Coded) (row : BlockRow) (block name : List ℕ) (test answer : Bool) →
     IsCoded kind rows items line coded → found ≡ rows → row ≡ get_or found line.block row → name ≡ row.name → test ≡ same_text name block → test ≡ answer →
     same_text coded.settled.block block ≡ answer

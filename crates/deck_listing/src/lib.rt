@@ -8,7 +8,7 @@
 //! common blocks, whose words the link shows. What stored words are, and their lines, are made apart:
 //! `words_of_blocks` asks for memory, and `push_section` puts these words to a text. A text is put to a
 //! `Sheet`, which takes all bytes: what fits in the room that was asked for before needs no memory, and
-//! a sheet that grows tells at its end where it lacked some.
+//! a sheet that grows reports at its end where it lacked some.
 #![tactic(auto)]
 
 // What lines are put to, and what texts are held in.

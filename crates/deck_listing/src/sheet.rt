@@ -8,8 +8,8 @@ use std::marker::Model;
 use text_ports::{Piece, ShortText, Text};
 
 /// A text that takes all bytes that are put to it, so whoever puts a text to it asks for no memory. What
-/// does not fit in the room that was asked for at first grows behind it; what there is no memory for is let
-/// go, and told at the end. Contracts see the room, and then all bytes that were put.
+/// does not fit in the room that was asked for at first grows behind it; what there is no memory for is
+/// left out, and reported at the end. Contracts see the room, and then all bytes that were put.
 #[derive(Drop)]
 pub struct Sheet {
     room: usize,

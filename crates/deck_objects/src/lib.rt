@@ -6,7 +6,7 @@
 //!
 //! A line keeps its fields as one number where they are known and have at most 60 bits, else in the
 //! object's list. That need not be the definitions' list of fields: it is as wide, has the same
-//! bits in every link, and is unfit in the same words, and nothing that reads an object can tell
+//! bits in every link, and is unfit in the same words, and nothing that reads an object can see
 //! more. `Linking` is how a form gets its bits, and `Unlinked` the link of a listing.
 #![tactic(auto)]
 

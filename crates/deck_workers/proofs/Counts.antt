@@ -1,4 +1,4 @@
--- What the edits of a job count, told of its own cards.
+-- What the edits of a job count, stated of its own cards.
 use Rattle.std.proofs.Common.{◌≡◌, Bool, false, List, None, ap₂, subst, ◌∙◌}
 use Rattle.work_meter.specs.Counts.{Counts}
 use Rattle.edit_core.specs.Faults.{against_all}

@@ -123,7 +123,7 @@ delivered-by-desk number lease publication answered seen now (inl has) = by_desk
 delivered-by-desk number lease publication answered seen now (inr has) = unshared lease publication has
 
 module _ {S : Type 0} (hears : S → ℕ → S → Type 0) where
-  -- the round of a claim that gave a job, and of what was made of it; and what it is told as
+  -- the round of a claim that gave a job, and of what was made of it; and what it is shown as
   pub worked-round : (number other : ℕ) (claimed answered : Reply) (given : Job) (result : Made) (seen middle now : History) (old new : S) → other ≡ number → job_in claimed ≡ Some given → MayMake given result →
       Calls number (entry number Claim claimed ∷ []) seen middle → Delivers other answered middle now result → HearsAfter hears answered (published_in result) old new →
       (makes : MakesRound hears number seen now old new) × (told_as makes.round ≡ round_with_job (went_well (is_result result) answered))

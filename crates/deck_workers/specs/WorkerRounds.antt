@@ -29,7 +29,7 @@ pub data WorkerRound : Type 0 where
   ByDesk : Reply → ℕ → Publication → List Offer → Reply → Option Reply → WorkerRound
   Unshared : Reply → ℕ → Publication → List Offer → Reply → WorkerRound
 
--- whether a reply tells want of memory
+-- whether a reply shows want of memory
 abbrev pub is_starved : Reply → Bool
 is_starved (Refused refusal.OutOfMemory) = true
 is_starved _ = false

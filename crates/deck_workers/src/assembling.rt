@@ -35,7 +35,7 @@ fn edits_fault(start: &Start, edits: &[Edit]) -> Option<RecordFault>
 
 /// Record and object of the deck of a job, its edits made in order, those that lie near each other at
 /// once; the object with its listing, which
-/// is made here and nowhere else. An edit that does not apply is told before anything takes memory.
+/// is made here and nowhere else. An edit that does not apply is shown before anything takes memory.
 pub(crate) fn assembled(
     alloc: Global,
     keys: RandomState,

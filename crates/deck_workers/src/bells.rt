@@ -7,7 +7,7 @@ use crossbeam_channel::{Receiver, RecvTimeoutError};
 use std::sync::Wait;
 use std::time::{Clock, Duration};
 
-/// What a worker is told.
+/// What a bell says to a worker.
 #[derive(Clone, Copy, Drop)]
 pub enum Bell {
     /// There may be work.
@@ -104,8 +104,8 @@ fn next_behind(round: Round, patience: &mut Patience) -> Next
     }
 }
 
-/// Whether there may be work, by what a sleep gave: a bell that tells so, or none in the time. Where a bell
-/// tells to stop, or none can come any more, there is none.
+/// Whether there may be work, by what a sleep gave: a bell that says so, or none in the time. Where a bell
+/// says to stop, or none can come any more, there is none.
 fn may_work(heard: Result<Bell, RecvTimeoutError>) -> bool
     ensures { result ≡ may_work heard }
 {

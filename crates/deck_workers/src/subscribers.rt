@@ -1,9 +1,9 @@
-//! Who is told of publications.
+//! Who hears of publications.
 ghost use Rattle.deck_workers.specs.Subscribers.{HearsAfter, HearsIf};
 
 use desk_core::Reply;
 
-/// Who is told of each publication that a worker delivered and the desk took. The member says what telling
+/// Who hears of each publication that a worker delivered and the desk took. The member says what such a
 /// one makes of it.
 pub trait Subscriber {
     ghost use Rattle.std.specs.Prelude.{ℕ};
@@ -11,7 +11,7 @@ pub trait Subscriber {
     // The subscriber before, the version that was published, and the subscriber after.
     ghost hears: { Self → ℕ → Self → Type 0 };
 
-    /// Tells it of the publication of a version.
+    /// Reports to it the publication of a version.
     fn hear(&mut self, version: u64)
         ensures { hears self.old version self.new };
 }
@@ -30,7 +30,7 @@ impl Subscriber for NoSubscriber {
     }
 }
 
-/// Tells a subscriber of a publication, where there is one.
+/// Reports a publication to a subscriber, where there is one.
 fn tell_if<S: Subscriber>(subscriber: &mut S, published: Option<u64>)
     ensures { HearsIf S.hears published subscriber.old subscriber.new }
 {
@@ -39,7 +39,7 @@ fn tell_if<S: Subscriber>(subscriber: &mut S, published: Option<u64>)
     }
 }
 
-/// Tells a subscriber of a publication, where the desk took it or published it itself, which its reply tells.
+/// Reports a publication to a subscriber, where the desk took it or published it itself, which its reply shows.
 pub(crate) fn tell_after<S: Subscriber>(subscriber: &mut S, published: Option<u64>, reply: &Reply)
     ensures { HearsAfter S.hears reply.now published subscriber.old subscriber.new }
 {

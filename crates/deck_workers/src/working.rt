@@ -23,7 +23,7 @@ use std::time::Clock;
 use turn_office::{Office, Seat};
 use work_meter::Meter;
 
-/// Works at a seat of the office until it is told to stop, and hands the seat back. It claims; a job
+/// Works at a seat of the office until it is asked to stop, and hands the seat back. It claims; a job
 /// that it gets it runs between `enter` and `leave` of the gate, and then delivers what it made, or
 /// gives the lease up. After a delivery, refused or not, it claims again; after it gave a lease up, or
 /// its claim was refused, as for want of memory, it sleeps for a while, the longer the more often, or until a bell comes; after all else until a bell comes.
@@ -64,7 +64,7 @@ pub fn worker<R: Wait + Clock, G: Gate, S: Subscriber>(
     unreachable!()
 }
 
-/// Claims, and does the job that the claim gives, if it gives one; and tells what that came to.
+/// Claims, and does the job that the claim gives, if it gives one; and returns what that came to.
 fn make_round<R: Wait, G: Gate, S: Subscriber>(
     rt: &R,
     alloc: Global,
@@ -257,7 +257,7 @@ fn is_refused(reply: &Reply) -> bool
     matches!(reply, Reply::Refused(_))
 }
 
-/// Whether a reply tells want of memory.
+/// Whether a reply shows want of memory.
 fn is_starved(reply: &Reply) -> bool
     ensures { result ≡ is_starved reply.now }
 {

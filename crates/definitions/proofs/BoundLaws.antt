@@ -1,4 +1,4 @@
--- What the test of an element's two values tells: its form is the same in both decks, and its relocation stands where it stood.
+-- What the test of an element's two values shows: its form is the same in both decks, and its relocation stands where it stood.
 use Rattle.std.proofs.Common.{◌≡◌, ℕ, Bool, true, false, not, List, [], ◌∷◌, Option, Some, None, refl, sym, ap, ap₂, ◌∙◌, subst}
 use Rattle.std.specs.Prelude.{⊤, Result, Ok, Err, nat_lt, pos, if◌then◌else◌}
 use Rattle.std.specs.List.{AllByRecursion, list_any}

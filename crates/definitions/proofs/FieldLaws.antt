@@ -118,7 +118,7 @@ field_splits spot zero (c ∷ cs) =
           subst P (sym (field_at-other spot c cs h.1)) (s.0, ap (λ (t : List ℕ). c ∷ t) s.1, (h.1, subst Q s.1 s.2))
     ]
 
--- what the test of the column tells
+-- what the test of the column shows
 in_time_tells : (text rest : List ℕ) →
     (HasBegun text rest × (in_time text rest ≡ rest)) ⊎ ((¬ HasBegun text rest) × (in_time text rest ≡ []))
 in_time_tells text rest = by (nat_lt (length text - length rest) 29) refl

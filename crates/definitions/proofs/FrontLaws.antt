@@ -112,7 +112,7 @@ at_count-nil digits = either (nat_le 1 (length digits))
     either true = refl
     either false = refl
 
--- what is told of an item that is found at a count
+-- what is stated of an item that is found at a count
 at_count-found : (digits : List ℕ) (c : ℕ) (rest : List ℕ) (s : CountedSpan) → at_count digits (c ∷ rest) ≡ Some s →
     (nat_le 1 (length digits) ≡ true) × IsFound (length digits) (number_of 10 digits) c rest s
 at_count-found digits c rest s h = by_test (nat_le 1 (length digits)) refl h

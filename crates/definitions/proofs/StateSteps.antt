@@ -84,7 +84,7 @@ in_use-named (name ∷ opened) names h n = h.0
 block_in_use-used : (done : List BlockChange) → is_named (block_in_use (open_names done)) (blocks_used done) ≡ true
 block_in_use-used done = in_use-named (open_names done) (blocks_used done) (open_names-used done) (nominal-used done)
 
--- used blocks are told by their names
+-- used blocks are known by their names
 names_of_blocks-used : (earlier : List Settled) (names : List (List ℕ)) → names_of_blocks (map (used_block earlier) names) ≡ names
 names_of_blocks-used earlier [] = refl
 names_of_blocks-used earlier (name ∷ names) = ap (λ others. name ∷ others) (names_of_blocks-used earlier names)

@@ -50,7 +50,7 @@ numbered-step earlier card true is h =
     rw is (rw found.2 (numbered-onto_latest card found.0 found.1 (rw found.2 at h)))
 numbered-step earlier card false is h = rw is (rw (cards_in-statements_of earlier) (sym (length-reverse earlier)), h)
 
--- each statement tells how many cards stand before it
+-- each statement shows how many cards stand before it
 pub numbered-statements_of : (cards : List Card) → AreNumbered (statements_of cards)
 numbered-statements_of [] = tt
 numbered-statements_of (card ∷ earlier) = numbered-step earlier card (continues earlier card) refl (numbered-statements_of earlier)

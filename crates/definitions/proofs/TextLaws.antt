@@ -1,9 +1,9 @@
--- What the test of two texts tells.
+-- What the test of two texts shows.
 use Rattle.std.proofs.Common.{ℕ, ◌≡◌, ◌≢◌, ◌⊎◌, inl, inr, List, [], ◌∷◌, Bool, true, false, ◌&&◌, refl, ap, ap₂}
 use Rattle.std.proofs.lemmas.Bool.Decides.{eqb_tells}
 use Rattle.definitions.specs.Characters.{same_text}
 
--- what the test of two texts tells
+-- what the test of two texts shows
 pub same_text_tells : (a b : List ℕ) → ((same_text a b ≡ true) × (a ≡ b)) ⊎ ((same_text a b ≡ false) × (a ≢ b))
 same_text_tells [] [] = inl (refl, refl)
 same_text_tells [] (d ∷ b) = inr (refl, λ e. cc)

@@ -1,4 +1,4 @@
--- Worked decks, computed: what the link tells.
+-- Worked decks, computed: what the link shows.
 use Rattle.std.proofs.Common.{◌≡◌, ℕ, List, [], ◌∷◌, refl, codes}
 use Rattle.definitions.specs.Answer.{answer_of}
 use Rattle.definitions.proofs.WorkedText.{text}

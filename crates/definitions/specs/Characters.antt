@@ -1,4 +1,4 @@
--- Characters: the 64 of the set with their display codes, and the classes that the language tells apart
+-- Characters: the 64 of the set with their display codes, and the classes that the language distinguishes
 -- (COMPASS 60492600, character set; the marks of symbols are ours).
 use Rattle.std.specs.Prelude.{ℕ, ◌+◌, List, [], ◌∷◌, Option, Bool, true, false, ◌==◌, ◌&&◌, ◌||◌, nat_le, codes, position, slice_index}
 use Rattle.std.specs.List.{list_any}

@@ -11,7 +11,7 @@ pub record Deck : Type 0 where
   pub name : List ℕ
   pub cards : List Card
 
--- what keeps input from being decks, with its line and column where they are told
+-- what keeps input from being decks, with its line and column where they are shown
 pub data InputFault : Type 0 where
   BadLineTooWide : ℕ → InputFault
   BadLineBadCharacter : ℕ → ℕ → InputFault
@@ -60,7 +60,7 @@ continued number card [] = Faulty (BadName number)
 continued number card (deck ∷ decks) =
     if nat_le most_cards (length deck.cards) then Faulty DeckFull else Decks (record { name = deck.name; cards = card ∷ deck.cards } ∷ decks)
 
--- the decks with a card more: an IDENT, which is told by that card alone, begins a deck
+-- the decks with a card more: an IDENT, which is known by that card alone, begins a deck
 abbrev pub with_card : ℕ → Card → List Deck → Input
 with_card number card decks =
     let fields = fields_of (card ∷ []) in

@@ -1,4 +1,4 @@
--- What is told of a deck by its statements' fields alone: END, the kind of the deck, and the number base
+-- What is known of a deck by its statements' fields alone: END, the kind of the deck, and the number base
 -- (COMPASS 60492600, END, ABS, PERIPH, BASE).
 use Rattle.std.specs.Prelude.{List, [], ◌∷◌, Option, Some, None, Bool, true, false, codes, map, reverse, if◌then◌else◌}
 use Rattle.std.specs.List.{list_any}

@@ -8,7 +8,7 @@ use Rattle.definitions.specs.Matching.{is_operation}
 use Rattle.definitions.specs.declared.deck_kind.DeckKind.{DeckKind}
 use Rattle.definitions.specs.declared.deck_kind.DeckKind.TheVariants.{Abs, Periph}
 
--- the operations that the language tells apart
+-- the operations that the language distinguishes
 pub data Operation : Type 0 where
   -- the field is empty
   EmptyField : Operation

@@ -54,7 +54,7 @@ abbrev pub cards_in : List Statement → List Card
 cards_in [] = []
 cards_in (statement ∷ earlier) = cards_in earlier ++ statement.cards
 
--- each statement tells how many cards stand before it
+-- each statement shows how many cards stand before it
 abbrev pub AreNumbered : List Statement → Type 0
 AreNumbered [] = ⊤
 AreNumbered (statement ∷ earlier) = (statement.before ≡ length (cards_in earlier)) × AreNumbered earlier

@@ -1,6 +1,6 @@
 //! Counted items where they are written: a count, one of H A L R C, and that many characters
 //! (COMPASS 60492600, data items). The extent of a field and the pieces of an expression are both
-//! told by them.
+//! known by them.
 ghost use Rattle.std.specs.Prelude.{◌≡◌, ◌≤◌, ◌<◌, ◌+◌, ◌^◌, ℕ, false, None, min, length, option_map, IfSome};
 ghost use Rattle.std.specs.List.{prefix_len};
 ghost use Rattle.definitions.specs.Characters.{is_digit};

@@ -26,7 +26,7 @@ pub fn octal_reads_back()
 {}
 
 /// The statements' cards are all the cards of the deck in order, each once, and each statement
-/// tells how many stand before it.
+/// shows how many stand before it.
 pub fn statements_have_all_cards()
     ensures all { (cards : List Card) → cards_in (statements_of cards) ≡ reverse cards }
     ensures numbered { (cards : List Card) → AreNumbered (statements_of cards) }

@@ -7,7 +7,7 @@ use Rattle.desk_core.specs.Answers.{Answer, unless}
 use Rattle.desk_core.specs.Steps.{is_made}
 use Rattle.desk_core.specs.Joins.Turns.{IsAnswer, MayAnswer}
 
--- a cause that is told
+-- a cause that is shown
 pub told : (against : Option Refusal) (refusal : Refusal) (desk : Desk) (a : Answer) → against ≡ Some refusal → IsAnswer (unless against desk a) (Refused refusal) desk
 told None refusal desk a e = cc
 told (Some other) refusal desk a e = let same : refusal ≡ other = cc in (ap (λ (r : Refusal). Refused r) same, refl)
@@ -22,7 +22,7 @@ pub lacking : (against : Option Refusal) (desk : Desk) (a : Answer) → against 
 lacking None desk a e made = inr (made, refl, refl)
 lacking (Some other) desk a e made = cc
 
--- a reply that is no refusal tells that no cause is
+-- a reply that is no refusal shows that no cause is
 pub unrefused : (against : Option Refusal) (desk : Desk) (a : Answer) (reply : Reply) → ((refusal : Refusal) → reply ≡ Refused refusal → ⊥) → reply ≡ (unless against desk a).reply → (against ≡ None) × (unless against desk a ≡ a)
 unrefused None desk a reply other e = (refl, refl)
 unrefused (Some refusal) desk a reply other e = absurd (other refusal e)

@@ -1,4 +1,4 @@
--- What is kept of a deck brings back the cards that it had at each version, and what is told of it is that, in every run.
+-- What is kept of a deck brings back the cards that it had at each version, and what is stated of it is that, in every run.
 use Rattle.std.proofs.Common.{◌≡◌, ℕ, ◌+◌, ◌-◌, ◌≤◌, nat_lt, Bool, true, false, cond, List, [], ◌∷◌, ◌++◌, length, take, map, find, inl, inr, Option, Some, None, refl, sym, ap, ap₂, ◌∙◌, subst, arith}
 use Rattle.std.proofs.lemmas.Bool.{ltb-false}
 use Rattle.std.proofs.lemmas.Bool.Decides.{leb_tells}
@@ -167,7 +167,7 @@ module _ (begun : ℕ) (history : History) (desk next : Desk) (name : List ℕ) 
         subst (λ (es : List KeptEdit). HaveLed (cards_of version deck) es deck.cards) kept (led_there begun history desk name deck version runs found),
       )
 
-  -- the changes that are told of a deck led from the cards that it had to those of now
+  -- the changes that are stated of a deck led from the cards that it had to those of now
   pub told_then : (last : ℕ) (edits : List KeptEdit) → Steps desk (Changes name version) (ChangesAre last edits) next → LedToNow edits
   told_then last edits (inl gave) = told-of last edits (deck_named name desk) refl gave.0
   told_then last edits (inr starved) = absurd (let e : ChangesAre last edits ≡ Refused OutOfMemory = starved.1 in cc)

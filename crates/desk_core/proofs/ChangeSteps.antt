@@ -1,4 +1,4 @@
--- What is told of a desk after a call that changes decks.
+-- What is stated of a desk after a call that changes decks.
 use Rattle.std.proofs.Common.{◌≡◌, ℕ, ◌+◌, ◌==◌, Bool, true, false, cond, not, ◌||◌, List, [], ◌∷◌, ◌++◌, is_some, inl, inr, Option, Some, None, Result, Ok, Err, option_map, refl, sym, ap, ◌∙◌, subst, arith, eq-eqb, ne_eqb}
 use Rattle.std.specs.Option.{option_or}
 use Rattle.std.proofs.lemmas.Bool.{cases_Bool}
@@ -22,7 +22,7 @@ use Rattle.desk_core.proofs.TellingDecks.{found_told, none_found, all_next, all_
 use Rattle.desk_core.proofs.QuietSteps.{IsQuiet, quiet, told_quiet, told_dropped}
 use Rattle.desk_core.proofs.TouchedSteps.{Touches, told_touched}
 
--- a cause that is not told is not present
+-- a cause that is not shown is not present
 absent : (present : Bool) (refusal : Refusal) (later : List (Option Refusal)) → first_cause (when present refusal ∷ later) ≡ None → present ≡ false
 absent true refusal later e = cc
 absent false refusal later e = refl
@@ -39,7 +39,7 @@ differ_both a b differ = elim (cases_Bool (same_text b a)) [
 ]
 
 module _ (history : History) (by : ℕ) (desk : Desk) (told : IsDeskTold history desk) where
-  -- what is told after an answer
+  -- what is stated after an answer
   abbrev pub Next : Call → Answer → Type 0
   Next call answer = IsDeskTold (entry by call answer.reply ∷ history) answer.desk
 

@@ -1,4 +1,4 @@
--- What is told of a desk after a claim, and what a job that it hands out has to carry.
+-- What is stated of a desk after a claim, and what a job that it hands out has to carry.
 use Rattle.std.proofs.Common.{◌≡◌, ℕ, ◌+◌, ◌≤◌, ◌==◌, Bool, true, false, cond, ◌||◌, List, is_some, is_none, find, Option, Some, None, refl, ap, ◌∙◌, subst, arith, eq-eqb, ne_eqb, unwrap_or}
 use Rattle.std.specs.List.{list_any}
 use Rattle.std.proofs.lemmas.Bool.{cond_both, and_parts}

@@ -43,7 +43,7 @@ pub named-found : (name : List ℕ) (decks : List DeskDeck) → HaveOwnNames dec
 named-found name [] own = tt
 named-found name (d ∷ decks) own = named-head name d decks (is_named name d) refl own.0 (named-found name decks own.1)
 
--- what is told of a deck at a version of its desk
+-- what is stated of a deck at a version of its desk
 abbrev pub OfDeck : (ℕ → List ℕ → List Card → Past → Type 0) → ℕ → DeskDeck → Type 0
 OfDeck R version deck = R version deck.name deck.cards deck.past
 

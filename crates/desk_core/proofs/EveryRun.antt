@@ -48,14 +48,14 @@ next_told begun changes desk next entry more told (by_publishing by) = record {
   same = same_when_silent changes entry more (silent_entry entry by.silent);
 }
 
--- what is told of a desk is told of each later one
+-- what is stated of a desk is stated of each later one
 pub told_through : (begun : ℕ) (changes : List Change) (desk last : Desk) (history : History) → Leads Steps desk history last → IsTold begun changes desk → IsTold begun (changes ++ changes_in history) last
 told_through begun changes desk last [] leads told = rw (append-nil changes) (subst (λ d. IsTold begun changes d) leads told)
 told_through begun changes desk last (entry ∷ more) leads told =
     let now : NextTold begun changes entry more leads.0 = next_told begun changes desk leads.0 entry more told (step_comes desk entry.call entry.reply leads.0 leads.1) in
     subst (λ cs. IsTold begun cs last) (sym now.same) (told_through begun now.changes_now leads.0 last more leads.2 now.told)
 
--- what is told of the last desk of a run
+-- what is stated of the last desk of a run
 pub told_last : (begun : ℕ) (history : History) (desk : Desk) → Runs begun history desk → IsTold begun (changes_in history) desk
 told_last begun history desk runs = told_through begun [] (new_desk_at begun) desk history runs (told_first begun)
 

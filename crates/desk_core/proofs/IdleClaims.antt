@@ -1,4 +1,4 @@
--- A claim that answers Idle tells the version that is published.
+-- A claim that answers Idle shows the version that is published.
 use Rattle.std.proofs.Common.{◌≡◌, inl, inr, ℕ, true, find, Option, Some, None, refl, sym, eqb-true}
 use Rattle.std.specs.List.{list_any}
 use Rattle.std.proofs.lemmas.Bool.{cond_both}

@@ -30,7 +30,7 @@ module _ (history : History) (by : ℕ) (desk : Desk) (told : IsDeskTold history
   cards_at_next name version (Some deck) = next_unless history by desk told (CardsAt name version) (against_since version deck) (answers (CardsBefore version deck.cards (backs_of (edits_behind version deck))) desk) (λ r. quiet _ _ _ (λ n. refl) (λ i. refl) (λ n. refl) (λ d. refl))
       (λ free. next_quiet history by desk told (CardsAt name version) (CardsBefore version deck.cards (backs_of (edits_behind version deck))) (quiet _ _ _ (λ n. refl) (λ i. refl) (λ n. refl) (λ d. refl)))
 
-  -- what is told after each answer
+  -- what is stated after each answer
   answer_next : (call : Call) → Next history by desk told call (answer call desk)
   answer_next (AddDeck deck) = add_next history by desk told deck
   answer_next (PutDeck deck seen) = put_next history by desk told deck seen
@@ -52,7 +52,7 @@ module _ (history : History) (by : ℕ) (desk : Desk) (told : IsDeskTold history
   answer_next (Publish number) = publish_next history by desk told number
   answer_next (GiveUp number) = give_up_next history by desk told number
 
-  -- what is told after each step
+  -- what is stated after each step
   pub step_next : (call : Call) (reply : Reply) (next : Desk) → Steps desk call reply next → IsDeskTold (entry by call reply ∷ history) next
   step_next call reply next (inl gave) = rw (gave.0, gave.1) (answer_next call)
   step_next call reply next (inr starved) = rw (starved.1, starved.2) (next_quiet history by desk told call (Refused OutOfMemory) (starved_quiet history desk.leases by call))
@@ -66,7 +66,7 @@ module _ (history : History) (by : ℕ) (desk : Desk) (told : IsDeskTold history
 pub reverse_onto : (e : Entry Call Reply) (more before : History) → reverse more ++ e ∷ before ≡ reverse (e ∷ more) ++ before
 reverse_onto e more before = sym (ap (λ (h : History). h ++ before) (reverse-append (e ∷ []) more) ∙ append_assoc (reverse more) (e ∷ []) before)
 
--- what is told of a desk is told of each later one
+-- what is stated of a desk is stated of each later one
 told_through : (before : History) (desk last : Desk) (history : History) → Leads Steps desk history last → IsDeskTold before desk → IsDeskTold (reverse history ++ before) last
 told_through before desk last [] leads told = subst (λ d. IsDeskTold before d) leads told
 told_through before desk last (e ∷ more) leads told =

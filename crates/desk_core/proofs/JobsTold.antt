@@ -1,4 +1,4 @@
--- What the history before a desk tells of its decks' records, newest first: the form that each step keeps.
+-- What the history before a desk shows of its decks' records, newest first: the form that each step keeps.
 use Rattle.std.proofs.Common.{◌≡◌, ℕ, ◌<◌, ◌≤◌, ◌==◌, true, false, ◌||◌, List, [], ◌∷◌, Option, Some, None, is_some, sym, refl, ap, ◌∙◌, arith, ne_eqb, unwrap_or}
 use Rattle.std.specs.Prelude.{⊤, if◌then◌else◌}
 use Rattle.std.specs.Option.{option_or}
@@ -37,18 +37,18 @@ abbrev pub IsLeaseTold : History → ℕ → Option ℕ → Option Lease → Typ
 IsLeaseTold history leases for None = ⊤
 IsLeaseTold history leases for (Some lease) = (deck_of_lease lease.number history ≡ for) × (lease.number ≤ leases)
 
--- what is told of a deck
+-- what is stated of a deck
 pub record IsDeckTold (history : History) (version leases : ℕ) (deck : DeskDeck) : Type 0 where
   pub meant : IsMeant history deck.name deck.identity
   pub reached : deck.identity ≤ version
   pub since : since_job deck.identity history ≡ since_of deck
   pub leased : IsLeaseTold history leases (Some deck.identity) deck.lease
 
--- of a version that is not reached yet nothing is told
+-- of a version that is not reached yet nothing is stated
 abbrev pub IsUnreached : History → ℕ → Type 0
 IsUnreached history version = (identity : ℕ) → version < identity → since_job identity history ≡ None
 
--- what is told of a desk
+-- what is stated of a desk
 pub record IsDeskTold (history : History) (desk : Desk) : Type 0 where
   pub decks : AllByRecursion (IsDeckTold history desk.version desk.leases) desk.decks
   pub link : IsLeaseTold history desk.leases None desk.link
@@ -98,7 +98,7 @@ other_meant history name other identity another a b differ = ne_eqb identity ano
     let told : same_text name name ≡ false = ap (λ (n : List ℕ). same_text name n) names ∙ differ in
     cc)
 
--- what is told of a deck after one entry more, in the form that the step leaves
+-- what is stated of a deck after one entry more, in the form that the step leaves
 pub deck_told_next : (history : History) (entry : Entry Call Reply) (version after leases more : ℕ) (deck form : DeskDeck) → IsDeckTold history version leases deck →
     form.name ≡ deck.name → form.identity ≡ deck.identity → IsMeant (entry ∷ history) deck.name deck.identity → version ≤ after →
     after_effect (effect_on deck.identity history entry.call entry.reply) (since_of deck) ≡ since_of form →

@@ -20,7 +20,7 @@ pub record Changes (desk : Desk) (call : Call) (reply : Reply) (next : Desk) : T
   pub decks : decks_of next ≡ changed (decks_of desk) change
   pub publication : next.publication ≡ desk.publication
 
--- whether a reply tells that decks are published
+-- whether a reply shows that decks are published
 abbrev pub publishes : Reply → Bool
 publishes Stored = true
 publishes (Published before) = true

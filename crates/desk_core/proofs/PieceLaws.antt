@@ -136,7 +136,7 @@ same-short pieces i piece left within is less =
     ap (λ (cards : List Card). same_cards left cards) (joined-next pieces i piece within is)
     ∙ other-cards left (piece ++ behind) (ne_eqb (length left) (length (piece ++ behind)) (λ e. omega (arith, e, less, length-append piece behind)))
 
--- two comparisons, of which the fronts are told together
+-- two comparisons, of which the fronts are compared together
 pub both-on : (front other behind others : Bool) → (front && other) ≡ true → ((front && behind) && (other && others)) ≡ (behind && others)
 both-on true true behind others e = refl
 both-on true false behind others e = cc

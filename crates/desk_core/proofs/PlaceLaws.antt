@@ -1,4 +1,4 @@
--- A deck told by its place is the deck of its name.
+-- A deck known by its place is the deck of its name.
 use Rattle.std.proofs.Common.{◌≡◌, ℕ, ◌<◌, ◌≤◌, nat_lt, suc, Bool, true, false, cond, not, List, [], ◌∷◌, ◌++◌, length, map, filter, find, remove, get_or, Option, Some, None, is_some, position, refl, sym, ap, ◌∙◌, subst, arith, zero, inl, inr}
 use Rattle.std.specs.Prelude.{slice_get, slice_set}
 use Rattle.std.specs.List.{AllByRecursion, position_or_len}

@@ -25,7 +25,7 @@ next_from version begun changes desk next call reply told (by_publishing by) fro
     let now = by.version_of in
     record { publication = by.publication; shown = by.shown; not_before = omega arith }
 
--- through any history from a desk of which this is told
+-- through any history from a desk of which this is stated
 from_through : (version begun : ℕ) (changes : List Change) (desk last : Desk) (history : History) → Leads Steps desk history last → IsTold begun changes desk → IsPublishedFrom version desk → IsPublishedFrom version last
 from_through version begun changes desk last [] leads told from = subst (λ d. IsPublishedFrom version d) leads from
 from_through version begun changes desk last (entry ∷ more) leads told from =

@@ -1,4 +1,4 @@
--- What is told of a desk after a call that ends a lease.
+-- What is stated of a desk after a call that ends a lease.
 use Rattle.std.proofs.Common.{◌≡◌, ℕ, ◌==◌, Bool, true, false, cond, not, ◌||◌, List, ◌∷◌, is_some, is_none, Option, Some, None, refl, sym, ap, ◌∙◌, arith, eqb-true}
 use Rattle.std.specs.List.{list_any}
 use Rattle.std.proofs.lemmas.Bool.{cond_both, or_parts}
@@ -19,7 +19,7 @@ use Rattle.desk_core.proofs.QuietSteps.{IsQuiet, quiet, told_unlinked}
 use Rattle.desk_core.proofs.TouchedSteps.{Touches, told_touched, leaves_each}
 use Rattle.desk_core.proofs.ChangeSteps.{Next, next_quiet}
 
--- a lease that is out was given for what it is told of
+-- a lease that is out was given for what it is stated of
 leased_for : (history : History) (leases number : ℕ) (for : Option ℕ) (lease : Option Lease) → IsLeaseTold history leases for lease → is_leased number lease ≡ true → deck_of_lease number history ≡ for
 leased_for history leases number for None told out = cc
 leased_for history leases number for (Some lease) told out = ap (λ n. deck_of_lease n history) (sym (eqb-true lease.number number out)) ∙ told.0

@@ -1,4 +1,4 @@
--- What the accepted changes tell of a desk: its version, its cards, and its publication. Each step keeps it.
+-- What the accepted changes show of a desk: its version, its cards, and its publication. Each step keeps it.
 use Rattle.std.proofs.Common.{◌≡◌, ℕ, ◌+◌, ◌-◌, ◌≤◌, List, [], ◌∷◌, ◌++◌, take, length, Some, sym, refl, ap, ◌∙◌, arith, length-append}
 use Rattle.std.proofs.lemmas.List.{take-append-le}
 use Rattle.std.proofs.lemmas.List.Sums.{fold-append}
@@ -21,7 +21,7 @@ pub record IsTold (begun : ℕ) (changes : List Change) (desk : Desk) : Type 0 w
 pub told_first : (begun : ℕ) → IsTold begun [] (new_desk_at begun)
 told_first begun = record { version = omega arith; decks = refl; published = λ publication shown. cc }
 
--- what stays is told as before
+-- what stays is stated as before
 pub told_still : (begun : ℕ) (changes : List Change) (desk next : Desk) → IsTold begun changes desk → IsUnchanged desk next → IsTold begun changes next
 told_still begun changes desk next told still = record {
   version = still.version ∙ told.version;

@@ -122,7 +122,7 @@ carried-still stands (edit ∷ edits) still =
     ap (λ (r : Result ℕ Touched). elim r as (λ x. Result (List Edit) Touched) [ Ok now ↦ in_front (placed now edit) (carried (stands_after edit now stands) edits) | Err touched ↦ Err touched ]) (found-still stands edit still)
     ∙ ap₂ (λ (e : Edit) (r : Result (List Edit) Touched). in_front e r) (placed-still edit) (carried-still (stands_after edit (at_place edit) stands) edits (still-after stands edit still))
 
--- an answer that accepts edits that were carried tells those that were made
+-- an answer that accepts edits that were carried shows those that were made
 pub accepts-made : (name who : List ℕ) (desk : Desk) (deck : DeskDeck) (moved : Result (List Edit) Touched) (made before : ℕ) (edits : List Edit) →
     Carried made before edits ≡ (accept_carried name who desk deck moved).reply → (moved ≡ Ok edits) × ((accept_carried name who desk deck moved).desk ≡ changing.edited name who edits desk)
 accepts-made name who desk deck (Ok told) made before edits e = let same : told ≡ edits = cc in (ap (λ (es : List Edit). Ok es) same, ap (λ (es : List Edit). changing.edited name who es desk) same)

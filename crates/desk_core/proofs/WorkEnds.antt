@@ -21,7 +21,7 @@ idle_stays : (rounds : ℕ) (desk : Desk) → claim desk ≡ answers (Idle desk.
 idle_stays zero desk idle = refl
 idle_stays (suc rounds) desk idle = ap (after_rounds rounds) (ap (λ (a : Answer). after_job a.reply a.desk) idle) ∙ idle_stays rounds desk idle
 
--- the claim after so many rounds tells that this version is published
+-- the claim after so many rounds shows that this version is published
 abbrev Ends : ℕ → Desk → ℕ → Type 0
 Ends rounds desk version = (answer Claim (after_rounds rounds desk)).reply ≡ Idle version
 

@@ -21,7 +21,7 @@ pub batch_finds_its_cards : replies_to (BatchSince M 1 (Remove 1 ∷ Replace 1 (
     ≡ Carried 3 2 (Remove 2 ∷ Replace 2 (codes "*D") ∷ []) ∷ CardsAre 3 (codes "*A" ∷ codes "*D" ∷ []) ∷ []
 batch_finds_its_cards = refl
 
--- of two who change one card the second is told which of those that he saw was changed, and by which version
+-- of two who change one card the second is shown which of those that he saw was changed, and by which version
 pub second_is_refused : replies_to (EditSince M 1 (Replace 1 (codes "*X")) me ∷ EditSince M 1 (Remove 1) me ∷ BatchSince M 2 (Remove 2 ∷ []) me ∷ EditSince M 3 (Remove 2) me ∷ []) at_two
     ≡ Carried 3 2 (Replace 2 (codes "*X") ∷ []) ∷ Refused (TouchedCard 1 3) ∷ Refused (TouchedCard 2 3) ∷ Carried 4 3 (Remove 2 ∷ []) ∷ []
 second_is_refused = refl

@@ -34,7 +34,7 @@ one_job_with_cards = refl
 abbrev told_by : ℕ → History
 told_by count = reverse (history_of (take count edits_and_results) new_desk)
 
--- what the history tells: before any job, with two edits since the first, after the loss, and all that was accepted and handed out
+-- what the history shows: before any job, with two edits since the first, after the loss, and all that was accepted and handed out
 pub edits_since : since_job 1 (told_by 1) ≡ None
 edits_since = refl
 

@@ -19,7 +19,7 @@ pub taken_back : replies_to (Undo M 2 me ∷ Cards M ∷ Undo M 4 me ∷ Cards M
     ∷ Carried 6 5 (Remove 1 ∷ []) ∷ CardsAre 6 (codes "*Y" ∷ []) ∷ []
 taken_back = refl
 
--- nothing that another changed is undone: the card is told by its number at the version that is taken back, with the version that changed it
+-- nothing that another changed is undone: the card is known by its number at the version that is taken back, with the version that changed it
 pub others_stay : replies_to (EditDeck M 3 (Replace 2 (codes "*Z")) me ∷ Undo M 2 me ∷ Undo M 3 me ∷ Undo M 4 me ∷ Undo M 2 me ∷ []) at_three
     ≡ Changed 4 ∷ Refused (TouchedCard 1 4) ∷ Carried 5 4 (Remove 1 ∷ []) ∷ Carried 6 5 (Replace 1 (codes "*Y") ∷ []) ∷ Refused (TouchedCard 1 4) ∷ []
 others_stay = refl

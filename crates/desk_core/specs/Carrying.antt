@@ -26,7 +26,7 @@ cards_of version deck = edited_by (backs_of (edits_behind version deck)) deck.ca
 abbrev pub carried_since : ℕ → List Edit → DeskDeck → Result (List Edit) Touched
 carried_since seen edits deck = carried (seen_before (made_in (edits_behind seen deck))) edits
 
--- the refusal that tells which edit of several does not apply, and why
+-- the refusal that shows which edit of several does not apply, and why
 abbrev pub bad_edit : ℕ × EditFault → Refusal
 bad_edit fault = BadEdit fault.0 fault.1
 
@@ -59,7 +59,7 @@ batch_since_of name seen edits by desk (Some deck) = unless (against_carry seen 
 abbrev pub batch_since : List ℕ → ℕ → List Edit → List ℕ → Desk → Answer
 batch_since name seen edits by desk = batch_since_of name seen edits by desk (deck_named name desk)
 
--- a refusal of one edit alone, which tells no number
+-- a refusal of one edit alone, which shows no number
 abbrev pub alone : Refusal → Refusal
 alone (BadEdit number fault) = refusal_of fault
 alone refusal = refusal

@@ -37,7 +37,7 @@ added deck desk = record desk { version = desk.version + 1; decks = desk.decks +
 abbrev pub add_deck : Deck → Desk → Answer
 add_deck deck desk = unless (against_add deck desk) desk (accepted (added deck desk))
 
--- what speaks against a deck that is put, by who has seen this version of the one of its name: 0 tells that there was none
+-- what speaks against a deck that is put, by who has seen this version of the one of its name: 0 means that there was none
 abbrev pub against_put : ℕ → Deck → Desk → Option DeskDeck → Option Refusal
 against_put seen new desk None = if seen == 0 then against_add new desk else Some NoDeck
 against_put seen new desk (Some deck) = first_cause (against_seen seen deck ∷ when (nat_lt E.most_cards (length new.cards)) DeckFull ∷ against_next desk.version ∷ [])
@@ -84,7 +84,7 @@ edited_deck version by edits deck = record deck { cards = E.edited_by edits deck
 abbrev pub edited : List ℕ → List ℕ → List E.Edit → Desk → Desk
 edited name by edits desk = with_deck name (edited_deck (desk.version + 1) by edits) (record desk { version = desk.version + 1 })
 
--- the refusal that tells the fault of an edit
+-- the refusal that shows the fault of an edit
 abbrev pub refusal_of : E.EditFault → Refusal
 refusal_of E.NoSuchCard = NoSuchCard
 refusal_of E.DeckFull = DeckFull

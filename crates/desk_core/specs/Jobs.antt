@@ -1,4 +1,4 @@
--- Which edits a deck job has to carry, told by the history before it (ours). Histories are read newest first here.
+-- Which edits a deck job has to carry, known by the history before it (ours). Histories are read newest first here.
 use Rattle.std.specs.Prelude.{◌≡◌, ◌⊎◌, ⊤, ℕ, ◌==◌, List, [], ◌∷◌, ◌++◌, Option, Some, None, option_map, unwrap_or, if◌then◌else◌}
 use Rattle.std.specs.Option.{option_or}
 use Rattle.desk_core.specs.Joins.Language.{same_text}

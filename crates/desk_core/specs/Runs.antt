@@ -17,12 +17,12 @@ History = List (Entry Call Reply)
 abbrev pub Runs : ℕ → History → Desk → Type 0
 Runs begun history desk = Leads Steps (new_desk_at begun) history desk
 
--- the edits as they were carried, where a reply tells them
+-- the edits as they were carried, where a reply shows them
 abbrev pub carried_in : Reply → Option (List Edit)
 carried_in (Carried version seen edits) = Some edits
 carried_in _ = None
 
--- the change that a call asks for; where its edits are carried, with those that the reply tells
+-- the change that a call asks for; where its edits are carried, with those that the reply shows
 abbrev pub change_asked : Call → Reply → Option Change
 change_asked (AddDeck deck) reply = Some (Added deck)
 change_asked (PutDeck deck seen) reply = Some (Put deck)

@@ -38,7 +38,7 @@ abbrev pub is_drop : Call → Bool
 is_drop (DropDeck name seen) = true
 is_drop _ = false
 
--- whether a reply tells of something that has to be stored or copied first
+-- whether a reply shows something that has to be stored or copied first
 abbrev pub is_made : Reply → Bool
 is_made (Changed version) = true
 is_made (Carried version seen edits) = true

@@ -1,4 +1,4 @@
-//! What is told of a change that is made.
+//! What is reported of a change that is made.
 ghost use Rattle.std.specs.Prelude.{◌≡◌};
 
 use crate::stored_deck::StoredDeck;

@@ -18,12 +18,12 @@ pub struct Done {
     pub object: ListedObject,
 }
 
-/// What may be asked of a desk. Who changes a deck tells its name and the version of it that was seen.
+/// What may be asked of a desk. Who changes a deck gives its name and the version of it that was seen.
 #[derive(Drop)]
 pub enum Call {
     /// A new deck.
     AddDeck(NewDeck),
-    /// A deck in the place of the one of its name, or a new one where none was seen, which 0 tells.
+    /// A deck in the place of the one of its name, or a new one where none was seen, which 0 means.
     PutDeck {
         deck: NewDeck,
         seen: u64,

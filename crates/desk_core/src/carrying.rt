@@ -96,7 +96,7 @@ impl Desk {
         self.decks.deck_at(place).version()
     }
 
-    /// Carries edits over what others changed in the deck at a place since their sender looked, or tells
+    /// Carries edits over what others changed in the deck at a place since their sender looked, or returns
     /// what speaks against them.
     pub(crate) fn carry_at(&self, place: usize, seen: u64, edits: &mut [Edit]) -> Option<Refusal>
         requires { place < length self.now.decks }
@@ -117,7 +117,7 @@ impl Desk {
     }
 }
 
-/// The refusal of one edit alone, which tells no number.
+/// The refusal of one edit alone, which shows no number.
 fn alone(refusal: Refusal) -> Refusal
     ensures { result ≡ alone refusal }
 {

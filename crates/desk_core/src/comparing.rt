@@ -71,7 +71,7 @@ fn all_decks_same(objects: &[ListedObject], decks: &[StoredDeck]) -> bool
     true
 }
 
-/// Whether an object keeps the section that another one of the same deck keeps, told by the places where the two
+/// Whether an object keeps the section that another one of the same deck keeps, known by the places where the two
 /// stood. It saves work, and nothing rests on it: a link looks at the section itself.
 pub(crate) fn is_placed_alike(object: &ListedObject, other: &ListedObject) -> bool {
     let Some(offered) = other.section() else {

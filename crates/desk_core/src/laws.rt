@@ -51,7 +51,7 @@ pub fn jobs_once()
 
 /// Work is handed out: on a desk of which no lease is out, a claim gives a job of a deck where one is
 /// behind, and else the link job or Idle, unless there is no memory for the job or no number for its
-/// lease. So a claim that is answered AllOut tells that a lease is out.
+/// lease. So a claim that is answered AllOut shows that a lease is out.
 pub fn work_is_handed_out()
     ensures deck { (desk next : Desk) (reply : Reply) →
         Steps desk Claim reply next → has_leases desk ≡ false → has_work desk ≡ true → hands_a_deck reply ≡ true }
@@ -96,7 +96,7 @@ pub fn undo_takes_back()
 /// kept, the cards of now, with what is kept behind a version taken back, are those that the deck had at that
 /// version; and from these the edits behind it led to the cards of now, each kept with what takes it back. So
 /// the cards that a desk shows of a version, those of now with the edits beside them made, are those that the
-/// deck had, and the changes that it tells led from there to the cards of now.
+/// deck had, and the changes that it shows led from there to the cards of now.
 pub fn kept_changes()
     ensures cards { (begun : ℕ) (history : History) (desk : Desk) (name : List ℕ) (deck : DeskDeck) (version : ℕ) →
         Runs begun history desk → deck_named name desk ≡ Some deck → deck.past.since ≤ version →

@@ -77,7 +77,7 @@ pub enum Refusal {
     /// A batch has no edit, or more than 100.
     #[error("a batch has 1 to 100 edits")]
     BatchSize,
-    /// No record can be written now, so no change may be made. A desk never tells this; who keeps a record
+    /// No record can be written now, so no change may be made. A desk never answers this; a door that keeps a record
     /// of its changes does, and does not ask the desk.
     #[error("no record can be written now")]
     NotKept,

@@ -230,7 +230,7 @@ impl StoredDeck {
         self.past.backs_at(version)
     }
 
-    /// Carries edits over what others changed since a version that their sender saw, or tells what speaks
+    /// Carries edits over what others changed since a version that their sender saw, or returns what speaks
     /// against them: they have to apply to the cards of that version, and then to those of now.
     pub(crate) fn carry(&self, seen: u64, edits: &mut [Edit]) -> Option<Refusal>
         requires { length edits.old ≤ 100 }
@@ -434,7 +434,7 @@ impl StoredDeck {
         Ok(DeckCards::shared(self.cards.share(alloc)?))
     }
 
-    /// Its cards, to be told.
+    /// Its cards, to be shown.
     pub(crate) fn told_cards(&self, alloc: Global) -> Result<ToldCards, AllocError>
         ensures { IfOk result (λ cards. cards ≡ self.now.cards) }
     {

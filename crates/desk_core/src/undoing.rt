@@ -14,7 +14,7 @@ use std::array::from_fn;
 
 impl Desk {
     /// The change of the deck that made a version is taken back, as a new change. What takes it back stands
-    /// in room of its own, so that want of memory is told last.
+    /// in room of its own, so that want of memory is reported last.
     pub(crate) fn undo(&mut self, name: &DeckName, version: u64, by: &DeckName) -> Reply
         ensures { MayAnswer self.old (undo name.now version by.now self.old) result self.new }
     {

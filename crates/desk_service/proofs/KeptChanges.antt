@@ -1,4 +1,4 @@
--- What a session with a journal is told as made is kept.
+-- What a session with a journal is reported as made is kept.
 use Rattle.std.proofs.Common.{ℕ, ◌≡◌, List, Bool, true, false, Option, Some, None, IfSome, IsSomeAnd, refl, sym, ap, subst, ◌∙◌}
 use Rattle.cards.specs.declared.edits.Edit.{Edit}
 use Rattle.desk_core.specs.Runs.{accepts}
@@ -25,7 +25,7 @@ module _ {F : Type 0} (has_done : F → List Step → Type 0) where
   own-kept None draft version same kept = absurd kept
   own-kept (Some own) draft version same kept = subst (λ (d : List ℕ). IsKeptAs has_done version d) same kept
 
-  -- whether the record was kept decides what is told
+  -- whether the record was kept decides what is shown
   answered : (P : Type 0) (kept : Bool) (draft : List ℕ) (made version : ℕ) (told : Reply) (between after : SessionEnds) → between.journaled ≡ true → KeepsRecord has_done between made draft kept after → told ≡ told_of made kept →
       version_told told ≡ Some version → (made ≡ version → IsKeptAs has_done made draft → P) → P
   answered P true draft made version told between after journaled keeps is tells then =
@@ -34,7 +34,7 @@ module _ {F : Type 0} (has_done : F → List Step → Type 0) where
       then same (keeps.1 journaled)
   answered P false draft made version told between after journaled keeps is tells then = let none : Some version ≡ None = sym tells ∙ ap version_told is in cc
 
-  -- a reply that tells no change
+  -- a reply that shows no change
   untold : (P : Type 0) (what reply : Reply) (version : ℕ) → what ≡ reply → version_told reply ≡ None → version_told what ≡ Some version → P
   untold P what reply version is none tells = let not : Some version ≡ None = sym tells ∙ ap version_told is ∙ none in cc
 

@@ -22,7 +22,7 @@ use Rattle.journal.specs.Replaying.{call_of}
 use Rattle.kept_desk.specs.EndsRelations.{EndsRelations}
 use Rattle.desk_service.specs.Company.{AreListed}
 
--- whether there is a journal, the number of the session, the version of its latest change that was told as not kept, and the name by which it asks for changes
+-- whether there is a journal, the number of the session, the version of its latest change that was reported as not kept, and the name by which it asks for changes
 pub record SessionEnds : Type 0 where
   pub journaled : Bool
   pub session : ℕ
@@ -33,12 +33,12 @@ pub record SessionEnds : Type 0 where
 abbrev pub asking_name : SessionEnds → List ℕ
 asking_name ends = ends.name
 
--- by this name it asks for changes from now on; or by its number, where it told none
+-- by this name it asks for changes from now on; or by its number, where it gave none
 abbrev pub IsNamed : SessionEnds → Option (List ℕ) → SessionEnds → Type 0
 IsNamed old (Some name) new = new ≡ record old { name = name }
 IsNamed old None new = new ≡ record old { name = session_name old.session }
 
--- what is told of a journal behind a write, by whether the one before failed, and whether this one did: each time only that it is otherwise than before
+-- what is reported of a journal behind a write, by whether the one before failed, and whether this one did: each time only that it is otherwise than before
 abbrev pub news_of : Bool → Bool → Option News
 news_of false true = Some Fails
 news_of true false = Some GoesOn
@@ -58,17 +58,17 @@ module _ {F : Type 0} (has_done : F → List Step → Type 0) where
   abbrev pub IsChangeKept : ℕ → List ℕ → Change → Type 0
   IsChangeKept version name change = (moment : List ℕ) × IsKeptAs has_done version (text_behind_version moment name change)
 
-  -- for what was told as not kept some record is kept now
+  -- for what was reported as not kept some record is kept now
   abbrev pub IsMadeUp : Option ℕ → Type 0
   IsMadeUp None = ⊤
   IsMadeUp (Some version) = IsKept has_done version
 
-  -- what is answered where a change is asked for: its record, once what the session was told as not kept is kept; or a refusal, which tells want of memory of no drop
+  -- what is answered where a change is asked for: its record, once what was reported to the session as not kept is kept; or a refusal, which reports want of memory of no drop
   abbrev pub BeginsRecord : SessionEnds → Change → Result (List ℕ) Refusal → SessionEnds → Type 0
   BeginsRecord old change (Ok draft) new = (new ≡ old) × (old.journaled ≡ true → IsMadeUp old.missed × IsDraft old.name change draft)
   BeginsRecord old change (Err refusal) new = (new ≡ old) × ((refusal ≡ NotKept) ⊎ ((refusal ≡ OutOfMemory) × (takes_memory change ≡ true)))
 
-  -- what is answered where a change is asked for whose record is known once it is made: the name of the session, once what it was told as not kept is kept; or a refusal
+  -- what is answered where a change is asked for whose record is known once it is made: the name of the session, once what was reported to it as not kept is kept; or a refusal
   abbrev pub OpensRecord : SessionEnds → Result Stamp Refusal → SessionEnds → Type 0
   OpensRecord old (Ok stamp) new = (new ≡ old) × (old.journaled ≡ true → IsMadeUp old.missed × (stamp.by ≡ old.name))
   OpensRecord old (Err refusal) new = (new ≡ old) × (refusal ≡ NotKept)

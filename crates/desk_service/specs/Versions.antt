@@ -23,20 +23,20 @@ abbrev pub holds_noted : Option Mark → Mark → Bool
 holds_noted None front = true
 holds_noted (Some noted) front = is_same_mark noted front
 
--- whether a journal is the latest of its folder: the versions that were told last are in a journal of its name, and it holds what is noted
+-- whether a journal is the latest of its folder: the versions that were given out last are in a journal of its name, and it holds what is noted
 abbrev pub is_latest : Bool → Option Mark → Mark → Bool
 is_latest named noted front = named && holds_noted noted front
 
--- behind which version a service goes on: its journal's last one, where that journal is the latest of the folder; and else none that was told there, since all of those are below the bound
+-- behind which version a service goes on: its journal's last one, where that journal is the latest of the folder; and else none that was given out there, since all of those are below the bound
 abbrev pub begun_behind : ℕ → ℕ → Bool → ℕ
 begun_behind last bound true = last
 begun_behind last bound false = max last bound
 
--- the bound of the versions that a service tells which goes on behind one
+-- the bound of the versions that a service gives out which goes on behind one
 abbrev pub next_bound : ℕ → ℕ
 next_bound begun = min (begun + 1000000000000) (2 ^ 64 - 1)
 
--- whether a bound is far enough for a service that goes on behind a version: half of the versions that it may tell are left
+-- whether a bound is far enough for a service that goes on behind a version: half of the versions that it may give out are left
 abbrev pub is_far : ℕ → ℕ → Bool
 is_far bound begun = nat_le (min (begun + 500000000000) (2 ^ 64 - 1)) bound
 
@@ -60,7 +60,7 @@ noted_of seen journal = if is_of seen journal then seen.noted else None
 
 -- ---- the text of a folder, as it is written
 
--- the line of a service that goes on behind a version, with the name of its journal, where all versions that were told are below a bound: no bound is taken back
+-- the line of a service that goes on behind a version, with the name of its journal, where all versions that were given out are below a bound: no bound is taken back
 abbrev pub versions_line : ℕ → List ℕ → ℕ → List ℕ
 versions_line bound name begun = decimal (max bound (next_bound begun)) ++ (codes " " ++ (name ++ codes "\n"))
 

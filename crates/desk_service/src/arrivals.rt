@@ -1,4 +1,4 @@
-//! Clients that come: each gets a session that is free, or one that may ask alone, or is told that there is none.
+//! Clients that come: each gets a session that is free, or one that may ask alone, or is answered that there is none.
 //!
 //! Who finds no session free waits for one for a moment, beside others who do, so that a client that comes just
 //! as a session ends gets it, and none waits for those in front of it. Where too many wait, who comes then is
@@ -50,8 +50,8 @@ enum Coming {
     Fault,
 }
 
-/// Tells a client that all sessions are taken, and closes the connection. Nothing waits for the client:
-/// what is told finds room in a new connection.
+/// Reports to a client that all sessions are taken, and closes the connection. Nothing waits for the client:
+/// the line finds room in a new connection.
 fn turn_away(stream: &TcpStream) {
     let _ = stream.set_write_timeout(Some(Duration::from_millis(WAIT)));
     let _ = write_reply(&mut Counted::new(stream), &Reply::Refused(Refusal::Busy));
@@ -179,7 +179,7 @@ fn turn_all_away(lobby: &mut Lobby<TcpStream>) {
     }
 }
 
-/// Accepts connections and gives each to a session that waits for one. A client that finds none is told
+/// Accepts connections and gives each to a session that waits for one. A client that finds none is answered
 /// so within a moment, and its connection is closed. With a number it ends after so many that were taken or
 /// could not be accepted, and else with the first that comes once the end of the service is asked for; a
 /// service that can't accept sleeps for a moment, so that a fault that stays costs nothing.

@@ -36,7 +36,7 @@ pub(crate) fn rights_at(editors: usize, number: usize) -> Rights
     }
 }
 
-/// The name of a session: the one of this number tells this.
+/// The name of a session: the one of this number gives this.
 fn seated<'a>(
     at: usize,
     number: usize,
@@ -85,14 +85,14 @@ impl Company {
         Ok(Company { editors, seats })
     }
 
-    /// The session of this number is connected, and has told no name.
+    /// The session of this number is connected, and has given no name.
     pub(crate) fn enter(&mut self, number: usize)
         ensures { self.new ≡ record self.old { seats = set self.old.seats number (Some (session_name number)) } }
     {
         self.note(number, session_name(number as u64));
     }
 
-    /// The session of this number has told this name.
+    /// The session of this number has given this name.
     pub(crate) fn note(&mut self, number: usize, name: DeckName)
         ensures { self.new ≡ record self.old { seats = set self.old.seats number (Some name) } }
     {
@@ -110,7 +110,7 @@ impl Company {
         }
     }
 
-    /// Who is connected, in the order of the numbers; the session of this number tells this name.
+    /// Who is connected, in the order of the numbers; the session of this number gives this name.
     pub(crate) fn listed(
         &self,
         alloc: Global,

@@ -69,11 +69,11 @@ pub(crate) fn try_path(alloc: Global, folder: &str) -> Result<(), ServeFault> {
     }
 }
 
-/// Somebody at the control connection who has said nothing yet.
+/// The operator at the control connection, who has said nothing yet.
 #[derive(Drop)]
-struct Keeper(UnixStream);
+struct Operator(UnixStream);
 
-impl Speak for Keeper {
+impl Speak for Operator {
     fn hear(&self) -> Heard {
         let mut line = [0; 8];
         let mut input = &self.0;
@@ -89,19 +89,19 @@ impl Speak for Keeper {
     }
 }
 
-/// Tells one line over the connection.
+/// Reports one line over the connection.
 fn tell(stream: &UnixStream, line: &[u8]) {
     let mut output = stream;
     let _ = output.write_all(line);
 }
 
 /// Takes who connects; while somebody has said nothing yet it does not wait for that.
-fn let_keeper_in<R: Wait + Clock>(rt: &R, listener: &UnixListener, silent: &mut Lobby<Keeper>) {
+fn let_operator_in<R: Wait + Clock>(rt: &R, listener: &UnixListener, silent: &mut Lobby<Operator>) {
     let _ = listener.set_nonblocking(!silent.is_empty());
     match listener.accept() {
         Ok((stream, _)) => {
             let _ = stream.set_nonblocking(true);
-            silent.crowd_in(Guest::new(rt, Keeper(stream)));
+            silent.crowd_in(Guest::new(rt, Operator(stream)));
         }
         Err(error) if error.kind() == ErrorKind::WouldBlock => {
             let _ = thread::sleep(rt, Duration::from_millis(LOOK));
@@ -148,12 +148,12 @@ impl Control {
     fn asked_by<R: Wait + Clock>(&self, rt: &R, end: &ServiceEnd) -> Option<UnixStream> {
         let mut silent = Lobby::new(self.alloc);
         for _ in rt.forever() {
-            let_keeper_in(rt, &self.listener, &mut silent);
+            let_operator_in(rt, &self.listener, &mut silent);
             if end.is_asked(rt) {
                 return None;
             }
-            if let Some(keeper) = silent.take_speaker(rt, Duration::from_millis(PATIENCE)) {
-                return Some(keeper.0);
+            if let Some(operator) = silent.take_speaker(rt, Duration::from_millis(PATIENCE)) {
+                return Some(operator.0);
             }
         }
         None

@@ -29,10 +29,10 @@ pub enum ServeFault {
     JournalTaken,
     /// The journal can't be read or written.
     NoJournal,
-    /// This record of the journal, counted from 1, is none, and not the last; or it tells a change that the
+    /// This record of the journal, counted from 1, is none, and not the last; or it shows a change that the
     /// desk does not make again. It begins at this byte.
     BadJournal { number: u64, begin: u64 },
-    /// What the folder tells of its versions is no line of a number and a journal, or can't be read.
+    /// What the folder shows of its versions is no line of a number and a journal, or can't be read.
     BadVersions,
 }
 

@@ -3,10 +3,10 @@
 //! | Who | What |
 //! |---|---|
 //! | a session whose change was made | puts its record into the queue; writes where the next record is there and nobody writes, and else sleeps |
-//! | who writes | takes a copy of all records that may go out, leaves the queue to others, writes and syncs once, and tells those who wait |
+//! | who writes | takes a copy of all records that may go out, leaves the queue to others, writes and syncs once, and wakes those who wait |
 //! | a session that wants to change | is refused where a record was given up, unless that can be written now |
 //!
-//! That records can't be written is told on standard error once, and once that they can be again. Locks tell
+//! That records can't be written is reported on standard error once, and once that they can be again. Locks show
 //! contracts nothing of what they hold, so a session looks whether what was kept is its own record before it
 //! says so.
 ghost use Rattle.std.specs.Prelude.{◌≡◌, true, false, is_none, IfOk, IsSomeAnd};
@@ -21,7 +21,7 @@ use std::marker::Model;
 use std::sync::{Condvar, Mutex, MutexGuard, Wait};
 use std::time::{Clock, SystemTime, UNIX_EPOCH};
 
-/// What is told of a journal on standard error.
+/// What is reported of a journal on standard error.
 #[derive(Clone, Copy)]
 enum News {
     /// It can't be written, as it could before.
@@ -30,7 +30,7 @@ enum News {
     GoesOn,
 }
 
-/// What is told behind a write, by whether the one before failed, and whether this one did.
+/// What is shown behind a write, by whether the one before failed, and whether this one did.
 fn news_of(failed: bool, fails: bool) -> Option<News>
     ensures { result ≡ news_of failed fails }
 {
@@ -41,11 +41,11 @@ fn news_of(failed: bool, fails: bool) -> Option<News>
     }
 }
 
-/// Tells it.
+/// Reports it.
 fn tell_news<R: Eprint>(rt: &R, news: News) {
     let _ = match news {
         News::Fails => eprintln!(rt;
-            "compass: the journal can't be written, as on a full disk; changes are told as UNKEPT, or refused as NotKept, until it can"
+            "compass: the journal can't be written, as on a full disk; changes are answered UNKEPT, or refused as NotKept, until it can"
         ),
         News::GoesOn => eprintln!(rt;
             "compass: the journal can be written again; all changes up to now are kept"
@@ -155,7 +155,7 @@ impl<F: RecordsFile + Drop> Journal<F> {
         self.file.lock(rt).append(batch)
     }
 
-    /// Writes what may go out of the queue, tells those who wait, and then what is news of the journal: nobody
+    /// Writes what may go out of the queue, wakes those who wait, and then what is news of the journal: nobody
     /// waits for standard error but this one.
     fn write<'a, R: Wait + Eprint>(
         &'a self,

@@ -12,7 +12,7 @@ ghost use Rattle.journal.specs.declared.marks.Mark.{Mark};
 use journal::RecordsFile;
 use session_line::Calls;
 
-/// Where there is a journal, a change is told as made with a version only where the desk made it with that
+/// Where there is a journal, a change is reported as made with a version only where the desk made it with that
 /// version, and the file of the journal has kept the record of just this change, with this version and the name
 /// of who asked for it, and all records before it: whatever desk makes the changes, and whatever file has the
 /// journal.

@@ -16,18 +16,18 @@
 //! bell of their own. When the last session has ended no bell can come any more, which ends the workers.
 //!
 //! A session that waits for a version asks for the status, and sleeps where that does not show it; it holds no
-//! turn and no worker meanwhile. A worker tells of each link that the desk took from it, behind the delivery,
+//! turn and no worker meanwhile. A worker reports each link that the desk took from it, behind the delivery,
 //! and so wakes who waits; then the session asks once more. So do a minute, and the end of the service.
 //!
 //! A client that goes away, sends a line that is too long or never ends, or sends what is no command,
-//! ends its session or is told so, and nothing else; so does one that sends nothing for longer than it may
+//! ends its session or is answered so, and nothing else; so does one that sends nothing for longer than it may
 //! be idle, takes longer than half a minute for a line that has begun, or takes nothing of a reply for as long. A session that begins
 //! with a request of HTTP, or with sixteen lines that are no commands, ends there. A client that finds all
-//! sessions taken for a fifth of a second is told `NO Busy`. A bell that finds no memory is not rung; the change stands, and is
+//! sessions taken for a fifth of a second is answered `NO Busy`. A bell that finds no memory is not rung; the change stands, and is
 //! assembled after the next one. A job that a worker gave up for want of memory it claims again by itself,
 //! at growing intervals.
 //!
-//! A change is told as made once its record is in the journal, and the system has kept it. A session whose
+//! A change is reported as made once its record is in the journal, and the system has kept it. A session whose
 //! change the desk made puts the record into a queue; one of those that wait writes for all whose turn it
 //! is, in the order of their versions, and syncs once. A start makes the changes again, and goes on behind
 //! the last version that the folder saw.

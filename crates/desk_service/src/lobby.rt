@@ -141,7 +141,7 @@ impl<S: Speak + Drop> Lobby<S> {
         None
     }
 
-    /// Takes out the first who has said something. Who is gone, or has been silent for so long, is let go;
+    /// Takes out the first who has said something. Who is gone, or has been silent for so long, loses its connection;
     /// the others stay in their order.
     pub(crate) fn take_speaker<R: Clock>(&mut self, rt: &R, most: Duration) -> Option<S> {
         let mut speaker = None;

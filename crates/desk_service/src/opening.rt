@@ -259,7 +259,7 @@ fn open_cut<R: Files>(rt: &R, path: &str, length: u64) -> Result<SystemFile<R::F
     }
 }
 
-/// Tells on standard error what was cut off of a journal of so many bytes, if anything was.
+/// Reports on standard error what was cut off of a journal of so many bytes, if anything was.
 fn tell_cut<R: Eprint>(rt: &R, path: &str, length: u64, kept: u64) {
     if kept < length {
         let count = length - kept;
@@ -269,12 +269,12 @@ fn tell_cut<R: Eprint>(rt: &R, path: &str, length: u64, kept: u64) {
     }
 }
 
-/// Tells on standard error behind which version a service goes on, where its journal is not the latest of the
+/// Reports on standard error behind which version a service goes on, where its journal is not the latest of the
 /// folder.
 fn tell_begun<R: Eprint>(rt: &R, path: &str, behind: Option<u64>) {
     if let Some(version) = behind {
         let _ = eprintln!(rt;
-            "compass: {path} is not the latest journal of the folder; it was begun anew with its decks, and the versions go on behind {version}"
+            "compass: {path} is not the latest journal of the folder; it was begun anew with its decks, and the versions go on after {version}"
         );
     }
 }
@@ -381,7 +381,7 @@ where
 }
 
 /// What a service of these settings begins with in a folder that has seen this, where so many threads change
-/// decks: the folder has kept the versions that it may tell, and the journal, if there is one, is taken and
+/// decks: the folder has kept the versions that it may give out, and the journal, if there is one, is taken and
 /// has a place for each of them.
 pub(crate) fn open<R: Files<File = File> + Eprint + Clock>(
     rt: &R,

@@ -35,7 +35,7 @@ pub(crate) trait Serve: Send + Drop {
     fn serve(self);
 }
 
-/// What a worker works with: a seat of the office, the end of the bell that it hears, and where it tells
+/// What a worker works with: a seat of the office, the end of the bell that it hears, and where it reports
 /// of what it published.
 #[derive(Drop)]
 pub(crate) struct WorkerPlace<'a, R> {

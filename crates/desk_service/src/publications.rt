@@ -56,7 +56,7 @@ impl Publications {
         }
     }
 
-    /// A publication of this version was delivered: who waits wakes. Two deliveries may be told in the
+    /// A publication of this version was delivered: who waits wakes. Two deliveries may be shown in the
     /// other order.
     fn deliver<R: Wait>(&self, rt: &R, version: u64) {
         let mut known = self.known.lock(rt);

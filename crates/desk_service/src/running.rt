@@ -51,7 +51,7 @@ fn port_of(listener: &TcpListener, port: u16) -> u16 {
     }
 }
 
-/// Tells on standard error that the service listens: where, for which folder, and with how many
+/// Reports on standard error that the service listens: where, for which folder, and with how many
 /// workers and sessions.
 fn announce<R: Eprint>(rt: &R, address: SocketAddr, settings: &Settings<'_>) {
     let Settings {
@@ -65,14 +65,14 @@ fn announce<R: Eprint>(rt: &R, address: SocketAddr, settings: &Settings<'_>) {
     );
 }
 
-/// Tells on standard error how many further connections may ask, if any may.
+/// Reports on standard error how many further connections may ask, if any may.
 fn announce_readers<R: Eprint>(rt: &R, readers: usize) {
     if readers > 0 {
         let _ = eprintln!(rt; "compass: up to {readers} connections more may read");
     }
 }
 
-/// Tells on standard error where the page is, if there is one.
+/// Reports on standard error where the page is, if there is one.
 fn announce_page<R: Eprint>(rt: &R, page: Option<u16>) {
     if let Some(port) = page {
         let _ = eprintln!(rt; "compass: the page is at http://127.0.0.1:{port}/");
@@ -101,7 +101,7 @@ struct Receiving<'a, R> {
     end: &'a ServiceEnd,
 }
 
-/// It tells that the service listens, and receives clients to the end of the service.
+/// It reports that the service listens, and receives clients to the end of the service.
 impl<R: Wait + Clock + Eprint + Sync> Serve for Receiving<'_, R> {
     fn serve(self) {
         announce(self.rt, local_address(self.port), self.settings);
@@ -401,7 +401,7 @@ where
     )
 }
 
-/// What a service begins with in its folder, which has kept the versions that it may tell, where so many
+/// What a service begins with in its folder, which has kept the versions that it may give out, where so many
 /// threads change decks.
 fn open_in_folder<R: Files<File = File> + Eprint + Clock>(
     rt: &R,
@@ -486,7 +486,7 @@ where
 /// come in this order: want of memory for the name of a file, `NoFolder`, `FolderTaken`, `NoLocks`, `LongRoot`,
 /// `FewFiles`, the journal's `FolderTaken` and `JournalTaken`, `SocketFault`, `ReadFault`,
 /// `PageFault`, then those of versions and journal, and want of memory. A port that can't be listened on is
-/// the one fault that is told of sockets: later ones end a session at most. It returns without a fault where
+/// the one fault that is shown of sockets: later ones end a session at most. It returns without a fault where
 /// `STOP` is said at the control connection of the folder, and with `once` as `serve_on`, where there is no
 /// page. A thread that hangs in the system holds the return up.
 pub fn serve<'a, R>(

@@ -96,12 +96,12 @@ impl ServiceEnd {
         }
     }
 
-    /// The session of this number has told this name.
+    /// The session of this number has given this name.
     pub(crate) fn note<R: Wait>(&self, rt: &R, session: usize, name: &DeckName) {
         self.known.lock(rt).company.note(session, name.copied());
     }
 
-    /// The sessions that are connected; the one of this number tells this name.
+    /// The sessions that are connected; the one of this number gives this name.
     pub(crate) fn list<R: Wait>(
         &self,
         rt: &R,

@@ -25,14 +25,14 @@ pub(crate) struct Others<'a> {
     pub(crate) bells: Sender<Bell>,
     /// Who is connected, and what is published.
     pub(crate) end: &'a ServiceEnd,
-    /// Whether it may sleep until a version is published; it is told at once that its time is up where it may not.
+    /// Whether it may sleep until a version is published; it is answered at once that its time is up where it may not.
     pub(crate) may_sleep: bool,
 }
 
 /// The ends that a session has at its service; without a journal all changes pass, and none is kept. Contracts see
-/// whether there is a journal, the number of the session, the version of its latest change that was told as not
+/// whether there is a journal, the number of the session, the version of its latest change that was reported as not
 /// kept: until that record is kept, it makes no other; and the name by which it asks for changes: the one that
-/// it told, or its number. They see nothing of bells, sleeps and other sessions.
+/// it gave, or its number. They see nothing of bells, sleeps and other sessions.
 #[derive(Drop)]
 pub struct SessionEnds<'a, R, F: RecordsFile> {
     rt: &'a R,

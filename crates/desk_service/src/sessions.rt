@@ -59,7 +59,7 @@ pub(crate) fn send_on<W: Write>(output: &mut Counted<W>, outcome: Outcome) -> bo
 }
 
 /// Serves one line, and sends on what the writer keeps back. A fault of the reader or the writer is
-/// told only where its count rose.
+/// reported only where its count rose.
 fn serve_line<R: Read, W: Write, C: Calls, S: Shelf>(
     alloc: Global,
     keys: RandomState,
@@ -106,7 +106,7 @@ fn serve_lines<R: Read, W: Write, C: Calls, S: Shelf>(
     Ending::Full
 }
 
-/// Serves a session, which has told no name yet, and may do this: its lines one after the other, each once and each reply
+/// Serves a session, which has given no name yet, and may do this: its lines one after the other, each once and each reply
 /// sent on before the next line is read, up to the first that ends it, or to the millionth behind the first
 /// command. One whose first line is a request of HTTP ends there: that line is not executed, and has no
 /// reply. One that begins with sixteen lines that are no commands ends behind these. A session ends by a fault

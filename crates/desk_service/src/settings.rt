@@ -13,11 +13,11 @@ pub enum Journaling<'a> {
     At(&'a str),
 }
 
-/// The journal of a folder, unless another file is told.
+/// The journal of a folder, unless another file is named.
 pub(crate) const JOURNAL: &str = "beskloun.journal";
 
 impl<'a> Journaling<'a> {
-    /// By which name a folder tells of the journal.
+    /// The name under which a folder notes the journal.
     pub(crate) fn name(self) -> &'a str
         ensures { result.now ≡ journal_name self.entry }
     {

@@ -1,10 +1,10 @@
-//! The versions that a folder has seen: no version is told twice there of different cards, whatever journal a
+//! The versions that a folder has seen: no version is given out twice there of different cards, whatever journal a
 //! service has, or none.
 //!
-//! The file `.beskloun.versions` has a line with a number and a journal: all versions that were told in the
+//! The file `.beskloun.versions` has a line with a number and a journal: all versions that were given out in the
 //! folder are below the number, and those that the journal has are behind one another. The line behind it
 //! notes how much of that journal is kept: so many bytes, and their check sum. It is written again where it
-//! stands, for the records that are synced together, before any of them is told as kept. A service whose
+//! stands, for the records that are synced together, before any of them is reported as kept. A service whose
 //! journal has this name, and begins with the bytes that are noted, goes on behind its last record; any other
 //! begins at the number. A file that has anything else is damaged, and no service goes on with it.
 ghost use Rattle.std.specs.Prelude.{◌≡◌, ◌++◌, ◌&&◌, IfErr, IfOk, is_some, string_bytes};
@@ -26,7 +26,7 @@ use std::os::fd::AsFd;
 use std::rt::Files;
 use text_ports::Text;
 
-/// How many versions a service may tell before it has to be started again: 10^12.
+/// How many versions a service may give out before it has to be started again: 10^12.
 const BLOCK: u64 = 1_000_000_000_000;
 
 /// The file of a folder's versions.
@@ -35,7 +35,7 @@ pub(crate) const VERSIONS: &str = ".beskloun.versions";
 /// What a folder has seen.
 #[derive(Drop)]
 pub(crate) struct Seen {
-    /// All versions that were told are below this one.
+    /// All versions that were given out are below this one.
     bound: u64,
     /// The journal that has the last of them.
     owner: Text,
@@ -65,7 +65,7 @@ fn is_latest(is_named: bool, noted: Option<Mark>, front: &Mark) -> bool
     is_named && holds_noted(noted, front)
 }
 
-/// Behind which version a service goes on whose journal ends with this one, where all that were told
+/// Behind which version a service goes on whose journal ends with this one, where all that were given out
 /// are below a bound, and whether its journal is the latest of the folder.
 fn begun_behind(last: u64, bound: u64, is_latest: bool) -> u64
     ensures { result ≡ begun_behind last bound is_latest }
@@ -73,7 +73,7 @@ fn begun_behind(last: u64, bound: u64, is_latest: bool) -> u64
     if is_latest { last } else { last.max(bound) }
 }
 
-/// Below which version all of those are that a service tells which goes on behind one.
+/// Below which version all of those are that a service gives out which goes on behind one.
 fn next_bound(begun: u64) -> u64
     ensures { result ≡ next_bound begun }
 {
@@ -81,7 +81,7 @@ fn next_bound(begun: u64) -> u64
 }
 
 /// Whether a bound of versions is far enough for a service that goes on behind one: half of those that it may
-/// tell are left.
+/// give out are left.
 fn is_far(bound: u64, begun: u64) -> bool
     ensures { result ≡ is_far bound begun }
 {
@@ -89,7 +89,7 @@ fn is_far(bound: u64, begun: u64) -> bool
 }
 
 /// The line of a service that goes on behind a version, with a journal of this name, where all versions that
-/// were told are below a bound.
+/// were given out are below a bound.
 fn versions_line(alloc: Global, bound: u64, name: &str, begun: u64) -> Result<String, AllocError>
     ensures { IfOk result (λ line. string_bytes line ≡ versions_line bound name.now begun) }
 {
@@ -223,13 +223,13 @@ impl Seen {
         }
     }
 
-    /// What a folder has seen: nothing where it tells nothing yet.
+    /// What a folder has seen: nothing where it says nothing yet.
     pub(crate) fn read<R: Files>(rt: &R, alloc: Global, folder: &str) -> Result<Seen, ServeFault> {
         let path = versions_path(alloc, folder)?;
         seen_by(alloc, text_at(rt, alloc, path.as_str()))
     }
 
-    /// Whether the last versions that were told are in a journal of this name.
+    /// Whether the last versions that were given out are in a journal of this name.
     fn is_of(&self, journal: Journaling<'_>) -> bool
         ensures { result ≡ is_of self.now journal.entry }
     {
@@ -269,7 +269,7 @@ impl Seen {
         versions_line(alloc, self.bound, journal.name(), begun)
     }
 
-    /// Whether what the folder tells will do for a service of this journal that goes on behind a version.
+    /// Whether what the folder says will do for a service of this journal that goes on behind a version.
     fn has_room(&self, journal: Journaling<'_>, begun: u64) -> bool
         ensures { result ≡ (is_some (noted_of self.now journal.entry) && is_far self.now.bound begun) }
     {

@@ -101,7 +101,7 @@ fn push_outcome(answer: &mut Answer, outcome: &Result<Tally, AsmFault>) {
     answer.number(", status ", u64::from(asm_status(outcome)));
 }
 
-/// Assembles the file by ports: what they have written. Told are the outcome, and how many faults they had.
+/// Assembles the file by ports: what they have written. Shown are the outcome, and how many faults they had.
 fn run_ports(
     answer: &mut Answer,
     reader: FaultyReader<'_>,

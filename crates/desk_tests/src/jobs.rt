@@ -90,7 +90,7 @@ impl Jobs {
     }
 }
 
-/// The call that these words tell.
+/// The call that these words say.
 fn call_of(alloc: Global, word: &str, rest: &str) -> Result<Call, AllocError> {
     match word {
         "giveup" => Ok(Call::GiveUp(number(rest))),
@@ -102,7 +102,7 @@ fn call_of(alloc: Global, word: &str, rest: &str) -> Result<Call, AllocError> {
     }
 }
 
-/// Makes the call that these words tell.
+/// Makes the call that these words say.
 fn make_call(
     alloc: Global,
     desk: &mut Desk,
@@ -127,7 +127,7 @@ pub fn ask<C: Calls>(desk: &mut C, call: Call) -> Reply {
     desk.call(call)
 }
 
-/// Asks a desk, and tells what it answers.
+/// Asks a desk, and returns what it answers.
 fn push_asked(desk: &mut Desk, call: Call, answer: &mut Answer) {
     let reply = ask(desk, call);
     push_reply(answer, &reply);

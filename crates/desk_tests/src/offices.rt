@@ -65,7 +65,7 @@ impl Sequential for Sum {
     }
 }
 
-/// An object that an office is over, as a step tells it.
+/// An object that an office is over, as a step shows it.
 trait Told: Sequential {
     fn tell(&self, answer: &mut Answer);
 }
@@ -159,7 +159,7 @@ fn meet<R: AllocGlobal + Wait>(
     Ok(())
 }
 
-/// Closes an office with all its seats, and tells what it was over.
+/// Closes an office with all its seats, and shows what it was over.
 fn close<T: Told + Drop>(office: Office<T>, seats: SeatList<T>, answer: &mut Answer)
     requires { AreOf office.id seats.items }
 {

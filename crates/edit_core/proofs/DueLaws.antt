@@ -103,7 +103,7 @@ due-code-edited edits own cards made before behind former count now same after t
     within-due-code own made before behind former decks (now - count) apart few same_before same_kind tail (λ front split is agree. within decks front split apart few is agree)
     (λ plan of. let bound = due plan of in omega (arith, bound))
 
--- the same, where the bound is told of other lists that are these cards, and from another count that is this one
+-- the same, where the bound is stated of other lists that are these cards, and from another count that is this one
 pub due-code-object : (edits : List Edit) (own cards made shown items : List Card) (before behind : ℕ) (former : Former) (count start now : ℕ) → own ≡ cards → made ≡ edited_by edits own → AreTaken edits cards before behind →
     own ≡ shown → made ≡ items → start ≡ count → start ≤ now → former.before ≡ before → (former.kind ≡ kind_of_statements (known_in made)) ⊎ (former.tail ≡ 0) → HasTailIfAny (kind_of_statements (known_in made)) own made former.tail (known_in made) →
     ((decks : Edited) (front : List Statement) (split : Split) → StandApart own made before behind decks → decks.before ≤ before → IsUntouched decks front → DoAgree decks split → length split.new_front + 128 < length (known_in made) →

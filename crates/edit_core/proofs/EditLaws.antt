@@ -127,7 +127,7 @@ pub anew-none : (edits : List Edit) (cards : List Card) (count : ℕ) → (lengt
 anew-none edits cards count none =
     subst (λ (es : List Edit). RisesToAnew es cards count count) (sym (nil_from_length edits (eqb-true (length edits) 0 none))) (λ room. own-stay (kind_of_statements (known_in cards)) (known_in cards) [] (known_in cards) _ refl)
 
--- the same of what is bound otherwise, told of the cards of an object
+-- the same of what is bound otherwise, stated of the cards of an object
 pub rebound-edited : (edits : List Edit) (own cards made shown items : List Card) (count start now : ℕ) → own ≡ cards → made ≡ edited_by edits own → own ≡ shown → made ≡ items → start ≡ count → RisesReboundOf shown items start now → RisesToRebound edits cards count now
 rebound-edited edits own cards made shown items count start now same after object value begun rises =
     subst (λ (both : List Card × List Card). let old = known_in both.0 in let new = known_in both.1 in count + length new < 2 ^ 64 → count + count_by (is_rebound (context_from old) (context_from new)) (settled_all (kind_of_statements new) new) ≤ now)

@@ -131,7 +131,7 @@ join-ends old mid new old_count count new_count before behind other_before other
     second : Edited
     second = decks_of mid new count new_count other_before other_behind
 
--- what is due for some edits made at once: a front and an end, told by those of each of them
+-- what is due for some edits made at once: a front and an end, known by those of each of them
 pub record IsDueAtOnce (old new : List Statement) (old_count new_count before behind fronts ends_at between others : ℕ) : Type 0 where
   pub few_old : before + behind ≤ old_count
   pub few_new : before + behind ≤ new_count

@@ -12,7 +12,7 @@ use Rattle.cards.proofs.FaultLaws.{applies-in}
 use Rattle.edit_core.specs.Edited.{front_of, count_behind}
 use Rattle.edit_core.specs.Sums.{DueForEach, fronts_sum, ends_sum, rebound_sum, apart, between_from, cards_between, RisesWithinSum, RisesWithinSumCode}
 
--- an edit and so many others have so many cards between them; whatever edits follow are told of by what these touch
+-- an edit and so many others have so many cards between them; whatever edits follow are known by what these touch
 pub record AreTouched (first : Edit) (others : List Edit) (k count between before behind left : ℕ) : Type 0 where
   pub all : (later : List Edit) → cards_between (first ∷ (take k others ++ later)) count ≡ between + between_from before behind later left
 
@@ -31,7 +31,7 @@ touched-more first others k count between before behind left edit within is so_f
       omega (arith, split, whole);
 }
 
--- told of other numbers that are the same
+-- stated of other numbers that are the same
 pub touched-begin : (first : Edit) (others : List Edit) (count before behind left : ℕ) → before ≡ front_of first → behind ≡ count_behind first count → left ≡ count_after first count → AreTouched first others 0 count 0 before behind left
 touched-begin first others count before behind left b h l = record {
   all = λ later.
@@ -62,7 +62,7 @@ touched-all first others k count between before behind left all so_far =
     let same = ap (λ (l : List Edit). cards_between (first ∷ l) count) (append-nil (take k others) ∙ take_all k others all) in
     omega (arith, whole, same)
 
--- what is told of some edits and of others behind them
+-- what is stated of some edits and of others behind them
 record IsTold (some others : List Edit) (cards : List Card) (each : DueForEach (some ++ others) cards) : Type 0 where
   one : DueForEach some cards
   two : DueForEach others (edited_by some cards)

@@ -227,7 +227,7 @@ near-first first others near count few =
     let same = ap (λ (n : ℕ). cards_between (take n (first ∷ others)) count) one in
     omega (arith, few, same)
 
--- what the first of some edits count, told of the list that they are cut off as
+-- what the first of some edits count, stated of the list that they are cut off as
 pub cut-counts : (edits first : List Edit) (count : ℕ) (is_spent : Bool) (cards : List Card) (old new : Counts) → first ≡ take count edits → against_all edits is_spent cards ≡ None →
     0 < count → count ≤ length edits → cards_between (take count edits) (length cards) ≤ 128 * (count - 1) →
     (against_all first is_spent cards ≡ None → RisesWithinSum (128 + cards_between first (length cards)) first cards old.sized new.sized) →

@@ -20,7 +20,7 @@ use Rattle.edit_core.proofs.EndLaws.{apart-one}
 use Rattle.edit_core.proofs.JoinLaws.{HaveCards}
 use Rattle.edit_core.proofs.JoinedEdits.{decks_of, front-ordered, join, IsDueAtOnce}
 
--- the numbers that are told of edits may be told otherwise
+-- the numbers that are stated of edits may be stated otherwise
 told-otherwise : (old new : List Statement) (old_count new_count before behind fronts ends between others f e b o : ℕ) → fronts ≡ f → ends ≡ e → between ≡ b → others ≡ o →
     IsDueAtOnce old new old_count new_count before behind fronts ends between others → IsDueAtOnce old new old_count new_count before behind f e b o
 told-otherwise old new old_count new_count before behind fronts ends between others f e b o first second third fourth is =
@@ -38,7 +38,7 @@ told-otherwise old new old_count new_count before behind fronts ends between oth
       rebound = omega (arith, rebound, fourth);
     }
 
--- what is told of an edit's decks is so of those with all cards that stand before its own, and all behind it
+-- what is stated of an edit's decks is so of those with all cards that stand before its own, and all behind it
 record HasEnds (decks other : Edited) (ends : Ends decks) (front : List Statement) : Type 0 where
   ends_at : Ends other
   same : in_front other ends_at ≡ in_front decks ends
@@ -175,7 +175,7 @@ record AreWhole (edits : List Edit) (cards : List Card) (decks : Edited) : Type 
   are : AreDecksOf edits cards decks
   stand : StandUnchanged edits cards decks
 
--- what is due for them at once, whatever is told of each
+-- what is due for them at once, whatever is stated of each
 record AreAtOnce (edits : List Edit) (cards : List Card) (each : DueForEach edits cards) : Type 0 where
   decks : Edited
   whole : AreWhole edits cards decks

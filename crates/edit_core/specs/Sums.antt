@@ -25,7 +25,7 @@ abbrev pub rebound_behind : (decks : Edited) → Ends decks → ℕ
 rebound_behind decks AtEnd = 0
 rebound_behind decks (Agreeing split agree) = rebound_tail decks split.new_front split.new_tail
 
--- one way to tell what is due for an edit of these cards: both decks, statements that stand untouched in front, and an end; where the kind of the deck changes, that is the end of the deck
+-- one way to state what is due for an edit of these cards: both decks, statements that stand untouched in front, and an end; where the kind of the deck changes, that is the end of the deck
 pub record DueFor (edit : Edit) (cards : List Card) : Type 0 where
   pub decks : Edited
   pub are : AreDecksOf (edit ∷ []) cards decks
@@ -71,7 +71,7 @@ abbrev pub cards_between : List Edit → ℕ → ℕ
 cards_between [] count = 0
 cards_between (edit ∷ edits) count = between_from (front_of edit) (count_behind edit count) edits (count_after edit count)
 
--- a count rises by no more than is due for each edit, one after the other, however that is told, and so many more
+-- a count rises by no more than is due for each edit, one after the other, however that is stated, and so many more
 abbrev pub RisesWithinSum : ℕ → List Edit → List Card → ℕ → ℕ → Type 0
 RisesWithinSum more edits cards count now = (each : DueForEach edits cards) → fronts_sum edits cards each + now ≤ ends_sum edits cards each + more + count
 
@@ -99,7 +99,7 @@ abbrev pub edits_in : List (List Edit) → List Edit
 edits_in [] = []
 edits_in (group ∷ groups) = group ++ edits_in groups
 
--- in these groups of edits, made one behind the other, a count rises as is told of each
+-- in these groups of edits, made one behind the other, a count rises as is stated of each
 abbrev pub RisesByGroups : (List Edit → List Card → ℕ → ℕ → Type 0) → List (List Edit) → List Card → ℕ → ℕ → Type 0
 RisesByGroups Rises [] cards count now = count ≡ now
 RisesByGroups Rises (group ∷ groups) cards count now = (between : ℕ) × ((count ≤ between) × (Rises group cards count between × RisesByGroups Rises groups (edited_by group cards) between now))

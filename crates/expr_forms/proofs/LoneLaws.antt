@@ -20,7 +20,7 @@ begins-by base o pieces (Some pairs) e lawful =
     let starts : StartsWithElement base o pairs pieces = pairs_from-read base o pieces pairs e in
     sym (ap begins_term starts.4)
 
--- the operator that begins a text tells whether a term begins it
+-- the operator that begins a text shows whether a term begins it
 pub text-begins : (base : NumberBase) (text cs : List ℕ) (c : ℕ) (o : Operator) → text ≡ c ∷ cs → operator_marked (mark_of c) ≡ Some o → IsLawful base text →
     joins_terms o ≡ begins_term (links_behind base text)
 text-begins base text cs c o t e lawful =

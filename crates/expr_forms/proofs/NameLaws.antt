@@ -7,7 +7,7 @@ use Rattle.std.proofs.lemmas.Bool.Decides.{Decides-eqb, Decides-and}
 use Rattle.definitions.specs.Characters.{same_text}
 use Rattle.expr_forms.specs.Joins.NamesInline.{IsName}
 
--- what the test of two texts tells
+-- what the test of two texts shows
 pub same_text-Decides : (a b : List ℕ) → Decides (same_text a b) (a ≡ b)
 same_text-Decides [] [] = (λ e. refl, λ e. refl)
 same_text-Decides [] (d ∷ b) = (λ e. cc, λ e. cc)

@@ -34,7 +34,7 @@ unsigned-run base c (IsCountedItem item ∷ pieces) = refl
 abbrev pieces_begun : Begun → List ℕ → List Piece
 pieces_begun begun cs = onto_pieces begun (pieces_at (spot_behind begun) (left_of begun) cs)
 
--- the mark that the tests of a character tell
+-- the mark that the tests of a character show
 abbrev pub mark_by : Bool → Bool → Bool → Bool → Bool → Option Mark
 mark_by comma plus minus star slash =
     if comma then Some Comma else if plus then Some Plus else if minus then Some Minus

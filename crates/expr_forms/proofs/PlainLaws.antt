@@ -98,7 +98,7 @@ plain-link plain o e None = refl
 plain-link true o e (Some pairs) = refl
 plain-link false o e (Some pairs) = refl
 
--- links that are told plain are some, and plain
+-- links that are shown plain are some, and plain
 pub told-some : (x : Option (List OperatorElement)) (plain : Bool) → Some plain ≡ option_map are_plain x → is_some x ≡ true
 told-some None plain told = cc
 told-some (Some pairs) plain told = refl

@@ -1,4 +1,4 @@
-//! The classes of characters that expressions tell apart.
+//! The classes of characters that expressions distinguish.
 ghost use Rattle.std.specs.Prelude.{◌≡◌, ◌∷◌, [], codes};
 ghost use Rattle.definitions.specs.Characters.{is_letter, is_among, is_symbol_character, same_text};
 

@@ -160,9 +160,9 @@ impl Image {
         }
     }
 
-    /// The image whose words are packed in these bytes, of which the text beside them tells the places. A
+    /// The image whose words are packed in these bytes, of which the text beside them shows the places. A
     /// fault is that of the first line of this text that is none of it, or whose words are not there; bytes
-    /// that no line tells are `BadLength`.
+    /// that no line shows are `BadLength`.
     pub fn unpacked(alloc: Global, bytes: &[u8], places: &[u8]) -> Result<Image, ImageFault> {
         let mut image = Image::new(alloc);
         let mut packed = Packed { bytes };

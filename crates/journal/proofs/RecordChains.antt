@@ -35,7 +35,7 @@ use Rattle.journal.proofs.LineChains.{IsLine, IsChain}
 use Rattle.journal.proofs.LineSizes.{first-line, card-line, edit-line}
 use Rattle.journal.proofs.PlainTexts.{moment-word}
 
--- what the first line of a record tells
+-- what the first line of a record shows
 abbrev pub bare : Entry → Begun
 bare entry.Begun = record { entry = entry.Begun; lines = 0 }
 bare (entry.Made (Added deck)) = record { entry = entry.Made (Added (record { name = deck.name; cards = [] })); lines = 0 }
@@ -50,7 +50,7 @@ bare-edit name seen (Insert at card) is within lawful = ap begun_by (line-back (
 bare-edit name seen (Replace at card) is within lawful = ap begun_by (line-back (command.Edit name (Exactly seen) (Replace at card)) (is, within, lawful))
 bare-edit name seen (Remove at) is within lawful = ap begun_by (line-back (command.Edit name (Exactly seen) (Remove at)) (is, within, lawful))
 
--- what a record tells reads back from its first line
+-- what a record shows reads back from its first line
 bare-back : (entry : Entry) → IsLawfulEntry entry → begun_of (line_of_entry entry) ≡ Some (bare entry)
 bare-back entry.Begun lawful = refl
 bare-back (entry.Made (Added deck)) lawful = ap begun_by (line-back (command.Add deck.name) lawful.0)
@@ -99,7 +99,7 @@ opened-back r lawful =
 abbrev pub open_at : Record → ℕ → Entry → ℕ → Open
 open_at r lines told sum = record { so_far = record r { entry = told }; lines = lines; sum = sum }
 
--- lines that each take one thing more into what the record tells
+-- lines that each take one thing more into what the record shows
 inner-chain : {X : Type 0} (lawful : X → Type 0) (line : X → List ℕ) (form : List X → Entry) →
     ((done : List X) (x : X) → lawful x → entry_with (form done) (line x) ≡ Some (form (done ++ x ∷ []))) →
     ((x : X) → lawful x → IsLine (behind_a_blank (line x))) →

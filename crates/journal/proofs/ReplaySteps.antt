@@ -51,7 +51,7 @@ AreMade-none old desk place new start =
     let P : Place → Type 0 = λ (p : Place). AreMade old old true desk p 0 in
     subst P (sym start) (record { records = []; first_is = refl; history = []; runs = sym new; accepted = refl; taken = []; consumed = Consumes-nil old; many = omega arith; goes = λ rest. refl })
 
--- there are none where they are told to be
+-- there are none where they are shown to be
 none-are : (records : List Record) → are_none records ≡ true → records ≡ []
 none-are [] is = refl
 none-are (r ∷ records) is = cc

@@ -8,7 +8,7 @@ use Rattle.journal.specs.declared.changes.Carry.TheVariants as carry
 use Rattle.journal.specs.declared.changes.Asked.{Asked}
 use Rattle.journal.specs.declared.changes.Asked.TheVariants.{Change, Carry, Other}
 
--- what a call asks for; who asks is told by who keeps the changes
+-- what a call asks for; who asks is set by the door that keeps the changes
 abbrev pub asked_of : Call → Asked
 asked_of (AddDeck deck) = Change (change.Added deck)
 asked_of (PutDeck deck seen) = Change (change.Put deck seen)

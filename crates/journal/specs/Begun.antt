@@ -1,4 +1,4 @@
--- How a record begins (ours): its first line tells the version, when it was made, the name of the session, and what was done.
+-- How a record begins (ours): its first line shows the version, when it was made, the name of the session, and what was done.
 use Rattle.std.specs.Prelude.{ℕ, List, [], Option, Some, None, Result, Ok, Err, codes, drop, option_and_then, option_map, if◌then◌else◌}
 use Rattle.definitions.specs.Characters.{same_text}
 use Rattle.definitions.specs.DeckInput.{is_deck_name}
@@ -26,7 +26,7 @@ abbrev pub given : {A B : Type 0} → Option A → (A → Option B) → Option B
 given None made = None
 given (Some part) made = made part
 
--- an entry that tells of no lines
+-- an entry that announces no lines
 abbrev pub alone : Entry → Option Begun
 alone entry = Some (record { entry = entry; lines = 0 })
 
@@ -59,7 +59,7 @@ begun_by (Ok (command.Batch head)) = batch_seen head.name head.seen head.count
 begun_by (Ok (command.Put head)) = put_named head.name head.version head.count
 begun_by _ = None
 
--- what a record tells, by its text
+-- what a record shows, by its text
 abbrev pub begun_of : List ℕ → Option Begun
 begun_of text = if same_text text (codes "BEGIN") then alone entry.Begun else begun_by (command_of text)
 

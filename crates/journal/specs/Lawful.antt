@@ -1,4 +1,4 @@
--- Records whose text reads back (ours): a name, numbers that can be told, cards, and where it is a batch or a put as many edits or cards as it may have.
+-- Records whose text reads back (ours): a name, numbers that can be written, cards, and where it is a batch or a put as many edits or cards as it may have.
 use Rattle.std.specs.Prelude.{◌≡◌, ◌≤◌, ⊤, IsTrue, length, All}
 use Rattle.definitions.specs.Cards.{Card, IsCard, card_of}
 use Rattle.definitions.specs.DeckInput.{Deck, is_deck_name}
@@ -16,7 +16,7 @@ use Rattle.deck_files.specs.Moments.{is_moment}
 abbrev pub IsLawfulDeck : Deck → Type 0
 IsLawfulDeck deck = IsTrue (is_deck_name deck.name) × All (λ (card : Card). card_of card ≡ IsCard card) deck.cards
 
--- a change of a lawful name, with a version that can be told, and lawful edits
+-- a change of a lawful name, with a version that can be written, and lawful edits
 abbrev pub IsLawfulChange : Change → Type 0
 IsLawfulChange (Added deck) = IsLawfulDeck deck
 IsLawfulChange (Put deck seen) = IsLawfulDeck deck × (seen ≤ greatest_number) × IsTrue (is_put_size (length deck.cards))
@@ -28,7 +28,7 @@ abbrev pub IsLawfulEntry : Entry → Type 0
 IsLawfulEntry entry.Begun = ⊤
 IsLawfulEntry (entry.Made change) = IsLawfulChange change
 
--- a record with a moment, a name, and numbers that can be told
+-- a record with a moment, a name, and numbers that can be written
 pub record IsLawful (r : Record) : Type 0 where
   pub version : r.version ≤ greatest_number
   pub moment : IsTrue (is_moment r.moment)

@@ -1,4 +1,4 @@
--- The text of a record (ours): a line that tells what was done, a line for each card or edit that belongs to it, behind a blank, and a line with the check sum of the lines before it.
+-- The text of a record (ours): a line that shows what was done, a line for each card or edit that belongs to it, behind a blank, and a line with the check sum of the lines before it.
 use Rattle.std.specs.Prelude.{ℕ, List, [], ◌∷◌, ◌++◌, length, map, flat_map, codes, decimal}
 use Rattle.definitions.specs.Characters.{line_feed}
 use Rattle.session_commands.specs.declared.words.Seen.TheVariants.{Exactly}
@@ -26,7 +26,7 @@ line_of_change (Dropped name seen) = codes "DROP" ++ name_and_number name seen [
 line_of_change (Edited name seen edit) = line_of_edit name (Exactly seen) edit
 line_of_change (Batch name seen edits) = codes "BATCH" ++ name_and_number name seen (behind_a_blank (decimal (length edits) ++ []))
 
--- what a record tells, as a line
+-- what a record shows, as a line
 abbrev pub line_of_entry : Entry → List ℕ
 line_of_entry Begun = codes "BEGIN"
 line_of_entry (Made change) = line_of_change change
@@ -38,12 +38,12 @@ lines_behind_change (Put deck seen) = deck.cards
 lines_behind_change (Batch name seen edits) = map line_in_batch edits
 lines_behind_change _ = []
 
--- the cards, or the edits, that belong to what a record tells
+-- the cards, or the edits, that belong to what a record shows
 abbrev pub lines_behind : Entry → List (List ℕ)
 lines_behind Begun = []
 lines_behind (Made change) = lines_behind_change change
 
--- a record as one line: the version, when it was made, the name of the session, and what the record tells
+-- a record as one line: the version, when it was made, the name of the session, and what the record shows
 abbrev pub log_line : Record → List ℕ
 log_line r = decimal r.version ++ behind_a_blank (r.moment ++ behind_a_blank (r.by ++ behind_a_blank (line_of_entry r.entry)))
 

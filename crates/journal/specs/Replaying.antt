@@ -47,7 +47,7 @@ change_of (change.Dropped name seen) = changes.Dropped name
 change_of (change.Edited name seen edit) = changes.Edited name (edit ∷ [])
 change_of (change.Batch name seen edits) = changes.Edited name edits
 
--- the change that a record tells, if it tells one
+-- the change that a record shows, if it shows one
 abbrev pub change_in_entry : Entry → Option changes.Change
 change_in_entry Begun = None
 change_in_entry (Made asked) = Some (change_of asked)
@@ -55,7 +55,7 @@ change_in_entry (Made asked) = Some (change_of asked)
 abbrev pub change_told : Record → Option changes.Change
 change_told r = change_in_entry r.entry
 
--- the changes that records tell, in order
+-- the changes that records show, in order
 abbrev pub changes_told : List Record → List changes.Change
 changes_told records = filter_map change_told records
 
@@ -64,7 +64,7 @@ abbrev pub begun_at : ℕ → Entry → ℕ
 begun_at version Begun = version
 begun_at version (Made asked) = 0
 
--- the version behind which a journal goes on: that of its first record, where this tells so; or none
+-- the version behind which a journal goes on: that of its first record, where this shows so; or none
 abbrev pub begun_by : List Record → ℕ
 begun_by [] = 0
 begun_by (r ∷ records) = begun_at r.version r.entry
@@ -73,7 +73,7 @@ begun_by (r ∷ records) = begun_at r.version r.entry
 abbrev pub MakesAgain : ℕ → List ℕ → Change → Desk → Desk → Type 0
 MakesAgain version by asked desk next = Steps desk (call_of by asked) (Changed version) next
 
--- what a record tells is taken: it begins the journal, where it is the first; or it has a change, which is made again
+-- what a record shows is taken: it begins the journal, where it is the first; or it has a change, which is made again
 abbrev pub IsTakenAs : Bool → ℕ → List ℕ → Entry → Desk → Desk → Type 0
 IsTakenAs first version by Begun desk next = (first ≡ true) × (next ≡ new_desk_at version)
 IsTakenAs first version by (Made asked) desk next = MakesAgain version by asked desk next
@@ -89,7 +89,7 @@ pub record AnswersOtherwise (version : ℕ) (by : List ℕ) (asked : Change) (de
   pub other : reply ≢ Changed version
   pub memory : reply ≢ Refused OutOfMemory
 
--- what a record tells can't be taken: it begins a journal, and is not the first; or the desk answers its change otherwise
+-- what a record shows can't be taken: it begins a journal, and is not the first; or the desk answers its change otherwise
 abbrev pub IsUnmadeAs : Bool → ℕ → List ℕ → Entry → Desk → Type 0
 IsUnmadeAs first version by Begun desk = first ≡ false
 IsUnmadeAs first version by (Made asked) desk = AnswersOtherwise version by asked desk
@@ -120,7 +120,7 @@ fronted records journal = record { records = records ++ journal.records; ending 
 abbrev pub TellsFirst : List Record → List ℕ → Type 0
 TellsFirst records taken = (rest : List ℕ) → (journal : Journal) × (journal_of (taken ++ rest) ≡ fronted records journal)
 
--- the bytes that were taken are these records, and end like this: nothing is left, or what is left tells nothing
+-- the bytes that were taken are these records, and end like this: nothing is left, or what is left shows nothing
 abbrev pub TellsJournal : List Record → Ending → List ℕ → Option (List ℕ) → Type 0
 TellsJournal records Whole taken left = (journal_of taken ≡ record { records = records; ending = Whole }) × IsAtEnd left
 TellsJournal records (Cut begin) taken left = (journal_of taken ≡ record { records = records; ending = Cut begin }) × IsAtEnd left

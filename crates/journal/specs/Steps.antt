@@ -42,12 +42,12 @@ change_with (Batch name seen edits) text = option_map (Batch name seen) (edits_w
 change_with (Dropped name seen) text = None
 change_with (Edited name seen edit) text = None
 
--- what a record tells with the card or the edit of a text
+-- what a record shows with the card or the edit of a text
 abbrev pub entry_with : Entry → List ℕ → Option Entry
 entry_with entry.Begun text = None
 entry_with (entry.Made change) text = option_map entry.Made (change_with change text)
 
--- an open record that tells this, with one line more
+-- an open record that shows this, with one line more
 abbrev pub open_behind : Open → List ℕ → Entry → Open
 open_behind current line told = record {
   so_far = record current.so_far { entry = told };
@@ -60,7 +60,7 @@ abbrev pub inner_step : Open → List ℕ → Option Entry → Step
 inner_step current line None = Bad
 inner_step current line (Some told) = Goes (open_behind current line told)
 
--- whether a batch or a put has as many edits or cards as it told
+-- whether a batch or a put has as many edits or cards as it announced
 abbrev pub has_all : Entry → ℕ → Bool
 has_all (entry.Made (Batch name seen edits)) count = length edits == count
 has_all (entry.Made (Put deck seen)) count = length deck.cards == count

@@ -18,7 +18,7 @@ use session_commands::{
 };
 use std::alloc::Global;
 
-/// What a record tells by its first line alone, and how many lines of edits or cards it announces.
+/// What a record shows by its first line alone, and how many lines of edits or cards it announces.
 #[derive(Drop)]
 pub(crate) struct Begun {
     pub(crate) entry: Entry,
@@ -127,7 +127,7 @@ fn begun_by(alloc: Global, command: Result<Command, Refusal>) -> Option<Begun>
     }
 }
 
-/// What a record tells, by the text behind the name of its session.
+/// What a record shows, by the text behind the name of its session.
 fn begun_of(alloc: Global, text: &[u8]) -> Option<Begun>
     ensures { result ≡ begun_of text.now }
 {

@@ -5,7 +5,7 @@ ghost use Rattle.journal.specs.Asking.{asked_of, call_of_carry, carried_deck};
 use cards::{DeckName, Edit};
 use desk_core::{Call, Listed, NewDeck};
 
-/// A change of a desk. Who changes a deck told its name and the version of it that was seen.
+/// A change of a desk. Who changes a deck gave its name and the version of it that was seen.
 #[derive(Drop)]
 pub enum Change {
     /// A new deck, with the cards of a file where it was loaded.

@@ -25,7 +25,7 @@ pub struct Stamp {
 pub(crate) enum Form {
     /// As its text.
     Written(SharedText),
-    /// As what it tells, whose text is made when it is written.
+    /// As what it shows, whose text is made when it is written.
     Told(Stamp, Change),
     /// None is written.
     Nothing,

@@ -16,14 +16,14 @@ pub fn records_read_back()
         journal_of (text_of_records records) ≡ record { records = records; ending = Whole } }
 {}
 
-/// What goes into the file for a change, its text with a version in front, is the text of the record that tells
+/// What goes into the file for a change, its text with a version in front, is the text of the record that shows
 /// this change with this version: so it reads back.
 pub fn drafts_are_records()
     ensures { (version : ℕ) (moment by : List ℕ) (change : Asked) →
         text_with_version version (text_behind_version moment by change) ≡ text_of_record (record { version = version; moment = moment; by = by; entry = Made change }) }
 {}
 
-/// A journal that is cut at any byte inside its last record reads as the records before it, and tells
+/// A journal that is cut at any byte inside its last record reads as the records before it, and shows
 /// at which byte the cut one begins.
 pub fn cut_records_are_left_out()
     ensures { (records : List Record) (last : Record) (kept : ℕ) → All IsLawful records → IsLawful last →

@@ -1,7 +1,7 @@
 //! The journal of a desk: the records of its accepted changes as text, with their check sums; a journal
 //! read back, record by record; and its changes made again. Nothing here opens a file.
 //!
-//! A record tells its version, when it was made, the session, and the line that asked for the change;
+//! A record shows its version, when it was made, the session, and the line that asked for the change;
 //! a line behind a blank for each card or edit that belongs to it; and the check sum of these lines:
 //!
 //! ```text
@@ -11,10 +11,10 @@
 //! SUM 3248616115
 //! ```
 //!
-//! A deck that was loaded is told by `ADD` with its cards. A journal may begin with `BEGIN`: its desk
+//! A deck that was loaded is shown by `ADD` with its cards. A journal may begin with `BEGIN`: its desk
 //! goes on behind the version of this record, so its first change makes the next one. The last record
-//! may be cut or damaged: it is left out, and the byte is told at which it begins. Any other fault ends
-//! the reading, and tells the record and its byte.
+//! may be cut or damaged: it is left out, and the byte is reported at which it begins. Any other fault ends
+//! the reading, and reports the record and its byte.
 #![tactic(auto)]
 
 // What a record has.

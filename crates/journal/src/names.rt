@@ -5,8 +5,8 @@ ghost use Rattle.journal.specs.Names.{session_name};
 use cards::DeckName;
 use itoa::Buffer;
 
-/// The name of a session of this number that has told none: the last seven digits of it. What is told of
-/// such sessions is told here alone.
+/// The name of a session of this number that has given none: the last seven digits of it. What is reported of
+/// such sessions is shown here alone.
 pub fn session_name(number: u64) -> DeckName
     ensures { result ≡ session_name number }
 {

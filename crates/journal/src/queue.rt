@@ -22,7 +22,7 @@ pub struct Unwritten {
 /// The records of accepted changes that are not written yet. Each session has one place, whose record
 /// stays until the next one of the session takes it, and beside it what shows that the latest is kept. The
 /// records behind those that are kept are to be written; those below `told` that are not kept were given up,
-/// and their sessions told so; `behind` is above all versions that were put here.
+/// and their sessions answered so; `behind` is above all versions that were put here.
 #[derive(Drop)]
 pub struct Queue<F: RecordsFile> {
     kept: KeptRecords<F>,
@@ -270,7 +270,7 @@ impl<F: RecordsFile> Queue<F> {
         show_all(&mut self.shown, self.places.as_slice(), kept);
     }
 
-    /// The records could not be written: they stay, and who waits for one is told so.
+    /// The records could not be written: they stay, and who waits for one is answered so.
     pub fn give_up(&mut self)
         ensures { self.new ≡ record self.old { told = self.old.behind } }
     {

@@ -45,7 +45,7 @@ impl From<AllocError> for JournalFault {
     }
 }
 
-/// Takes the next line into the buffer; or tells how the journal ends, where none is left or it is too
+/// Takes the next line into the buffer; or returns how the journal ends, where none is left or it is too
 /// long.
 fn take_line<R: Read>(
     input: &mut Counted<R>,
@@ -86,8 +86,8 @@ fn wrong_ending<R: Read>(input: &mut Counted<R>, place: &Place) -> Result<Ending
     }
 }
 
-/// Reads the next record, and no byte behind it, a line at a time; or tells how the journal ends. The
-/// place goes on behind a record that is found, and tells nothing after an end or a fault.
+/// Reads the next record, and no byte behind it, a line at a time; or returns how the journal ends. The
+/// place goes on behind a record that is found, and returns nothing after an end or a fault.
 pub fn next_record<R: Read>(
     alloc: Global,
     input: &mut Counted<R>,

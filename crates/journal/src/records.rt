@@ -4,7 +4,7 @@ use crate::changes::Change;
 use cards::DeckName;
 use deck_files::Moment;
 
-/// What a record tells.
+/// What a record shows.
 #[derive(Drop)]
 pub enum Entry {
     /// The journal begins here: its desk is new, and goes on behind the record's version.
@@ -13,7 +13,7 @@ pub enum Entry {
     Made(Change),
 }
 
-/// A record: a version, when it was made, the name of the session that made it, and what it tells.
+/// A record: a version, when it was made, the name of the session that made it, and what it shows.
 #[derive(Drop)]
 pub struct Record {
     pub version: u64,

@@ -34,7 +34,7 @@ pub enum ReplayFault {
     #[error("no memory was left")]
     OutOfMemory,
     /// This record, counted from 1, is one that the desk refuses, or that makes another version; or it
-    /// tells where the journal begins, and is not the first. It begins at this byte.
+    /// shows where the journal begins, and is not the first. It begins at this byte.
     #[error("record {number}, at byte {begin}, can't be made again")]
     Unmade { number: u64, begin: u64 },
 }
@@ -108,7 +108,7 @@ fn make_again(
     }
 }
 
-/// Takes the record at a place: the first may tell where the journal begins, and each other has a change.
+/// Takes the record at a place: the first may show where the journal begins, and each other has a change.
 fn take_record(
     alloc: Global,
     keys: RandomState,
@@ -171,7 +171,7 @@ fn make_all<R: Read>(
 }
 
 /// Reads a journal, a line at a time, and makes the changes of its whole records again on a new desk, in
-/// their order: to its end, or until the desk has this version. A record that can't be made again is told
+/// their order: to its end, or until the desk has this version. A record that can't be made again is reported
 /// by its number and its first byte.
 pub fn replay<R: Read>(
     alloc: Global,

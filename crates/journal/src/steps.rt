@@ -76,7 +76,7 @@ fn change_with(change: Change, text: &[u8]) -> Result<Option<Change>, AllocError
     }
 }
 
-/// What a record tells with the card or the edit of a text.
+/// What a record shows with the card or the edit of a text.
 fn entry_with(entry: Entry, text: &[u8]) -> Result<Option<Entry>, AllocError>
     ensures { IfOk result (λ with. with ≡ entry_with entry text.now) }
 {

@@ -132,7 +132,7 @@ fn push_change(text: &mut Text, change: &Change) -> Result<(), AllocError>
     }
 }
 
-/// Appends what a record tells.
+/// Appends what a record shows.
 fn push_entry(text: &mut Text, entry: &Entry) -> Result<(), AllocError>
     ensures { OnOk result (text.new ≡ text.old ++ line_of_entry entry.now) }
 {
@@ -209,7 +209,7 @@ fn push_lines_behind_change(text: &mut Text, change: &Change) -> Result<(), Allo
     }
 }
 
-/// Appends the lines that belong to what a record tells.
+/// Appends the lines that belong to what a record shows.
 fn push_lines_behind(text: &mut Text, entry: &Entry) -> Result<(), AllocError>
     ensures { OnOk result (text.new ≡ text.old ++ text_of_lines (map behind_a_blank (lines_behind entry.now))) }
 {

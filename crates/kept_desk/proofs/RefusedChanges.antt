@@ -1,4 +1,4 @@
--- What a desk whose changes are kept tells as refused has changed nothing.
+-- What a desk whose changes are kept reports as refused has changed nothing.
 use Rattle.std.proofs.Common.{ℕ, ◌≡◌, List, Bool, true, false, Option, refl, sym, ap, subst, ◌∙◌}
 use Rattle.cards.specs.declared.edits.Edit.{Edit}
 use Rattle.desk_core.specs.Desks.{Desk, Publication}
@@ -89,7 +89,7 @@ no-publishing call (Published before) session fits = let not : false ≡ true = 
 no-publishing call Cleared session fits = refl
 no-publishing call (Refused why) session fits = refl
 
--- a call of a session that is not told as made leaves what everybody sees
+-- a call of a session that is not reported as made leaves what everybody sees
 quiet-outcome : (desk next : Desk) (call : Call) (reply : Reply) → accepts reply ≡ false → publishes reply ≡ false → Outcome desk call reply next → IsUnchanged desk next
 quiet-outcome desk next call reply silent unpublished (by_staying by) = by.unchanged
 quiet-outcome desk next call reply silent unpublished (by_changing by) = let not : false ≡ true = sym silent ∙ by.told in cc
@@ -181,7 +181,7 @@ question-silent call (Published before) question fits = refl
 question-silent call Cleared question fits = refl
 question-silent call (Refused why) question fits = refl
 
--- what was made is not told as refused
+-- what was made is not reported as refused
 not-refused : {A : Type 0} (kept : Bool) (version : ℕ) (what : Reply) → what ≡ told_of version kept → tells_refusal what ≡ true → A
 not-refused true version what is told = let not : false ≡ true = sym (ap tells_refusal is) ∙ told in cc
 not-refused false version what is told = let not : false ≡ true = sym (ap tells_refusal is) ∙ told in cc
@@ -281,7 +281,7 @@ module _ {C E : Type 0} (calls : DeskRelations C) (IsSame : C → C → Type 0) 
   carry-made carry old new what (not_opened why opens told stays) is = stays-same old.0 new.0 stays
   carry-made carry old new what (opened stamp begun rung reply opens made rings tells) is = carry-same (ends.who begun) (carried_deck carry) stamp carry reply what old.0 new.0 rung new.1 made tells is
 
-  -- a reply that is told as refused is no change
+  -- a reply that is reported as refused is no change
   refused-silent : (what : Reply) → tells_refusal what ≡ true → accepts what ≡ false
   refused-silent (Changed n) is = cc
   refused-silent (Carried n seen edits) is = cc

@@ -7,7 +7,7 @@ use Rattle.kept_desk.specs.Greeting.{GreetsAmong}
 use Rattle.kept_desk.specs.Keeping.{MakesKept}
 use Rattle.kept_desk.specs.Waiting.{AwaitsPublication}
 
--- what its calls make of the desk and the ends; of a session that begins the ends are told that it has no name yet
+-- what its calls make of the desk and the ends; of a session that begins the ends are given that it has no name yet
 abbrev pub door_of : {C E : Type 0} → DeskRelations C → EndsRelations E → DeskRelations (C × E)
 door_of calls ends = record {
   makes = λ old call reply new. MakesKept calls.makes ends old (asked_of call) reply new;

@@ -17,9 +17,9 @@ pub record EndsRelations (E : Type 0) : Type 1 where
   pub keeps : E → ℕ → List ℕ → Bool → E → Type 0
   -- the version that a session waits for, and how a sleep ended
   pub sleeps : E → ℕ → Woken → E → Type 0
-  -- the name that the session tells, and the sessions that are connected
+  -- the name that the session gives, and the sessions that are connected
   pub lists : E → List ℕ → List Connected → E → Type 0
-  -- the name by which the session asks from now on, or that it has told none
+  -- the name by which the session asks from now on, or that it has given none
   pub names : E → Option (List ℕ) → E → Type 0
   -- the name by which it asks for changes
   pub who : E → List ℕ

@@ -16,7 +16,7 @@ use std::marker::Model;
 use std::sync::Wait;
 
 /// A desk, and the ends that a session has at its service. A change for whose record there is no memory, or that the
-/// journal does not take, is not asked of the desk. One that the desk makes is told as made where its record is kept,
+/// journal does not take, is not asked of the desk. One that the desk makes is reported as made where its record is kept,
 /// and else as `Unkept`. Contracts see the two as a pair.
 #[derive(Drop)]
 pub struct Door<'a, R, C, E> {
@@ -49,7 +49,7 @@ fn ring_after<E: Ends>(ends: &mut E, reply: &Reply)
     }
 }
 
-/// What is told of a change whose record was kept, or was not.
+/// What is reported of a change whose record was kept, or was not.
 fn told_of(made: Accepted, kept: bool) -> Reply
     ensures { result ≡ told_of made kept }
 {
@@ -62,7 +62,7 @@ fn told_of(made: Accepted, kept: bool) -> Reply
     }
 }
 
-/// What is told of a call that asked for a change, whose record this is.
+/// What is reported of a call that asked for a change, whose record this is.
 fn kept_reply<E: Ends>(ends: &mut E, reply: Reply, draft: Draft) -> Reply
     ensures { TellsKept E.relations draft reply ends.old result ends.new }
 {
@@ -84,7 +84,7 @@ fn kept_reply<E: Ends>(ends: &mut E, reply: Reply, draft: Draft) -> Reply
     }
 }
 
-/// What is told of a call that asked for a change of this deck that is carried.
+/// What is reported of a call that asked for a change of this deck that is carried.
 fn carried_reply<E: Ends>(ends: &mut E, reply: Reply, stamp: Stamp, name: DeckName) -> Reply
     ensures { TellsCarried E.relations stamp name reply ends.old result ends.new }
 {
@@ -107,7 +107,7 @@ fn carried_reply<E: Ends>(ends: &mut E, reply: Reply, stamp: Stamp, name: DeckNa
 }
 
 /// Makes a change, in five steps: may the journal take it; the desk makes it; the bell rings; the record is kept; it is
-/// told.
+/// reported.
 fn make_change<C: Calls, E: Ends>(desk: &mut C, ends: &mut E, change: Change) -> Reply
     ensures { MakesChange C.relations.makes E.relations change desk.old ends.old result desk.new ends.new }
 {
@@ -220,7 +220,7 @@ fn greet_among<C: Calls, E: Ends>(
 }
 
 /// The calls are the desk's, but for changes that are refused, or not kept. Who waits asks the desk for the status,
-/// and sleeps between two questions; who greets is told who is connected, and the name is noted where it holds.
+/// and sleeps between two questions; who greets is shown who is connected, and the name is noted where it holds.
 impl<R: Wait, C: Calls, E: Ends> Calls for Door<'_, R, C, E> {
     ghost use Rattle.kept_desk.specs.Doors.{door_of};
 

@@ -47,13 +47,13 @@ pub trait Ends {
     fn sleep(&mut self, version: u64) -> Woken
         ensures { relations.sleeps self.old version result self.new };
 
-    /// The sessions that are connected, this one by the name that it tells; no memory for them changes
+    /// The sessions that are connected, this one by the name that it gives; no memory for them changes
     /// nothing.
     fn list(&mut self, alloc: Global, name: &DeckName) -> Result<Vec<Connected>, AllocError>
         ensures listed { IfOk result (λ sessions. relations.lists self.old name.now sessions.items self.new) }
         ensures lacking { OnErr result (self.new ≡ self.old) };
 
-    /// By this name the session asks from now on; or by the one of who has told none.
+    /// By this name the session asks from now on; or by the one of who has given none.
     fn be_named(&mut self, name: Option<&DeckName>)
         ensures { relations.names self.old (option_map (λ name. name.now) name.entry) self.new };
 }

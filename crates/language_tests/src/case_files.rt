@@ -31,7 +31,7 @@ pub fn deck_of<R: AllocGlobal + Files>(rt: &R, name: &str) -> io::Result<Vec<u8>
     read(rt, name, ".deck")
 }
 
-/// The status that a file tells: its one digit, and 0 where there is no file.
+/// The status that a file shows: its one digit, and 0 where there is no file.
 fn status_told(bytes: &[u8]) -> io::Result<u8> {
     match bytes {
         [] => Ok(0),

@@ -15,7 +15,7 @@ fn answers_of<R: AllocGlobal + Files>(rt: &R, name: &str) -> io::Result<(CaseAns
     Ok((answer_wanted(rt, name)?, given))
 }
 
-/// Runs one case, tells on a line where it differs or why it can't run, and answers whether it is as
+/// Runs one case, prints on a line where it differs or why it can't run, and answers whether it is as
 /// wanted.
 fn run_case<R: AllocGlobal + Files + Print>(rt: &R, name: &str) -> io::Result<bool> {
     match answers_of(rt, name) {
@@ -27,7 +27,7 @@ fn run_case<R: AllocGlobal + Files + Print>(rt: &R, name: &str) -> io::Result<bo
     }
 }
 
-/// Runs all cases, and tells how many are as wanted.
+/// Runs all cases, and prints how many are as wanted.
 pub fn run_cases<R: AllocGlobal + Files + Print>(rt: &R) -> io::Result<Score> {
     let mut score = Score::none();
     for name in case_names(rt)?.as_str().lines() {

@@ -15,7 +15,7 @@ fn differing_line(wanted: &[u8], given: &[u8]) -> u64 {
     line
 }
 
-/// Whether two answers are the same; a line tells what differs first, of output, message and status.
+/// Whether two answers are the same; a line shows what differs first, of output, message and status.
 pub fn is_same<R: Print>(
     rt: &R,
     name: &str,

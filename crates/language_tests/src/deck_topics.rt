@@ -27,13 +27,13 @@ pub fn answer(answer: &mut Answer, topic: &str, text: &str) -> Result<bool, Allo
     Ok(true)
 }
 
-/// What a topic tells of the deck of these lines.
+/// What a topic shows of the deck of these lines.
 fn deck(answer: &mut Answer, topic: &str, text: &str) -> Result<(), AllocError> {
     let cards = repeated_cards(answer.alloc, text)?;
     deck_of(answer, topic, &cards)
 }
 
-/// What a topic tells of the deck of these cards.
+/// What a topic shows of the deck of these cards.
 fn deck_of(answer: &mut Answer, topic: &str, cards: &[Card]) -> Result<(), AllocError> {
     let mut done = work_meter::begin();
     let deck = SizedDeck::new(answer.alloc, answer.keys, cards, &mut done)?;
@@ -237,7 +237,7 @@ fn edited(
     Ok(())
 }
 
-/// Makes the edits of these words, and tells what was done and how many cards and pieces there are then.
+/// Makes the edits of these words, and shows what was done and how many cards and pieces there are then.
 fn make_edits(
     answer: &mut Answer,
     kept: &mut Kept,

@@ -1,5 +1,5 @@
 //! Goes through tables of the language, where each row is a text and what a layer makes of it, worked
-//! by hand; and through cases, where each is an input and the whole answer of `asm_run`. A line tells
+//! by hand; and through cases, where each is an input and the whole answer of `asm_run`. A line shows
 //! each row or case that differs, and a line at the end of each kind how many are as wanted. The status is 1
 //! where a row or a case differs, and 2 where a table or the list of the cases can't be read.
 //!
@@ -84,7 +84,7 @@ fn find(answer: &mut Answer, topic: &str, text: &str) -> Result<(), AllocError> 
     Ok(())
 }
 
-/// Whether what is found for a row is as wanted; a line tells where it is not.
+/// Whether what is found for a row is as wanted; a line shows where it is not.
 fn is_met<R: AllocGlobal + Print>(rt: &R, topic: &str, row: &Row) -> io::Result<bool> {
     let mut answer = Answer::new(rt.alloc(), fixed_keys()?);
     find(&mut answer, topic, row.text.as_str())?;
@@ -110,7 +110,7 @@ fn run_topic<R: AllocGlobal + Files + Print>(
     Ok(score)
 }
 
-/// Goes through all tables, and tells how many rows are as wanted.
+/// Goes through all tables, and prints how many rows are as wanted.
 fn run_rows<R: AllocGlobal + Files + Print>(rt: &R) -> io::Result<Score> {
     let mut score = Score::none();
     for topic in fs::read_to_string(rt, "topics")?.as_str().lines() {

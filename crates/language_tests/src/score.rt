@@ -29,7 +29,7 @@ impl Score {
         u8::from(self.ran != self.as_wanted)
     }
 
-    /// Tells on a line how many of these are as wanted.
+    /// Prints on a line how many of these are as wanted.
     pub fn tell<R: Print>(self, rt: &R, what: &str) -> io::Result<()> {
         let Score { ran, as_wanted } = self;
         if ran == as_wanted {

@@ -1,6 +1,6 @@
 //! The longest turns of a desk with as much on it as it may have: 64 decks of 20,000 cards, which are edited, read,
 //! replaced and dropped, and each time assembled, linked and published as workers do it. A line for each kind of
-//! calls tells how many turns there were, and the longest of them in microseconds of processor time.
+//! calls shows how many turns there were, and the longest of them in microseconds of processor time.
 
 use cards::{Card, DeckName, Edit};
 use deck_workers::{Job, Made, Runs, job_in};
@@ -67,7 +67,7 @@ fn all_rows(alloc: Global) -> Result<Vec<Row>, AllocError> {
     Ok(rows)
 }
 
-/// The processor time of the process; none where it can't be told.
+/// The processor time of the process; none where it can't be read.
 fn time_of<R: CpuClock>(rt: &R) -> Duration {
     match rt.process_cpu_time() {
         Ok(time) => time,

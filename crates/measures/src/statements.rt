@@ -75,7 +75,7 @@ fn end_of(
     Ok(u64::from(sizing.end))
 }
 
-/// How many fields are told of a sized statement.
+/// How many fields are listed of a sized statement.
 fn fields_of(
     statement: &Statement<'_>,
     sizing: &KeptSizing,
@@ -92,7 +92,7 @@ fn fields_of(
     }
 }
 
-/// How many fields are told of a card's statement behind the others.
+/// How many fields are listed of a card's statement behind the others.
 fn fields_behind(
     alloc: Global,
     keys: RandomState,

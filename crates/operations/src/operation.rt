@@ -1,4 +1,4 @@
-//! The operations that the language tells apart, and their classes (COMPASS 60492600,
+//! The operations that the language distinguishes, and their classes (COMPASS 60492600,
 //! pseudo-instructions).
 ghost use Rattle.std.specs.Prelude.{◌≡◌, Some};
 ghost use Rattle.definitions.specs.Operations.{is_neutral, is_instruction, is_data, is_reserving, is_machine, has_place, is_labelled};

@@ -1,5 +1,5 @@
 //! The peripheral instructions: their names, their codes, and what stands behind the codes. How
-//! many values an operand has is told here; what they are worth is not.
+//! many values an operand has is said here; what they are worth is not.
 //!
 //! `ignoring` is asked first: PSN has its instruction whatever stands in the field. `find` answers
 //! the `Shape` of any other, or O or V; the form of its row says how many values there are, and

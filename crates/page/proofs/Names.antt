@@ -5,7 +5,7 @@ use Rattle.std.specs.Bool.{one_answer}
 use Rattle.std.proofs.lemmas.Slice.Eq.{bytes_eq-Decides}
 use Rattle.std.proofs.lemmas.List.{append_cancel_left}
 
--- it begins with the name: the rest tells
+-- it begins with the name: the rest shows
 pub behind-name : (text name rest digits : List ℕ) (same : Bool) → text ≡ name ++ rest → same ≡ bytes_eq rest digits → same ≡ bytes_eq text (name ++ digits)
 behind-name text name rest digits same begins tells =
     one_answer same (bytes_eq text (name ++ digits))

@@ -42,7 +42,7 @@ IsPage = IsResponse 200 page_fields ((TOP.now ++ BODY.now) ++ (SCRIPT.now ++ EDI
 abbrev pub IsText : ℕ → Response → Type 0
 IsText status response = (text : List ℕ) × IsResponse status (fields_for plain) text response
 
--- one that tells which methods do
+-- one that shows which methods do
 abbrev pub TellsMethods : List ℕ → Response → Type 0
 TellsMethods methods response = (text : List ℕ) × IsResponse 405 (fields_for plain ++ (codes "allow", methods) ∷ []) text response
 

@@ -50,7 +50,7 @@ fn begin(response: &mut Response, status: StatusCode, kind: &'static str) -> Res
     add(response, X_CONTENT_TYPE_OPTIONS, "nosniff")
 }
 
-/// Tells a text.
+/// Answers with a text.
 pub(crate) fn tell(
     response: &mut Response,
     status: StatusCode,
@@ -63,7 +63,7 @@ pub(crate) fn tell(
     response.body.push(Bytes::from_static(text.as_bytes()))
 }
 
-/// Tells that only these methods do at the path of a request.
+/// Answers that only these methods do at the path of a request.
 pub(crate) fn tell_methods(
     response: &mut Response,
     methods: &'static str,

@@ -8,8 +8,8 @@ const REFUSALS = {
   NoChange: "No edit of this deck made that version.", Touched: "The card was changed since.",
   NameTaken: "There is a deck of this name.", TooManyDecks: "There are 64 decks already.", BadName: "A name has 1 to 7 letters and digits.",
   FileExists: "A file of this name stands there that this service neither loaded nor saved; a session's SAVE with FORCE writes over it.",
-  CannotOpen: "The file can't be written; tell the keeper.", WriteFault: "Writing the file failed; save again.",
-  NotKept: "The journal can't be written, so no change is made; tell the keeper.",
+  CannotOpen: "The file can't be written; report it to the operator.", WriteFault: "Writing the file failed; save again.",
+  NotKept: "The journal can't be written, so no change is made; report it to the operator.",
   OutOfMemory: "The service has no memory left; try again later.", BadCommand: "The card has a character that no card has.",
   UnknownCommand: "The service has no such command; load the page again.",
 };
@@ -22,14 +22,14 @@ function meaning_of_refusal(reply) {
   return `${meaning} (${reply.words.slice(1).join(" ")})`;
 }
 
-const meaning_of_unkept = reply => `Version ${reply.version} stands in the service, and its journal can't be written: tell the keeper.`;
+const meaning_of_unkept = reply => `Version ${reply.version} stands in the service, and its journal can't be written: report it to the operator.`;
 
 const meaning_of_silence = fault => `No reply came (${fault.message}): the change may have been made or not. Look before you send it again.`;
 
 // The name of who made a change, or the number of the session.
 const who_of = who => /^\d+$/.test(who) ? `session ${who}` : who;
 
-// Sends a change by one's name, where one has told it; gives its reply.
+// Sends a change by one's name, where one has given it; gives its reply.
 async function change(command) {
   const name = $("name").value;
   const replies = await ask(...(name ? [`HELLO ${name}`] : []), command);
@@ -171,7 +171,7 @@ function command_of({ deck, version, place, pasted, find }, verb, behind) {
   return `${verb} ${seen} ${at} ${card_of(find(".card").value)}`;
 }
 
-// Sends an edit once, and not within a moment from when something was told that one has to read first.
+// Sends an edit once, and not within a moment from when something was shown that one has to read first.
 async function send(verb, behind = 0) {
   const sender = editor, wrong = verb === "DEL" ? "" : fault_of(card_of(editor.find(".card").value));
   if (sender.is_sending || performance.now() < sender.ready_at) return;
@@ -251,7 +251,7 @@ function tell_done(text) {
   $("done").textContent = text;
 }
 
-// Sends the command of a key, one after the other, and tells what came of it.
+// Sends the command of a key, one after the other, and shows what came of it.
 let is_doing = false;
 async function do_and_tell(command, tell) {
   if (is_doing) return;

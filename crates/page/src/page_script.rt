@@ -1,4 +1,4 @@
-//! The script of the page, its first part: it asks the service by the lines of a session, and shows what they tell.
+//! The script of the page, its first part: it asks the service by the lines of a session, and shows what they show.
 
 pub(crate) const SCRIPT: &str = r##"<script>
 "use strict";
@@ -27,7 +27,7 @@ const PERIOD = 500, TRIES = 5, MOST_HITS = 200, MOST_EDITS = 500, MOST_NAMES = 5
 const $ = id => document.getElementById(id);
 const sleep = time => new Promise(done => setTimeout(done, time));
 
-// ---- What is asked, and told.
+// ---- What is asked, and shown.
 
 // Sends commands of a session, with the lines that belong to them; gives a reply for each: its words, and the lines behind it.
 async function ask(...commands) {
@@ -46,7 +46,7 @@ async function ask(...commands) {
   });
 }
 
-// What STATUS FILES tells.
+// What STATUS FILES shows.
 function status_of(reply) {
   const [, published] = reply.rows[0].split(" ");
   const decks = reply.rows.slice(1).map(row => {
@@ -87,7 +87,7 @@ function put_said(cards, rows) {
   }
 }
 
-// How many statements of each deck are flagged, of what ERRORS tells.
+// How many statements of each deck are flagged, of what ERRORS shows.
 function counts_of(rows) {
   const counts = new Map();
   for (const row of rows) {
@@ -290,7 +290,7 @@ function split_part(part) {
   for (let first = 0, last = part; first < items.length; first += PART, last = last.nextElementSibling) last.after(part_of(items.slice(first, first + PART)));
 }
 
-// Splits the lists that grew, and tells each how many cards are before it, and its height.
+// Splits the lists that grew, and notes for each how many cards are before it, and its height.
 function measure_parts(cards) {
   let first = 0;
   for (let part = $("cards").firstElementChild, next; part; part = next) {
@@ -357,7 +357,7 @@ function show_cards(cards, is_same) {
   if (entered && entered.isConnected) enter_at(entered); else if (shown.items.length) enter_at(shown.items[0]);
 }
 
-// Tells what is said of the card that one stands on.
+// Shows what is said of the card that one stands on.
 function show_meaning() {
   const card = shown.cards[standing()];
   const text = card && card.letters ? said_of(card) : "";
@@ -517,7 +517,7 @@ function enter_at(item) {
   entered = item;
 }
 
-// Where a symbol is defined: in this deck, or in the deck that the map tells. The browser's way back leads to the card
+// Where a symbol is defined: in this deck, or in the deck that the map shows. The browser's way back leads to the card
 // that one stands on.
 function go_to_symbol(name) {
   const entry = shown.map.map(row => row.split(" ")).find(words => words[0] === "ENTRY" && words[1] === name);
@@ -562,7 +562,7 @@ async function search(text) {
     item.append(link);
     return item;
   });
-  const count = hits.length === 1 ? "1 card" : `${hits.length} cards`, more = hits.length > told.length ? `, of which ${told.length} are told` : "";
+  const count = hits.length === 1 ? "1 card" : `${hits.length} cards`, more = hits.length > told.length ? `, of which ${told.length} are shown` : "";
   $("count").textContent = hits.length ? `${count}${more}` : "no card has it";
   $("found").replaceChildren(...items);
   $("hits").hidden = false;

@@ -64,7 +64,7 @@ pub(crate) const BODY: &str = r##"<body>
     <div class="keys">
       <button class="save">Replace</button>
       <button class="before">Insert before</button>
-      <button class="after">Insert behind</button>
+      <button class="after">Insert after</button>
       <button class="remove">Delete</button>
       <button class="leave">Leave</button>
       <span class="faint"><kbd>Enter</kbd> <span class="enter"></span>, <kbd>Esc</kbd> leaves, <kbd>Tab</kbd> goes to the next stop, <kbd>Shift</kbd> <kbd>Tab</kbd> to these keys, <kbd>Insert</kbd> overtypes</span>

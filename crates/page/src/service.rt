@@ -12,17 +12,17 @@ use http_server::{Response, Service};
 use std::alloc::{AllocError, Global};
 use std::marker::Model;
 
-/// What a request is told that may come from a foreign page.
+/// What a request is answered that may come from a foreign page.
 const FOREIGN: &str =
     "The page is at http://127.0.0.1 with its port: another host or origin is refused, and so are lines without an origin.\n";
 
-/// What a request is told that has another path.
+/// What a request is answered that has another path.
 const NOTHING: &str = "The page is at /, and lines of a session are posted to /session.\n";
 
-/// What a request is told that would do something else with the page.
+/// What a request is answered that would do something else with the page.
 const GOT_ALONE: &str = "The page can be got, and nothing else.\n";
 
-/// What a request is told that does not post its lines.
+/// What a request is answered that does not post its lines.
 const POSTED_ALONE: &str = "Lines of a session are posted.\n";
 
 /// What became of lines that were served.

@@ -46,7 +46,7 @@ fn await_service<R: Net<Stream = TcpStream> + Clock>(rt: &R, address: SocketAddr
     }
 }
 
-/// Serves by these settings, if they are in range, with a page at this port, and tells whether that ended well.
+/// Serves by these settings, if they are in range, with a page at this port, and returns whether that ended well.
 fn host_in_range<R>(
     rt: &R,
     alloc: Global,

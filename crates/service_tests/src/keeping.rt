@@ -1,4 +1,4 @@
-//! Changes that are kept: in what order records go out, and what is told where they can't be written.
+//! Changes that are kept: in what order records go out, and what is shown where they can't be written.
 //!
 //! `keep COUNT`: ten changes are made on a disk whose calls fail from each one on in turn, so many of them, or all
 //! behind it where that is 0; `queue`: records that are put in another order than that of their versions; `unkept`:
@@ -157,7 +157,7 @@ fn change(alloc: Global, seen: u64) -> Result<Call, AllocError> {
     })
 }
 
-/// The version that a change left: the one that was seen last, the last that was told as made, and whether a reply
+/// The version that a change left: the one that was seen last, the last that was reported as made, and whether a reply
 /// was another than those that are wanted.
 #[derive(Clone, Copy)]
 struct Versions {
@@ -206,7 +206,7 @@ fn make_on_disk<R: Wait + Clock + Eprint>(
     Ok(versions)
 }
 
-/// Whether each change that was told as made is among these bytes, which are those of whole records.
+/// Whether each change that was reported as made is among these bytes, which are those of whole records.
 fn has_kept(alloc: Global, bytes: &[u8], versions: Versions) -> bool {
     let mut input = Counted::new(FaultyReader::new(bytes, 7, 0));
     let made = versions.made;
@@ -224,7 +224,7 @@ fn has_kept(alloc: Global, bytes: &[u8], versions: Versions) -> bool {
     }
 }
 
-/// Makes ten changes on a disk whose calls fail from one on, so many of them: whether what was told as made is
+/// Makes ten changes on a disk whose calls fail from one on, so many of them: whether what was reported as made is
 /// kept, and how often the disk was called.
 fn ten_changes<R: Wait + Clock + Eprint>(
     rt: &R,
@@ -289,7 +289,7 @@ fn put_all<F: RecordsFile>(
     Ok(())
 }
 
-/// What a queue tells of itself and of versions.
+/// What a queue shows of itself and of versions.
 fn push_told<F: RecordsFile>(queue: &Queue<F>, answer: &mut Answer) {
     let told = (queue.has_given_up(), queue.is_given_up(7));
     answer.debug(&told);
@@ -340,7 +340,7 @@ fn push_queue<R: AllocGlobal + Wait>(rt: &R, answer: &mut Answer) -> Result<(), 
     done
 }
 
-/// Whether each call of a file that fails is told.
+/// Whether each call of a file that fails is shown.
 fn push_unkept<R: AllocGlobal + Wait>(rt: &R, answer: &mut Answer) -> Result<(), AllocError> {
     let disk = disk_of(rt.alloc(), 0, u64::MAX);
     let mut system = SystemFile::new(DiskFile { rt, disk: &disk });

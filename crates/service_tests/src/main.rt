@@ -1,5 +1,5 @@
 //! Goes through transcripts of the service: histories of desks and sessions as people write them down,
-//! with each reply, and threads, sockets and files as they run. A line tells how many steps a transcript
+//! with each reply, and threads, sockets and files as they run. A line shows how many steps a transcript
 //! has and that what comes of them is what stands there, or where the first line stands that differs;
 //! the status is 1 where one differs, and 2 where one can't be read. Then, or alone where the one argument
 //! names one, it goes through the scenarios of `desk_tests`, whose status it then has.
@@ -7,7 +7,7 @@
 //! A transcript is a file of `data/`. A line that begins with `> ` is a step, and the lines below it are
 //! what comes of it. A line that begins with `# ` says something of the steps below, which have a new desk
 //! and a new shelf. In a step `|` ends a line. Its first word says what it is: the modules here and those
-//! of `desk_tests` tell theirs, and a step that begins with none of them is a command of a session.
+//! of `desk_tests` show theirs, and a step that begins with none of them is a command of a session.
 #![tactic(auto)]
 
 mod hosting;
@@ -125,7 +125,7 @@ fn first_difference(found: &str, wanted: &str) -> u64 {
     number.saturating_add(1)
 }
 
-/// Tells what is found in a transcript of so many steps, and answers whether it is what stands there.
+/// Shows what is found in a transcript of so many steps, and answers whether it is what stands there.
 fn tell<R: Print + Eprint>(
     rt: &R,
     name: &str,

@@ -105,7 +105,7 @@ impl Client {
         self.ask(line.as_str())
     }
 
-    /// Inserts one card, as often as it is told that the deck has another version by now.
+    /// Inserts one card, as often as it is answered that the deck has another version by now.
     fn insert(&mut self, alloc: Global, card: &str) -> io::Result<()> {
         let mut version = 1;
         for _ in 0..TRIES {
@@ -144,7 +144,7 @@ impl Client {
     }
 }
 
-/// How many lines stand behind the first line of a reply: the third of its words tells it.
+/// How many lines stand behind the first line of a reply: the third of its words shows it.
 fn lines_behind(first: &str) -> u64 {
     let (word, rest) = cut(first);
     if word == "OK" { number(cut(rest).1) } else { 0 }
@@ -162,7 +162,7 @@ pub(crate) fn are_in_range(settings: &Settings<'_>) -> bool
         && 1 <= settings.idle
 }
 
-/// Serves by these settings, if they are in range, and tells whether that ended well.
+/// Serves by these settings, if they are in range, and returns whether that ended well.
 fn serve_in_range<R>(rt: &R, alloc: Global, listener: &TcpListener, settings: &Settings<'_>) -> bool
 where
     R: Threads
@@ -244,7 +244,7 @@ where
     true
 }
 
-/// What clients are told.
+/// What clients are shown.
 fn talk<R: Threads + Sync + Net<Stream = TcpStream> + Clock>(
     rt: &R,
     alloc: Global,

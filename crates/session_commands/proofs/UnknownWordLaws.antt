@@ -1,4 +1,4 @@
--- That a word which begins no command is told whole.
+-- That a word which begins no command is shown whole.
 use Rattle.std.proofs.Common.{◌≡◌, ℕ, ◌-◌, List, ◌++◌, codes, length, refl, ap}
 use Rattle.std.specs.Prelude.{replicate}
 use Rattle.std.proofs.lemmas.List.{take_at}

@@ -303,7 +303,7 @@ batch = refl
 pub batch-since : command_of (codes "BATCH M 3+ 100") ≡ Ok (command.Batch (record { name = Ok (codes "M"); seen = Since 3; count = 100 }))
 batch-since = refl
 
--- the name of a batch is told later
+-- the name of a batch is shown later
 pub batch-bad_name : command_of (codes "BATCH M+ 3 1") ≡ Ok (command.Batch (record { name = Err BadName; seen = Exactly 3; count = 1 }))
 batch-bad_name = refl
 
@@ -317,7 +317,7 @@ put-new = refl
 pub put-most : command_of (codes "PUT M 3 20000") ≡ Ok (command.Put (record { name = Ok (codes "M"); version = 3; count = 20000 }))
 put-most = refl
 
--- the name of a put is told later, too
+-- the name of a put is shown later, too
 pub put-bad_name : command_of (codes "PUT M+ 3 1") ≡ Ok (command.Put (record { name = Err BadName; version = 3; count = 1 }))
 put-bad_name = refl
 
@@ -413,7 +413,7 @@ request = refl
 pub sixteen_characters : command_of (codes "!234567890abcde~ M") ≡ Err (UnknownCommand (told_word (codes "!234567890abcde~")))
 sixteen_characters = refl
 
--- first words that are not told: too long, empty, or with a character that is not printed
+-- first words that are not shown: too long, empty, or with a character that is not printed
 pub seventeen_characters : command_of (codes "1234567890abcdefg M") ≡ Err BadCommand
 seventeen_characters = refl
 

@@ -212,7 +212,7 @@ command_by verb.Hello rest = made_of command.Hello (only_name rest)
 command_by verb.Help rest = alone command.Help rest
 command_by verb.Bye rest = alone command.Bye rest
 
--- why a line is none whose first word begins no command: that word is told, where it can be
+-- why a line is none whose first word begins no command: that word is shown, where it can be
 abbrev pub refusal_of_word : List ℕ → Refusal
 refusal_of_word word = if can_be_told word then UnknownCommand (told_word word) else BadCommand
 

@@ -66,6 +66,6 @@ card_or_bad_line number (IsCard columns) = Ok columns
 card_or_bad_line number TooWide = Err (BadLine number card.TooWide)
 card_or_bad_line number (BadCharacter column) = Err (BadLine number (card.BadCharacter column))
 
--- the card that a line of a put is, all of it; of one that is none, its number is told
+-- the card that a line of a put is, all of it; of one that is none, its number is shown
 abbrev pub card_in_put : ℕ → List ℕ → Result Card Refusal
 card_in_put number line = card_or_bad_line number (card_of line)

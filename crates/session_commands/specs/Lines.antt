@@ -92,13 +92,13 @@ line_of_command (command.Hello name) = codes "HELLO" ++ behind_a_blank (name ++ 
 line_of_command command.Help = codes "HELP"
 line_of_command command.Bye = codes "BYE"
 
--- a place that can be told, and a card
+-- a place that can be written, and a card
 abbrev pub IsLawfulEdit : Edit → Type 0
 IsLawfulEdit (Insert at card) = (at ≤ greatest_number) × (card_of card ≡ IsCard card)
 IsLawfulEdit (Replace at card) = (at ≤ greatest_number) × (card_of card ≡ IsCard card)
 IsLawfulEdit (Remove at) = at ≤ greatest_number
 
--- a version that can be told
+-- a version that can be written
 abbrev pub IsLawfulSeen : Seen → Type 0
 IsLawfulSeen (Exactly version) = version ≤ greatest_number
 IsLawfulSeen (Since version) = version ≤ greatest_number
@@ -108,13 +108,13 @@ abbrev pub IsLawfulName : Result (List ℕ) Refusal → Type 0
 IsLawfulName (Ok name) = IsTrue (is_deck_name name)
 IsLawfulName (Err refusal) = ⊥
 
--- a place and a number of cards that can be told, or a text that can be looked for
+-- a place and a number of cards that can be written, or a text that can be looked for
 abbrev pub IsLawfulView : CardsView → Type 0
 IsLawfulView All = ⊤
 IsLawfulView (From place count) = (1 ≤ place) × (place ≤ greatest_number) × (count ≤ greatest_number)
 IsLawfulView (With text) = (card_of text ≡ IsCard text) × IsTrue (is_sought_size (length text))
 
--- a command with a lawful name, numbers that can be told, and a card; where it is a batch, with a name and 1 to 100 edits; where it is a put, with a name and at most 20,000 cards
+-- a command with a lawful name, numbers that can be written, and a card; where it is a batch, with a name and 1 to 100 edits; where it is a put, with a name and at most 20,000 cards
 abbrev pub IsLawful : Command → Type 0
 IsLawful (command.Add name) = IsTrue (is_deck_name name)
 IsLawful (command.Load name) = IsTrue (is_deck_name name)

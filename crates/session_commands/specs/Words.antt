@@ -36,7 +36,7 @@ is_number word = nat_le 1 (length word) && nat_le (length word) 19 && list_all i
 abbrev pub number_in : List ℕ → Option ℕ
 number_in word = if is_number word then Some (number_of 10 word) else None
 
--- the version that a word tells: that one and no other, or with a plus behind it that one or any later one
+-- the version that a word shows: that one and no other, or with a plus behind it that one or any later one
 abbrev pub seen_in : List ℕ → Option Seen
 seen_in word =
     let last = length word - 1 in

@@ -22,7 +22,7 @@ const MOST_EDITS: u64 = 100;
 /// How many cards a put has at most.
 const MOST_PUT_CARDS: u64 = 20_000;
 
-/// What a line of a session asks for. Who changes a deck tells the version of it that was seen.
+/// What a line of a session asks for. Who changes a deck gives the version of it that was seen.
 #[derive(Drop)]
 pub enum Command {
     /// A new deck without cards.
@@ -524,7 +524,7 @@ fn put_in(rest: &[u8]) -> Result<Command, Refusal>
 /// digits and is at most 2^62, and a plus may stand behind the version of an edit or a batch; the text of
 /// a card is all that stands behind one blank, and a line that ends behind its place has the empty card.
 /// Any other line is `BadCommand`, or `UnknownCommand` with its first word where that begins no command
-/// and can be told; then comes `BadName`, and then the fault of the card. The name of a batch or a put is
+/// and can be written; then comes `BadName`, and then the fault of the card. The name of a batch or a put is
 /// looked at later, so its fault stands in the head.
 pub fn read_command(line: &[u8]) -> Result<Command, Refusal>
     ensures command { result ≡ command_of line.now }

@@ -64,7 +64,7 @@ pub fn read_batch_line(line: &[u8]) -> Result<Edit, Refusal>
 }
 
 /// Reads the line of this number behind a `PUT`, which is a card, all of it. The refusal of any other
-/// line tells its number.
+/// line shows its number.
 pub fn read_put_line(number: u64, line: &[u8]) -> Result<Card, Refusal>
     ensures { result ≡ card_in_put number line.now }
 {

@@ -16,7 +16,7 @@ pub fn lines_read_back()
     ensures edits { (edit : Edit) → IsLawfulEdit edit → edit_in_batch (line_in_batch edit) ≡ Ok edit }
 {}
 
-/// A word that begins no command is told whole: the refusal has the word behind its name, and nothing else.
+/// A word that begins no command is shown whole: the refusal has the word behind its name, and nothing else.
 pub fn words_are_told_whole()
     ensures { (word : List ℕ) → refusal_text (UnknownCommand (told_word word)) ≡ codes "UnknownCommand " ++ word }
 {}

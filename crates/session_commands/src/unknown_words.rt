@@ -3,7 +3,7 @@ ghost use Rattle.std.specs.Prelude.{◌≡◌, ◌≤◌, length};
 ghost use Rattle.std.specs.List.{list_all};
 ghost use Rattle.session_commands.specs.UnknownWords.{can_be_told, is_printed, text_of_word, told_word, word_in};
 
-/// How many characters a word has at most that is told.
+/// How many characters a word has at most that is shown.
 const MOST_CHARACTERS: usize = 16;
 
 /// The first word of a line, which begins no command: 1 to 16 ASCII characters that are printed, and no
@@ -15,7 +15,7 @@ pub struct UnknownWord {
 }
 
 impl UnknownWord {
-    /// The word that these characters make, if it can be told.
+    /// The word that these characters make, if it can be written.
     pub fn read(text: &[u8]) -> Option<UnknownWord>
         ensures { result ≡ word_in text.now }
     {

@@ -123,7 +123,7 @@ pub enum Seen {
     Since(u64),
 }
 
-/// The version that a word tells: a number, or one with a plus behind it where the deck may have changed
+/// The version that a word shows: a number, or one with a plus behind it where the deck may have changed
 /// since.
 fn seen_in(word: &[u8]) -> Option<Seen>
     ensures { result ≡ seen_in word.now }

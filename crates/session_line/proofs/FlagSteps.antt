@@ -51,7 +51,7 @@ texts-next name before cards lines i shown within is =
     ap (flags_text name) (flags-next before cards lines i shown within is)
     ∙ flags_text-append name (flag_of before (take shown.cards cards) shown.letters (is_none shown.coded)) (flags_in (before + length (take shown.cards cards)) (drop shown.cards cards) (drop (i + 1) lines))
 
--- the same, where cards and bytes are told otherwise
+-- the same, where cards and bytes are shown otherwise
 pub texts-step : (name : List ℕ) (before : ℕ) (cards own behind : List Card) (lines : List Line) (i : ℕ) (shown : Line) (bytes : List ℕ) → i < length lines → shown ≡ get_or lines i shown →
     own ≡ take shown.cards cards → behind ≡ drop shown.cards cards → bytes ≡ flags_text name (flag_of before own shown.letters (is_none shown.coded)) →
     flags_text name (flags_in before cards (drop i lines)) ≡ bytes ++ flags_text name (flags_in (before + length own) behind (drop (i + 1) lines))
@@ -98,7 +98,7 @@ flag-same before stood cards letters behind which =
     ⊎_elim (λ (none : cards ≡ []). ap (λ (c : List Card). flag_of before c letters behind) none ∙ sym (ap (λ (c : List Card). flag_of stood c letters behind) none))
     (λ (same : before ≡ stood). ap (λ (n : ℕ). flag_of n cards letters behind) same) which
 
--- what is told of lines is what is told of the statements that they show
+-- what is stated of lines is what is stated of the statements that they show
 flags-same : (parts : ObjectParts) (before stood : ℕ) (cards : List Card) (lines : List Line) (all : List Shown) →
     AreShown parts.kind parts.bases parts.items.items stood cards lines all → (cards ≡ []) ⊎ (before ≡ stood) →
     flags_in before cards lines ≡ flat_map shown_flag all

@@ -48,7 +48,7 @@ is_question Show = true
 is_question Status = true
 is_question _ = false
 
--- in a sense in which two states of a desk are the same, no call of a session changes it that is told as refused, and no question, wait or greeting does
+-- in a sense in which two states of a desk are the same, no call of a session changes it that is reported as refused, and no question, wait or greeting does
 pub record IsSteady {C : Type 0} (calls : DeskRelations C) (IsSame : C → C → Type 0) : Type 0 where
   pub same : (desk : C) → IsSame desk desk
   pub joined : (first second third : C) → IsSame first second → IsSame second third → IsSame first third
@@ -62,7 +62,7 @@ abbrev asks_session : Task → Bool
 asks_session (Ask call) = is_session_call call
 asks_session _ = true
 
--- what holds of a status and of anything else holds of all that is told
+-- what holds of a status and of anything else holds of all that is shown
 where-same : (what : Told) (Made : ℕ → Option ℕ → List Row → Type 0) (Other P : Type 0) → ((version : ℕ) (published : Option ℕ) (rows : List Row) → Made version published rows → P) → (Other → P) → WhereStatus what Made Other → P
 where-same (told.Status version published rows) Made Other P made other holds = made version published rows holds
 where-same (told.Done version) Made Other P made other holds = other holds
@@ -88,7 +88,7 @@ module _ {C S : Type 0} (calls : DeskRelations C) (files : ShelfRelations S)
   uncalled-same : (desk next : C) → next ≡ desk → IsSame desk next
   uncalled-same desk next is = subst (λ (d : C). IsSame desk d) (sym is) (steady.same desk)
 
-  -- one call, of which a refusal is told
+  -- one call, of which a refusal is shown
   asks-same : (call : Call) (desk next : C) (answer : Answer) → is_session_call call ≡ true → Asks calls.makes call told_of_call desk next answer → is_refusal answer.told ≡ true → IsSame desk next
   asks-same call desk next answer session asks refused = steady.refused desk next call asks.reply session asks.made (sym (ap (λ (a : Answer). is_refusal a.told) asks.answered) ∙ refused)
 
@@ -96,7 +96,7 @@ module _ {C S : Type 0} (calls : DeskRelations C) (files : ShelfRelations S)
   adds-same name (Ok cards) desk next answer adds refused = asks-same (AddDeck (record { name = name; cards = cards })) desk next answer refl adds refused
   adds-same name (Err fault) desk next answer adds refused = uncalled-same desk next adds.0
 
-  -- a deck that was put over another, of which a refusal is told
+  -- a deck that was put over another, of which a refusal is shown
   put-same : (deck : Deck) (version : Result ℕ Refusal) (desk next : C) (answer : Answer) → PutsBy calls.makes deck version desk next answer → is_refusal answer.told ≡ true → IsSame desk next
   put-same deck (Ok version) desk next answer puts refused = asks-same (PutDeck deck version) desk next answer refl puts refused
   put-same deck (Err refusal) desk next answer puts refused = uncalled-same desk next puts.0
@@ -124,7 +124,7 @@ module _ {C S : Type 0} (calls : DeskRelations C) (files : ShelfRelations S)
       where-same what (λ version published rows. TellsSaves calls.makes files version rows desk next shelf after answer) ((next ≡ desk) × (after ≡ shelf) × (answer ≡ called what)) (IsSame desk next)
       (λ version published rows saves. saves-same version rows desk next shelf after answer saves) (λ same. uncalled-same desk next same.0)
 
-  -- decks of which a refusal is told were not added
+  -- decks of which a refusal is shown were not added
   adds-told-same : (version : ℕ) (rows : List Row) (decks : List Deck) (desk next : C) (answer : Answer) → TellsAdds calls.makes version rows decks desk next answer → is_refusal answer.told ≡ true → IsSame desk next
   adds-told-same version rows decks desk next answer (added_all lines room each answered) refused = let not : false ≡ true = sym (ap (λ (a : Answer). is_refusal a.told) answered) ∙ refused in cc
   adds-told-same version rows decks desk next answer (not_added refusal why stays answered) refused = uncalled-same desk next stays

@@ -29,7 +29,7 @@ cards_reply-fits : (deck : Option DeskDeck) → is_cards (cards_reply deck) ≡ 
 cards_reply-fits None = refl
 cards_reply-fits (Some deck) = refl
 
--- what is kept of a deck's changes is told or refused
+-- what is kept of a deck's changes is shown or refused
 unless-changes : (cause : Option Refusal) (desk : Desk) (version : ℕ) (kept : List KeptEdit) → is_changes (unless cause desk (answers (ChangesAre version kept) desk)).reply ≡ true
 unless-changes None desk version kept = refl
 unless-changes (Some refusal) desk version kept = refl
@@ -46,7 +46,7 @@ cards_at_of-fits : (version : ℕ) (desk : Desk) (deck : Option DeskDeck) → is
 cards_at_of-fits version desk None = refl
 cards_at_of-fits version desk (Some deck) = unless-cards (against_since version deck) desk version deck.cards (backs_of (edits_behind version deck))
 
--- a change that is carried is told with its edits or refused
+-- a change that is carried is shown with its edits or refused
 unless-carried : (cause : Option Refusal) (desk : Desk) (made : Answer) → is_carried made.reply ≡ true → is_carried (unless cause desk made).reply ≡ true
 unless-carried None desk made is = is
 unless-carried (Some refusal) desk made is = refl

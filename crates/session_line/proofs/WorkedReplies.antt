@@ -101,7 +101,7 @@ reader = unfold digits in refl
 pub service : service_text ≡ codes "SERVICE beskloun 0.1.0"
 service = refl
 
--- a first line that tells how many follow
+-- a first line that shows how many follow
 pub counted : counted_text 5 4 ≡ codes "OK 5 4"
 counted = unfold digits in refl
 

@@ -150,7 +150,7 @@ lines_of_put = refl
 pub put-bad_name : task_of (codes "PUT M+ 4 2") (codes "a" ∷ codes "b" ∷ []) ≡ Refuse BadName
 put-bad_name = refl
 
--- the first line that is no card counts, and is told with its number
+-- the first line that is no card counts, and is shown with its number
 pub put-bad_line : task_of (codes "PUT M 4 3") (codes "*A" ∷ codes "*Ba" ∷ codes "c" ∷ []) ≡ Refuse (BadLine 2 (card.BadCharacter 3))
 put-bad_line = refl
 
@@ -264,7 +264,7 @@ errors_of_none = refl
 pub status : told_text (told_of_call (reply.StatusIs 1 None (record { name = codes "M"; version = 1; cards = 0; state = Behind; decks_behind = 0 } ∷ []))) ≡ codes "OK 1 2\nPUBLISHED NONE\nM 1 0 BEHIND\n"
 status = unfold digits in refl
 
--- who waited is told the status without its decks: here once version 7 is published, and where nothing is
+-- who waited is shown the status without its decks: here once version 7 is published, and where nothing is
 pub status_of_files : told_text (told.FileStatus 2 None (marked (record { name = codes "M"; version = 1; cards = 0; state = Behind; decks_behind = 0 }) true ∷ marked (record { name = codes "N"; version = 2; cards = 0; state = Behind; decks_behind = 0 }) false ∷ []))
     ≡ codes "OK 2 3\nPUBLISHED NONE\nM 1 0 BEHIND SAVED\nN 2 0 BEHIND UNSAVED\n"
 status_of_files = unfold digits in refl
@@ -358,7 +358,7 @@ card_before_rights = refl
 pub editors_edit : allowed Edits (task_of (codes "ADD M") []) ≡ Ask (call.AddDeck (record { name = codes "M"; cards = [] }))
 editors_edit = refl
 
--- who greets is told the service and who is connected; or why there is no status
+-- who greets is shown the service and who is connected; or why there is no status
 pub greeted : told_text (told_of_greeting (met (reply.StatusIs 9 (Some 7) []) (record { number = 0; who = codes "PAT"; rights = Edits } ∷ record { number = 3; who = codes "3"; rights = Reads } ∷ [])))
     ≡ codes "OK 9 3\nSERVICE beskloun 0.1.0\nSESSION 0 PAT\nREADER 3 3\n"
 greeted = unfold digits in refl

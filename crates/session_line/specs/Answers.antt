@@ -56,7 +56,7 @@ most_sessions = 64
 abbrev pub foreign : Told
 foreign = told.Refused refusal.Foreign
 
--- what is told of the reply to a call that shows neither cards nor a publication; no more edits than are kept of a deck, and no more decks than a desk may have
+-- what is shown of the reply to a call that shows neither cards nor a publication; no more edits than are kept of a deck, and no more decks than a desk may have
 abbrev pub told_of_call : Reply → Told
 told_of_call (Changed version) = told.Done version
 told_of_call (Carried version seen edits) = told.Done version
@@ -66,46 +66,46 @@ told_of_call (StatusIs version published rows) = if nat_le (length rows) most_de
 told_of_call (Refused reason) = told.Refused (desk_reason reason)
 told_of_call _ = foreign
 
--- what holds where a status is told, with its version, what is published and its decks; or where anything else is
+-- what holds where a status is shown, with its version, what is published and its decks; or where anything else is
 abbrev pub WhereStatus : Told → (ℕ → Option ℕ → List Row → Type 0) → Type 0 → Type 0
 WhereStatus (told.Status version published rows) Made Other = Made version published rows
 WhereStatus _ Made Other = Other
 
--- what is told of what a reply gives; or why it gives nothing
+-- what is shown of what a reply gives; or why it gives nothing
 abbrev pub told_by : {T : Type 0} → (T → Told) → Result T Refusal → Told
 told_by tells (Ok given) = tells given
 told_by tells (Err reason) = told.Refused reason
 
--- what is told of the reply to a call for the status that was waited for: the status without its decks
+-- what is shown of the reply to a call for the status that was waited for: the status without its decks
 abbrev pub told_of_wait : Reply → Told
 told_of_wait reply = told_by (λ (status : Status). told.Standing status.version status.published) (status_in reply)
 
--- what is told of a status to who greets; no more sessions than may be connected
+-- what is shown of a status to who greets; no more sessions than may be connected
 abbrev pub told_of_sessions : Reply → List Connected → Told
 told_of_sessions reply sessions = told_by (λ (status : Status). if nat_le (length sessions) most_sessions then told.Sessions status.version sessions else foreign) (status_in reply)
 
--- what is told of the answer to who greets
+-- what is shown of the answer to who greets
 abbrev pub told_of_greeting : Greeting → Told
 told_of_greeting greeting = told_of_sessions greeting.status greeting.sessions
 
--- what is told of a status to who asks for what may be asked
+-- what is shown of a status to who asks for what may be asked
 abbrev pub told_of_help : Reply → Told
 told_of_help reply = told_by (λ (status : Status). told.Help status.version) (status_in reply)
 
--- what is told of the reply to a call for the cards of a deck, of which this is shown; no more than a deck may have
+-- what is shown of the reply to a call for the cards of a deck, of which this is shown; no more than a deck may have
 abbrev pub told_of_cards : CardsView → Reply → Told
 told_of_cards view (CardsAre version cards) = if nat_le (length cards) most_cards then told.Cards version cards view else foreign
 told_of_cards view (Refused reason) = told.Refused (desk_reason reason)
 told_of_cards view _ = foreign
 
--- what is told of the cards that edits make of these
+-- what is shown of the cards that edits make of these
 abbrev pub told_of_backs : ℕ → List Edit → List Card → Told
 told_of_backs version backs cards = elim (first_fault backs cards) [
   | None ↦ told_of_cards All (CardsAre version (edited_by backs cards))
   | Some fault ↦ foreign
 ]
 
--- what is told of the reply to a call for the cards that a deck had at a version: those of now, with the changes since taken back
+-- what is shown of the reply to a call for the cards that a deck had at a version: those of now, with the changes since taken back
 abbrev pub told_of_cards_at : Reply → Told
 told_of_cards_at (CardsBefore version cards backs) = told_of_backs version backs cards
 told_of_cards_at (Refused reason) = told.Refused (desk_reason reason)
@@ -120,15 +120,15 @@ has_backs _ = false
 abbrev pub IsToldAt : Reply → Told → Type 0
 IsToldAt reply what = (what ≡ told_of_cards_at reply) ⊎ (IsTrue (has_backs reply) × (what ≡ told.Refused refusal.OutOfMemory))
 
--- what is told of the reply to a call for the publication, of which this text is shown
+-- what is shown of the reply to a call for the publication, of which this text is shown
 abbrev pub told_of_publication : PublishedText → Reply → Told
 told_of_publication text reply = told_by (λ (publication : Publication). told.Published publication text) (shown_in reply)
 
--- what is told of the reply to a call for the publication, of which this text of the deck of a name is shown
+-- what is shown of the reply to a call for the publication, of which this text of the deck of a name is shown
 abbrev pub told_of_part : DeckText → List ℕ → Reply → Told
 told_of_part text name reply = told_by (λ (publication : Publication). told.Part publication text name) (shown_in reply)
 
--- what is told of the reply to a call for the publication, of which the flagged statements and LINK lines are shown; no more decks than a desk may have
+-- what is shown of the reply to a call for the publication, of which the flagged statements and LINK lines are shown; no more decks than a desk may have
 abbrev pub told_of_errors : ErrorsView → Reply → Told
 told_of_errors view reply = told_by (λ (publication : Publication). if nat_le (length publication.decks) most_decks then told.Errors publication view else foreign) (shown_in reply)
 
@@ -169,7 +169,7 @@ view_text version (With text) cards = with_body (counted_text version (length (n
 abbrev pub status_text : ℕ → Option ℕ → List Row → List ℕ
 status_text version published rows = with_body (counted_text version (length rows + 1)) (line_of (published_text published) ++ rows_text rows)
 
--- the text that a session is told
+-- the text that a session is shown
 abbrev pub told_text : Told → List ℕ
 told_text (told.Done version) = with_body (ok_text version) []
 told_text (told.Unkept version) = with_body (unkept_text version) []
@@ -194,7 +194,7 @@ abbrev pub is_bye : Told → Bool
 is_bye told.Bye = true
 is_bye _ = false
 
--- what is told has no more cards, edits, decks, files and sessions than may be
+-- what is shown has no more cards, edits, decks, files and sessions than may be
 abbrev pub IsTellable : Told → Type 0
 IsTellable (told.Cards version cards view) = length cards ≤ most_cards
 IsTellable (told.Changes version kept) = length kept ≤ most_kept
@@ -206,10 +206,10 @@ IsTellable (told.Files version rows) = length rows ≤ most_files
 IsTellable (told.Sessions version sessions) = length sessions ≤ most_sessions
 IsTellable _ = ⊤
 
--- what is told after a call of the desk
+-- what is shown after a call of the desk
 abbrev pub called : Told → Answer
 called what = record { told = what; executed = true }
 
--- what is told without one
+-- what is shown without one
 abbrev pub uncalled : Told → Answer
 uncalled what = record { told = what; executed = false }

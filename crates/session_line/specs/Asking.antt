@@ -1,4 +1,4 @@
--- What several commands do of the desk and the shelf (ours): one call with what is told of its reply, one load, and the version that the shelf notes.
+-- What several commands do of the desk and the shelf (ours): one call with what is shown of its reply, one load, and the version that the shelf notes.
 use Rattle.std.specs.Prelude.{ℕ, ◌≡◌, List, Result, Ok, Err}
 use Rattle.definitions.specs.Cards.{Card}
 use Rattle.deck_files.specs.declared.deck_shelf.ShelfLoadFault.{ShelfLoadFault}
@@ -11,7 +11,7 @@ use Rattle.session_line.specs.declared.answers.Answer.{Answer}
 use Rattle.session_line.specs.Answers.{called}
 
 module _ {C : Type 0} (makes : C → Call → Reply → C → Type 0) where
-  -- one call of the desk, and what is told of its reply
+  -- one call of the desk, and what is shown of its reply
   pub record Asks (call : Call) (telling : Reply → Told) (desk next : C) (answer : Answer) : Type 0 where
     pub reply : Reply
     pub made : makes desk call reply next
@@ -24,7 +24,7 @@ module _ {S : Type 0} (files : ShelfRelations S) where
   ShelfLoads name shelf (Err fault) after = files.refuses_to_load shelf name fault after
 
 module _ {S : Type 0} (files : ShelfRelations S) where
-  -- the shelf notes the version that is told, if one is
+  -- the shelf notes the version that is shown, if one is
   abbrev pub NotesTold : List ℕ → Told → S → S → Type 0
   NotesTold name (told.Done version) shelf after = files.notes shelf name version after
   NotesTold name (told.Unkept version) shelf after = files.notes shelf name version after

@@ -15,7 +15,7 @@ pub record DeskRelations (C : Type 0) : Type 1 where
   pub makes : C → Call → Reply → C → Type 0
   -- the version that a session waits for, and the reply
   pub awaits : C → ℕ → Reply → C → Type 0
-  -- the name that a session tells, and what it is answered
+  -- the name that a session gives, and what it is answered
   pub greets : C → List ℕ → Greeting → C → Type 0
   -- a session begins: nothing is asked and nothing answered
   pub begins : C → C → Type 0

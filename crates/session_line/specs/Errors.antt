@@ -11,12 +11,12 @@ use Rattle.session_commands.specs.Words.{from_blank, behind_word}
 use Rattle.session_commands.specs.declared.views.ErrorsView.{ErrorsView}
 use Rattle.session_commands.specs.declared.views.ErrorsView.TheVariants.{Every, Of}
 
--- what is told of a statement: it is flagged, with the number of its first card in the deck, its letters, and that card; or it stands behind END and begins another deck, with the number of its first card, and that card
+-- what is shown of a statement: it is flagged, with the number of its first card in the deck, its letters, and that card; or it stands behind END and begins another deck, with the number of its first card, and that card
 pub data Flag : Type 0 where
   Flagged : ℕ → List ℕ → Card → Flag
   Begins : ℕ → Card → Flag
 
--- a statement without letters, of whose cards so many stand before: it is told where it stands behind END and begins another deck
+-- a statement without letters, of whose cards so many stand before: it is shown where it stands behind END and begins another deck
 abbrev pub deck_begun : ℕ → Card → Bool → List Flag
 deck_begun before card is_behind = if is_behind && begins_deck card then Begins (before + 1) card ∷ [] else []
 
@@ -26,20 +26,20 @@ flag_of before [] letters is_behind = []
 flag_of before (card ∷ cards) [] is_behind = deck_begun before card is_behind
 flag_of before (card ∷ cards) (letter ∷ letters) is_behind = Flagged (before + 1) (letter ∷ letters) card ∷ []
 
--- a statement of the listing, where it is told
+-- a statement of the listing, where it is shown
 abbrev pub shown_flag : Shown → List Flag
 shown_flag shown = flag_of shown.statement.before shown.statement.cards shown.letters (is_none shown.coded)
 
--- those of a deck that are told, in order
+-- those of a deck that are shown, in order
 abbrev pub flags_of : Deck → List Flag
 flags_of deck = flat_map shown_flag (reverse (object_of deck).shown)
 
--- the line of a statement that is told: its deck, the number of its first card, its letters where it is flagged, and that card
+-- the line of a statement that is shown: its deck, the number of its first card, its letters where it is flagged, and that card
 abbrev pub flag_text : List ℕ → Flag → List ℕ
 flag_text name (Flagged number letters card) = codes "ERR " ++ (name ++ (codes " " ++ (decimal number ++ (codes " " ++ (letters ++ (codes " " ++ card))))))
 flag_text name (Begins number card) = codes "MORE " ++ (name ++ (codes " " ++ (decimal number ++ (codes " " ++ card))))
 
--- the lines of the statements of a deck that are told
+-- the lines of the statements of a deck that are shown
 abbrev pub deck_errors : Deck → List (List ℕ)
 deck_errors deck = map (flag_text deck.name) (flags_of deck)
 

@@ -25,7 +25,7 @@ use Rattle.session_line.specs.Answers.{told_of_call, told_of_wait, told_of_greet
 use Rattle.session_line.specs.DeskRelations.{DeskRelations}
 
 module _ {C : Type 0} (makes : C → Call → Reply → C → Type 0) where
-  -- CARDS AT: one call of the desk for the cards of now and the changes since, and what is told of that
+  -- CARDS AT: one call of the desk for the cards of now and the changes since, and what is shown of that
   pub record AsksAt (name : List ℕ) (version : ℕ) (desk next : C) (answer : Answer) : Type 0 where
     pub reply : Reply
     pub made : makes desk (CardsAt name version) reply next
@@ -33,7 +33,7 @@ module _ {C : Type 0} (makes : C → Call → Reply → C → Type 0) where
     pub told : IsToldAt reply what
     pub answered : answer ≡ called what
 
-  -- ERRORS WORDS and SYMBOLS: one call of the desk for the publication, and what is told of that
+  -- ERRORS WORDS and SYMBOLS: one call of the desk for the publication, and what is shown of that
   pub record AsksShown (telling : Reply → Told → Type 0) (desk next : C) (answer : Answer) : Type 0 where
     pub reply : Reply
     pub made : makes desk Show reply next
@@ -41,7 +41,7 @@ module _ {C : Type 0} (makes : C → Call → Reply → C → Type 0) where
     pub told : telling reply what
     pub answered : answer ≡ called what
 
-  -- the deck that the shelf gave is added; or its fault is told, and the desk is not called
+  -- the deck that the shelf gave is added; or its fault is shown, and the desk is not called
   abbrev pub AddsLoaded : List ℕ → Result (List Card) ShelfLoadFault → C → C → Answer → Type 0
   AddsLoaded name (Ok cards) desk next answer = Asks makes (AddDeck (record { name = name; cards = cards })) told_of_call desk next answer
   AddsLoaded name (Err fault) desk next answer = (next ≡ desk) × (answer ≡ uncalled (told.Refused (load_reason fault)))
@@ -56,21 +56,21 @@ module _ {C S : Type 0} (makes : C → Call → Reply → C → Type 0) (files :
     pub noted : NotesTold files name answer.told between after
 
 module _ {C : Type 0} (awaits : C → ℕ → Reply → C → Type 0) where
-  -- WAIT: the desk answers who waits for a version, and what is told of that
+  -- WAIT: the desk answers who waits for a version, and what is shown of that
   pub record AwaitsVersion (version : ℕ) (desk next : C) (answer : Answer) : Type 0 where
     pub reply : Reply
     pub awaited : awaits desk version reply next
     pub answered : answer ≡ called (told_of_wait reply)
 
 module _ {C : Type 0} (greets : C → List ℕ → Greeting → C → Type 0) where
-  -- HELLO: the desk is told the name, and what is told of its answer
+  -- HELLO: the desk is given the name, and what is shown of its answer
   pub record Greets (name : List ℕ) (desk next : C) (answer : Answer) : Type 0 where
     pub greeting : Greeting
     pub greeted : greets desk name greeting next
     pub answered : answer ≡ called (told_of_greeting greeting)
 
 module _ {C S : Type 0} (calls : DeskRelations C) (files : ShelfRelations S) where
-  -- nothing is called, and this is told
+  -- nothing is called, and this is shown
   abbrev pub OnlyTells : Answer → C → C → S → S → Answer → Type 0
   OnlyTells what desk next shelf after answer = (next ≡ desk) × (after ≡ shelf) × (answer ≡ what)
 

@@ -12,19 +12,19 @@ use Rattle.session_line.specs.declared.answers.Answer.{Answer}
 use Rattle.session_line.specs.Reasons.{load_reason}
 use Rattle.session_line.specs.Answers.{told_of_wait, called}
 
--- what is told of the files of the shelf, or why there are none
+-- what is shown of the files of the shelf, or why there are none
 abbrev pub told_of_files : ℕ → Result (List FileRow) ShelfLoadFault → Told
 told_of_files version (Ok rows) = told.Files version rows
 told_of_files version (Err fault) = told.Refused (load_reason fault)
 
 module _ {S : Type 0} (files : ShelfRelations S) where
-  -- what the shelf lists is told with this version
+  -- what the shelf lists is shown with this version
   pub record TellsFiles (version : ℕ) (shelf after : S) (answer : Answer) : Type 0 where
     pub listed : Result (List FileRow) ShelfLoadFault
     pub shelved : files.lists shelf listed after
     pub answered : answer ≡ called (told_of_files version listed)
 
-  -- the files are told with the version that would be; what else would be told is, and the shelf is not called
+  -- the files are shown with the version that would be; what else would be shown is, and the shelf is not called
   abbrev pub FilesTold : Told → S → S → Answer → Type 0
   FilesTold (told.Standing version published) shelf after answer = TellsFiles version shelf after answer
   FilesTold what shelf after answer = (after ≡ shelf) × (answer ≡ called what)

@@ -1,4 +1,4 @@
--- Who greets, and the lines that it is told (ours): the service and its version, and who is connected.
+-- Who greets, and the lines that it is shown (ours): the service and its version, and who is connected.
 use Rattle.std.specs.Prelude.{ℕ, ◌≡◌, Bool, true, false, List, [], ◌++◌, codes, decimal}
 use Rattle.desk_core.specs.declared.calls.Call.{Call}
 use Rattle.desk_core.specs.declared.calls.Call.TheVariants.{Status}
@@ -30,12 +30,12 @@ connected_text connected = session_word connected.rights ++ (decimal connected.n
 abbrev pub met : Reply → List Connected → Greeting
 met status sessions = record { status = status; sessions = sessions }
 
--- whether a status is told
+-- whether a status is shown
 abbrev pub is_status_reply : Reply → Bool
 is_status_reply (StatusIs version published rows) = true
 is_status_reply _ = false
 
--- whether the name holds from now on: where the status is told
+-- whether the name holds from now on: where the status is shown
 abbrev pub is_met : Greeting → Bool
 is_met greeting = is_status_reply greeting.status
 

@@ -30,7 +30,7 @@ abbrev pub refusal_to_add : List Row → List Deck → Option Refusal
 refusal_to_add rows decks = if is_any_there rows decks then Some NameTaken else if nat_lt most_decks (length rows + length decks) then Some TooManyDecks else None
 
 module _ {C : Type 0} (makes : C → Call → Reply → C → Type 0) where
-  -- a deck is added, and what is told of the reply is told of it
+  -- a deck is added, and what is shown of the reply is shown of it
   pub record AddsDeck (deck : Deck) (desk next : C) (line : ToldDeck) : Type 0 where
     pub reply : Reply
     pub made : makes desk (AddDeck deck) reply next
@@ -41,13 +41,13 @@ module _ {C : Type 0} (makes : C → Call → Reply → C → Type 0) where
     no_deck : AddsDecks first [] [] first
     next_deck : (decks : List Deck) (lines : List ToldDeck) (desk next : C) (deck : Deck) (line : ToldDeck) → AddsDecks first decks lines desk → AddsDeck deck desk next line → AddsDecks first (decks ++ deck ∷ []) (lines ++ line ∷ []) next
 
-  -- what became of the decks is told; or a refusal, and none was added
+  -- what became of the decks is shown; or a refusal, and none was added
   pub data TellsAdds (version : ℕ) (rows : List Row) (decks : List Deck) (desk next : C) (answer : Answer) : Type 0 where
     added_all : (lines : List ToldDeck) → refusal_to_add rows decks ≡ None → AddsDecks desk decks lines next → answer ≡ called (told.Decks version lines) → TellsAdds version rows decks desk next answer
     not_added : (refusal : Refusal) → refusal_to_add rows decks ≡ Some refusal → next ≡ desk → answer ≡ called (told.Refused refusal) → TellsAdds version rows decks desk next answer
     no_memory : next ≡ desk → answer ≡ called (told.Refused OutOfMemory) → TellsAdds version rows decks desk next answer
 
-  -- the decks are added behind the status that would be told; what else would be told is, and nothing more is called
+  -- the decks are added behind the status that would be shown; what else would be shown is, and nothing more is called
   abbrev pub AddsTold : List Deck → Told → C → C → Answer → Type 0
   AddsTold decks what desk next answer = WhereStatus what (λ version published rows. TellsAdds version rows decks desk next answer) ((next ≡ desk) × (answer ≡ called what))
 
@@ -58,7 +58,7 @@ module _ {C : Type 0} (makes : C → Call → Reply → C → Type 0) where
     pub made : makes desk Status reply between
     pub kept : AddsTold decks (told_of_call reply) between next answer
 
-  -- the decks are added, or why there are none is told
+  -- the decks are added, or why there are none is shown
   abbrev pub AddsCut : Result (List Deck) Refusal → C → C → Answer → Type 0
   AddsCut (Ok decks) desk next answer = AddsAll decks desk next answer
   AddsCut (Err refusal) desk next answer = (next ≡ desk) × (answer ≡ uncalled (told.Refused refusal))
@@ -68,7 +68,7 @@ module _ {C : Type 0} (makes : C → Call → Reply → C → Type 0) where
     cut : AddsCut (decks_in cards) desk next answer → AddsFile cards desk next answer
     uncut : next ≡ desk → answer ≡ uncalled (told.Refused OutOfMemory) → AddsFile cards desk next answer
 
-  -- those of what the shelf gave are added; or its fault is told, and the desk is not called
+  -- those of what the shelf gave are added; or its fault is shown, and the desk is not called
   abbrev pub AddsLoadedDecks : Result (List Card) ShelfLoadFault → C → C → Answer → Type 0
   AddsLoadedDecks (Ok cards) desk next answer = AddsFile cards desk next answer
   AddsLoadedDecks (Err fault) desk next answer = (next ≡ desk) × (answer ≡ uncalled (told.Refused (load_reason fault)))

@@ -1,4 +1,4 @@
--- What is told of a publication that no definition fixes whole (ours): what is said of the flagged statements of a deck, and symbols. Of a flagged statement there is a line for each letter. Which of the statement's cards it is about, in which column, and the words are those of `card_messages`; no definition fixes them.
+-- What is shown of a publication that no definition fixes whole (ours): what is said of the flagged statements of a deck, and symbols. Of a flagged statement there is a line for each letter. Which of the statement's cards it is about, in which column, and the words are those of `card_messages`; no definition fixes them.
 use Rattle.std.specs.Prelude.{ℕ, ◌≡◌, ◌+◌, ◌≤◌, ◌&&◌, ◌⊎◌, List, [], ◌∷◌, ◌++◌, Option, Some, None, Result, Ok, Err, codes, decimal, flat_map, map, nat_le, if◌then◌else◌}
 use Rattle.definitions.specs.Characters.{line_feed}
 use Rattle.definitions.specs.DeckInput.{Deck}
@@ -21,7 +21,7 @@ pub record Lettered : Type 0 where
 abbrev pub lettered : ℕ → List ℕ → List Lettered
 lettered number letters = map (λ letter. record { number = number; letter = letter }) letters
 
--- those of a statement that is told
+-- those of a statement that is shown
 abbrev pub letters_of : Flag → List Lettered
 letters_of (Flagged number letters card) = lettered number letters
 letters_of (Begins number card) = []
@@ -40,7 +40,7 @@ pub record Message : Type 0 where
 abbrev pub IsMessage : Message → Type 0
 IsMessage message = (message.card ≤ 9) × (1 ≤ message.column) × (message.column ≤ 72)
 
--- a character of words as it is told: what can't be shown is a point, so that a message is one line
+-- a character of words as it is shown: what can't be shown is a point, so that a message is one line
 abbrev pub told_character : ℕ → ℕ
 told_character c = if nat_le 32 c && nat_le c 126 then c else 46
 
@@ -65,7 +65,7 @@ abbrev pub AreMessages : List ℕ → List Lettered → List ℕ → Type 0
 AreMessages name [] lines = lines ≡ []
 AreMessages name (of ∷ letters) lines = MessageThen name of (AreMessages name letters) lines
 
--- what is told of a deck of a publication of this version: what is said of each letter, or that there was no memory for it
+-- what is shown of a deck of a publication of this version: what is said of each letter, or that there was no memory for it
 abbrev pub IsSaid : ℕ → Deck → Told → Type 0
 IsSaid version deck (told.Lines at lines) = (at ≡ version) × AreMessages deck.name (deck_letters deck) lines
 IsSaid version deck (told.Refused reason) = reason ≡ refusal.OutOfMemory
@@ -76,12 +76,12 @@ abbrev pub IsSaidOf : ℕ → Option Deck → Told → Type 0
 IsSaidOf version (Some deck) what = IsSaid version deck what
 IsSaidOf version None what = what ≡ told.Refused refusal.NoDeck
 
--- what is told of the publication that a reply shows; or why it shows none
+-- what is shown of the publication that a reply shows; or why it shows none
 abbrev pub IsToldBy : (Publication → Told → Type 0) → Result Publication Refusal → Told → Type 0
 IsToldBy telling (Ok publication) what = telling publication what
 IsToldBy telling (Err reason) what = what ≡ told.Refused reason
 
--- what is told of the reply to a call for the publication, of whose deck of this name it is asked what is said
+-- what is shown of the reply to a call for the publication, of whose deck of this name it is asked what is said
 abbrev pub IsToldWords : List ℕ → Reply → Told → Type 0
 IsToldWords name reply what = IsToldBy (λ publication. IsSaidOf publication.version (deck_named name publication.decks)) (shown_in reply) what
 
@@ -94,7 +94,7 @@ pub record EndsLine (lines : List ℕ) : Type 0 where
 abbrev pub IsEnded : List ℕ → Type 0
 IsEnded lines = (lines ≡ []) ⊎ EndsLine lines
 
--- what is told of symbols of a publication of this version: lines, which no definition fixes, or that there was no memory for them
+-- what is shown of symbols of a publication of this version: lines, which no definition fixes, or that there was no memory for them
 abbrev pub IsLines : ℕ → Told → Type 0
 IsLines version (told.Lines at lines) = (at ≡ version) × IsEnded lines
 IsLines version (told.Refused reason) = reason ≡ refusal.OutOfMemory
@@ -105,7 +105,7 @@ abbrev pub IsLinesOf : ℕ → Option Deck → Told → Type 0
 IsLinesOf version (Some deck) what = IsLines version what
 IsLinesOf version None what = what ≡ told.Refused refusal.NoDeck
 
--- what is told of the reply to a call for the publication, of whose deck of this name the symbols are asked for
+-- what is shown of the reply to a call for the publication, of whose deck of this name the symbols are asked for
 abbrev pub IsToldSymbols : List ℕ → Reply → Told → Type 0
 IsToldSymbols name reply what = IsToldBy (λ publication. IsLinesOf publication.version (deck_named name publication.decks)) (shown_in reply) what
 

@@ -1,4 +1,4 @@
--- How a session is told why the desk or the shelf refuses (ours).
+-- How a session is shown why the desk or the shelf refuses (ours).
 use Rattle.desk_core.specs.declared.replies.Refusal.{Refusal as DeskRefusal}
 use Rattle.desk_core.specs.declared.replies.Refusal.TheVariants as desk
 use Rattle.deck_cuts.specs.declared.cut_fault.CutFault.{CutFault}

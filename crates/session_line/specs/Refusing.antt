@@ -15,12 +15,12 @@ use Rattle.session_line.specs.Taking.{IsTaskFor}
 use Rattle.session_line.specs.Tasks.{task_of}
 use Rattle.session_line.specs.DeskRelations.{DeskRelations}
 
--- whether a refusal is told
+-- whether a refusal is shown
 abbrev pub is_refusal : Told → Bool
 is_refusal (told.Refused reason) = true
 is_refusal _ = false
 
--- whether a refusal is told of the reply to a call that shows neither cards nor a publication
+-- whether a refusal is shown of the reply to a call that shows neither cards nor a publication
 abbrev pub tells_refusal : Reply → Bool
 tells_refusal reply = is_refusal (told_of_call reply)
 

@@ -28,7 +28,7 @@ version_of_row None = Err NoDeck
 abbrev pub version_in : List ℕ → List Row → Result ℕ Refusal
 version_in name rows = version_of_row (find (λ (row : Row). same_text row.name name) rows)
 
--- the version of the deck of a name that is told, or why none is
+-- the version of the deck of a name that is shown, or why none is
 abbrev pub version_told : List ℕ → Reply → Result ℕ Refusal
 version_told name reply = elim (status_in reply) [
   | Ok status ↦ version_in name status.rows
@@ -36,7 +36,7 @@ version_told name reply = elim (status_in reply) [
 ]
 
 module _ {C : Type 0} (makes : C → Call → Reply → C → Type 0) where
-  -- a deck is put by a version; without one nothing more is called, and the reason is told
+  -- a deck is put by a version; without one nothing more is called, and the reason is shown
   abbrev pub PutsBy : Deck → Result ℕ Refusal → C → C → Answer → Type 0
   PutsBy deck (Ok version) desk next answer = Asks makes (PutDeck deck version) told_of_call desk next answer
   PutsBy deck (Err refusal) desk next answer = (next ≡ desk) × (answer ≡ called (told.Refused refusal))
@@ -48,7 +48,7 @@ module _ {C : Type 0} (makes : C → Call → Reply → C → Type 0) where
     pub made : makes desk Status reply between
     pub put : PutsBy deck (version_told deck.name reply) between next answer
 
-  -- the cards that the shelf gave are put; or its fault is told, and the desk is not called
+  -- the cards that the shelf gave are put; or its fault is shown, and the desk is not called
   abbrev pub PutsLoaded : List ℕ → Result (List Card) ShelfLoadFault → C → C → Answer → Type 0
   PutsLoaded name (Ok cards) desk next answer = PutsOver (record { name = name; cards = cards }) desk next answer
   PutsLoaded name (Err fault) desk next answer = (next ≡ desk) × (answer ≡ uncalled (told.Refused (load_reason fault)))

@@ -14,7 +14,7 @@ shown_in (Shown publication) = Ok publication
 shown_in (Refused reason) = Err (desk_reason reason)
 shown_in _ = Err Foreign
 
--- the status that is told
+-- the status that is shown
 abbrev pub status_in : Reply → Result Status Refusal
 status_in (StatusIs version published rows) = Ok (record { version = version; published = published; rows = rows })
 status_in (Refused reason) = Err (desk_reason reason)

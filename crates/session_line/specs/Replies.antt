@@ -1,4 +1,4 @@
--- The texts of replies (ours): a first line, and for some commands as many lines more as it tells.
+-- The texts of replies (ours): a first line, and for some commands as many lines more as it shows.
 use Rattle.std.specs.Prelude.{ℕ, ◌+◌, ◌≤◌, ⊤, Bool, true, false, List, [], ◌∷◌, ◌++◌, Option, Some, None, length, flat_map, codes, decimal, nat_lt, if◌then◌else◌}
 use Rattle.definitions.specs.Characters.{line_feed}
 use Rattle.deck_files.specs.DeckFiles.{file_of}

@@ -16,7 +16,7 @@ use Rattle.session_line.specs.SavingDecks.{SavesDeck}
 use Rattle.session_line.specs.ToldDecks.{told_deck}
 
 module _ {C S : Type 0} (makes : C → Call → Reply → C → Type 0) (files : ShelfRelations S) where
-  -- nothing is done where the deck's file has its cards; else what SAVE does, and that is told
+  -- nothing is done where the deck's file has its cards; else what SAVE does, and that is shown
   pub data SavesRow (row : Row) (desk next : C) (shelf after : S) : Option ToldDeck → Type 0 where
     is_saved : next ≡ desk → files.tells_saved shelf row.name row.version true after → SavesRow row desk next shelf after None
     unsaved : (between : S) (answer : Answer) → files.tells_saved shelf row.name row.version false between → SavesDeck makes files row.name Known desk next between after answer →
@@ -28,12 +28,12 @@ module _ {C S : Type 0} (makes : C → Call → Reply → C → Type 0) (files :
     next_row : (rows : List Row) (saved : List ToldDeck) (desk next : C) (shelf after : S) (row : Row) (line : Option ToldDeck) → SavesRows first start rows saved desk shelf → SavesRow row desk next shelf after line →
         SavesRows first start (rows ++ row ∷ []) (saved ++ option_to_list line) next after
 
-  -- what became of the decks is told; or there was no memory for that, and nothing was called
+  -- what became of the decks is shown; or there was no memory for that, and nothing was called
   pub data TellsSaves (version : ℕ) (rows : List Row) (desk next : C) (shelf after : S) (answer : Answer) : Type 0 where
     told_all : (saved : List ToldDeck) → SavesRows desk shelf rows saved next after → answer ≡ called (told.Decks version saved) → TellsSaves version rows desk next shelf after answer
     lacking : next ≡ desk → after ≡ shelf → answer ≡ called (told.Refused OutOfMemory) → TellsSaves version rows desk next shelf after answer
 
-  -- the decks of the status that would be told are saved; what else would be told is, and nothing more is called
+  -- the decks of the status that would be shown are saved; what else would be shown is, and nothing more is called
   abbrev pub SavesAllTold : Told → C → C → S → S → Answer → Type 0
   SavesAllTold what desk next shelf after answer =
       WhereStatus what (λ version published rows. TellsSaves version rows desk next shelf after answer) ((next ≡ desk) × (after ≡ shelf) × (answer ≡ called what))

@@ -16,12 +16,12 @@ use Rattle.session_line.specs.Reasons.{save_reason}
 use Rattle.session_line.specs.Answers.{told_of_cards, called}
 
 module _ {S : Type 0} (files : ShelfRelations S) where
-  -- one save on the shelf of the version that the desk replied with: it is told, or the fault
+  -- one save on the shelf of the version that the desk replied with: it is shown, or the fault
   pub data SavesCards (name : List ℕ) (over : SaveOver) (version : ℕ) (cards : List Card) (shelf after : S) (answer : Answer) : Type 0 where
     saved : files.saves shelf (saving name over version cards) after → answer ≡ called (told.Done version) → SavesCards name over version cards shelf after answer
     refused : (fault : ShelfSaveFault) → files.refuses_to_save shelf (saving name over version cards) fault after → answer ≡ called (told.Refused (save_reason fault)) → SavesCards name over version cards shelf after answer
 
-  -- the cards that would be told are saved; what else would be told is, and the shelf is not called
+  -- the cards that would be shown are saved; what else would be shown is, and the shelf is not called
   abbrev pub SavesTold : List ℕ → SaveOver → Told → S → S → Answer → Type 0
   SavesTold name over (told.Cards version cards view) shelf after answer = SavesCards name over version cards shelf after answer
   SavesTold name over what shelf after answer = (after ≡ shelf) × (answer ≡ called what)

@@ -51,7 +51,7 @@ edits_of lines = items_from (λ number line. edit_in_batch line) 1 lines
 abbrev pub cards_of : List (List ℕ) → Result (List Card) Refusal
 cards_of lines = items_from card_in_put 1 lines
 
--- the name in a call of a session, which knows none: who keeps the changes tells it
+-- the name in a call of a session, which knows none: the door that keeps the changes sets it
 abbrev pub nobody : List ℕ
 nobody = codes "0"
 

@@ -7,7 +7,7 @@ use Rattle.session_commands.specs.declared.refusals.Refusal.TheVariants.{Foreign
 use Rattle.session_line.specs.declared.answers.Told.{Told}
 use Rattle.session_line.specs.declared.answers.Told.TheVariants as told
 
--- the outcome that is told of a deck
+-- the outcome that is shown of a deck
 abbrev pub outcome_of : Told → DeckOutcome
 outcome_of (told.Done version) = Done version
 outcome_of (told.Unkept version) = Unkept version

@@ -1,4 +1,4 @@
-//! What a command is answered, and how the session is told.
+//! What a command is answered, and how the session is answered.
 ghost use Rattle.std.specs.Prelude.{◌≡◌, ◌≤◌, ◌⊎◌, length};
 ghost use Rattle.session_line.specs.Replies.{text_of_reply, IsWithinLimits};
 ghost use Rattle.deck_linker.specs.Publishing.{map_of};
@@ -37,7 +37,7 @@ pub(crate) const MOST_DECKS: usize = 64;
 /// How many sessions are connected at most.
 const MOST_SESSIONS: usize = 64;
 
-/// What a session is told.
+/// What a session is shown.
 #[derive(Drop)]
 pub(crate) enum Told {
     /// What was asked is done; the version is the deck's.
@@ -76,7 +76,7 @@ pub(crate) enum Told {
     Bye,
 }
 
-/// The answer to a command: what is told, and whether a desk call was made.
+/// The answer to a command: what is shown, and whether a desk call was made.
 #[derive(Drop)]
 pub(crate) struct Answer {
     pub(crate) told: Told,
@@ -90,7 +90,7 @@ fn foreign() -> Told
     Told::Refused(Refusal::Foreign)
 }
 
-/// What is told of the reply to a call that shows neither cards nor a publication.
+/// What is shown of the reply to a call that shows neither cards nor a publication.
 pub(crate) fn told_of_call(reply: Reply) -> Told
     ensures told { result ≡ told_of_call reply }
     ensures fits { IsTellable result }
@@ -133,7 +133,7 @@ pub(crate) fn told_of_call(reply: Reply) -> Told
     }
 }
 
-/// What is told of the reply to a call for the status that was waited for: the status without its decks.
+/// What is shown of the reply to a call for the status that was waited for: the status without its decks.
 pub(crate) fn told_of_wait(reply: Reply) -> Told
     ensures told { result ≡ told_of_wait reply }
     ensures fits { IsTellable result }
@@ -144,7 +144,7 @@ pub(crate) fn told_of_wait(reply: Reply) -> Told
     }
 }
 
-/// What is told of the answer to who greets: no more sessions than may be connected.
+/// What is shown of the answer to who greets: no more sessions than may be connected.
 pub(crate) fn told_of_greeting(greeting: Greeting) -> Told
     ensures told { result ≡ told_of_greeting greeting }
     ensures fits { IsTellable result }
@@ -153,7 +153,7 @@ pub(crate) fn told_of_greeting(greeting: Greeting) -> Told
     told_of_sessions(status, sessions)
 }
 
-/// What is told of a status to who greets, with those who are connected.
+/// What is shown of a status to who greets, with those who are connected.
 fn told_of_sessions(status: Reply, sessions: Listed<Connected>) -> Told
     ensures told { result ≡ told_of_sessions status sessions }
     ensures fits { IsTellable result }
@@ -170,7 +170,7 @@ fn told_of_sessions(status: Reply, sessions: Listed<Connected>) -> Told
     }
 }
 
-/// What is told of a status to who asks for what may be asked.
+/// What is shown of a status to who asks for what may be asked.
 pub(crate) fn told_of_help(reply: Reply) -> Told
     ensures told { result ≡ told_of_help reply }
     ensures fits { IsTellable result }
@@ -181,7 +181,7 @@ pub(crate) fn told_of_help(reply: Reply) -> Told
     }
 }
 
-/// What is told of the reply to a call for the cards of a deck, of which this is shown.
+/// What is shown of the reply to a call for the cards of a deck, of which this is shown.
 pub(crate) fn told_of_cards(view: CardsView, reply: Reply) -> Told
     ensures told { result ≡ told_of_cards view reply }
     ensures fits { IsTellable result }
@@ -196,7 +196,7 @@ pub(crate) fn told_of_cards(view: CardsView, reply: Reply) -> Told
     }
 }
 
-/// What is told of these cards of a deck at a version, of which this is shown.
+/// What is shown of these cards of a deck at a version, of which this is shown.
 fn told_of_list(version: u64, cards: Vec<Card>, view: CardsView) -> Told
     ensures told { result ≡ told_of_cards view (CardsAre version cards.items) }
     ensures fits { IsTellable result }
@@ -208,7 +208,7 @@ fn told_of_list(version: u64, cards: Vec<Card>, view: CardsView) -> Told
     }
 }
 
-/// What is told of the cards that edits make of these, where there is memory.
+/// What is shown of the cards that edits make of these, where there is memory.
 fn told_of_backs(alloc: Global, version: u64, backs: &[Edit], cards: &[Card]) -> Told
     ensures told { (result ≡ told_of_backs version backs.now cards.now) ⊎ (result ≡ Told.Refused Refusal.OutOfMemory) }
     ensures fits { IsTellable result }
@@ -222,7 +222,7 @@ fn told_of_backs(alloc: Global, version: u64, backs: &[Edit], cards: &[Card]) ->
     }
 }
 
-/// What is told of the reply to a call for the cards that a deck had at a version: those of now, with the
+/// What is shown of the reply to a call for the cards that a deck had at a version: those of now, with the
 /// changes since taken back, where there is memory for that.
 pub(crate) fn told_of_cards_at(alloc: Global, reply: Reply) -> Told
     ensures told { IsToldAt reply result }
@@ -240,7 +240,7 @@ pub(crate) fn told_of_cards_at(alloc: Global, reply: Reply) -> Told
     }
 }
 
-/// What is told of the reply to a call for the publication, of which this text is shown.
+/// What is shown of the reply to a call for the publication, of which this text is shown.
 pub(crate) fn told_of_publication(text: PublishedText, reply: Reply) -> Told
     ensures told { result ≡ told_of_publication text reply }
     ensures fits { IsTellable result }
@@ -251,7 +251,7 @@ pub(crate) fn told_of_publication(text: PublishedText, reply: Reply) -> Told
     }
 }
 
-/// What is told of the reply to a call for the publication, of which this text of the deck of a name is
+/// What is shown of the reply to a call for the publication, of which this text of the deck of a name is
 /// shown.
 pub(crate) fn told_of_part(text: DeckText, name: DeckName, reply: Reply) -> Told
     ensures told { result ≡ told_of_part text name reply }
@@ -263,7 +263,7 @@ pub(crate) fn told_of_part(text: DeckText, name: DeckName, reply: Reply) -> Told
     }
 }
 
-/// What is told of the reply to a call for the publication, of which the flagged statements and LINK lines
+/// What is shown of the reply to a call for the publication, of which the flagged statements and LINK lines
 /// are shown.
 pub(crate) fn told_of_errors(view: ErrorsView, reply: Reply) -> Told
     ensures told { result ≡ told_of_errors view reply }
@@ -281,7 +281,7 @@ pub(crate) fn told_of_errors(view: ErrorsView, reply: Reply) -> Told
     }
 }
 
-/// What is told of what is said of the deck of a name in a publication.
+/// What is shown of what is said of the deck of a name in a publication.
 fn told_of_words_in(
     alloc: Global,
     keys: RandomState,
@@ -297,7 +297,7 @@ fn told_of_words_in(
     }
 }
 
-/// What is told of the reply to a call for the publication, of whose deck of this name it is shown what is said
+/// What is shown of the reply to a call for the publication, of whose deck of this name it is shown what is said
 /// of each flagged statement, where there is memory for that.
 pub(crate) fn told_of_words(alloc: Global, keys: RandomState, name: &DeckName, reply: Reply) -> Told
     ensures told { IsToldWords name.now reply result }
@@ -309,7 +309,7 @@ pub(crate) fn told_of_words(alloc: Global, keys: RandomState, name: &DeckName, r
     }
 }
 
-/// What is told of the symbols of the deck of a name in a publication.
+/// What is shown of the symbols of the deck of a name in a publication.
 fn told_of_symbols_in(
     alloc: Global,
     keys: RandomState,
@@ -330,7 +330,7 @@ fn told_of_symbols_in(
     }
 }
 
-/// What is told of the reply to a call for the publication, of whose deck of this name the symbols are shown,
+/// What is shown of the reply to a call for the publication, of whose deck of this name the symbols are shown,
 /// where there is memory for them.
 pub(crate) fn told_of_symbols(
     alloc: Global,
@@ -347,7 +347,7 @@ pub(crate) fn told_of_symbols(
     }
 }
 
-/// What is told of the reply to a call for the publication, of which the names are shown that decks enter or have
+/// What is shown of the reply to a call for the publication, of which the names are shown that decks enter or have
 /// as externals, where there is memory for them.
 pub(crate) fn told_of_names(alloc: Global, reply: Reply) -> Told
     ensures told { IsToldNames reply result }

@@ -20,11 +20,11 @@ pub trait Calls {
     fn await_version(&mut self, version: u64) -> Reply
         ensures { relations.awaits self.old version result self.new };
 
-    /// The session tells its name, and asks for the status and for who is connected.
+    /// The session gives its name, and asks for the status and for who is connected.
     fn greet(&mut self, alloc: Global, name: &DeckName) -> Greeting
         ensures { relations.greets self.old name.now result self.new };
 
-    /// A session begins, which has told no name.
+    /// A session begins, which has given no name.
     fn begin_session(&mut self)
         ensures { relations.begins self.old self.new };
 }

@@ -1,4 +1,4 @@
-//! What ERRORS tells of a publication, as bytes to a writer: a line each.
+//! What ERRORS shows of a publication, as bytes to a writer: a line each.
 ghost use Rattle.std.specs.Prelude.{◌≡◌, ◌≤◌, ◌<◌, ◌+◌, ◌*◌, ◌^◌, ◌++◌, All, codes, filter, flat_map, is_none, length, IfErr, IfOk};
 ghost use Rattle.deck_objects.specs.declared.lines.Line.{Line};
 ghost use Rattle.text_ports.specs.Joins.Sending.{Sends, count_after_sending};
@@ -59,7 +59,7 @@ fn begun_line(name: &DeckName, number: u64, card: &Card) -> ReplyLine
     line
 }
 
-/// The line of a statement with these cards, of which so many stand before, where it is told. Otherwise
+/// The line of a statement with these cards, of which so many stand before, where it is shown. Otherwise
 /// nothing.
 fn flag_line(name: &DeckName, before: usize, cards: &[Card], shown: &Line) -> ReplyLine
     requires few { before ≤ 20000 }
@@ -82,7 +82,7 @@ fn flag_line(name: &DeckName, before: usize, cards: &[Card], shown: &Line) -> Re
     }
 }
 
-/// The lines of those that are told of statements that have these cards; how many bytes they are.
+/// The lines of those that are shown of statements that have these cards; how many bytes they are.
 fn write_flags<W: Write>(
     output: &mut Counted<W>,
     name: &DeckName,

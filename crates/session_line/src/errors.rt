@@ -1,4 +1,4 @@
-//! What ERRORS tells of a publication: statements of its decks that are flagged, or stand behind END and
+//! What ERRORS shows of a publication: statements of its decks that are flagged, or stand behind END and
 //! begin another deck, and LINK lines of its map.
 ghost use Rattle.std.specs.Prelude.{◌≡◌, ◌≤◌, ◌+◌, ◌*◌, ◌∷◌, cond, filter, flat_map, is_none, length, take, drop};
 ghost use Rattle.definitions.specs.DeckInput.{Deck};

@@ -64,7 +64,7 @@ fn await_version<C: Calls>(desk: &mut C, version: u64) -> Answer
     called(told_of_wait(desk.await_version(version)))
 }
 
-/// The desk is told the name of the session.
+/// The desk is given the name of the session.
 fn greet<C: Calls>(alloc: Global, desk: &mut C, name: &DeckName) -> Answer
     ensures greets { Greets C.relations.greets name.now desk.old desk.new result }
     ensures fits { IsTellable result.told }
@@ -145,7 +145,7 @@ fn show_symbols<C: Calls>(alloc: Global, keys: RandomState, desk: &mut C, name: 
     called(told_of_symbols(alloc, keys, name, desk.call(Call::Show)))
 }
 
-/// The shelf notes the version that is told of the deck, if one is.
+/// The shelf notes the version that is shown of the deck, if one is.
 pub(crate) fn note_told<S: Shelf>(shelf: &mut S, name: &DeckName, told: &Told)
     ensures { NotesTold S.relations name.now told.now shelf.old shelf.new }
 {

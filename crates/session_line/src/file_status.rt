@@ -12,7 +12,7 @@ use desk_core::{Call, Listed, Row};
 use session_commands::Refusal;
 use std::alloc::{AllocError, Global};
 
-/// The rows of decks, with whether the shelf tells that the file of each has its cards. The memory for them is
+/// The rows of decks, with whether the shelf shows that the file of each has its cards. The memory for them is
 /// there before the shelf is asked.
 fn mark_rows<S: Shelf>(
     alloc: Global,

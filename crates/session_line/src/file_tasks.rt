@@ -10,7 +10,7 @@ use crate::reasons::load_reason;
 use deck_files::Shelf;
 use desk_core::{Call, Listed};
 
-/// One call of the shelf for its files, which are told with this version.
+/// One call of the shelf for its files, which are shown with this version.
 fn tell_files<S: Shelf>(shelf: &mut S, version: u64) -> Answer
     ensures tells { TellsFiles S.relations version shelf.old shelf.new result }
     ensures fits { IsTellable result.told }

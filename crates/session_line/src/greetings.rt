@@ -1,4 +1,4 @@
-//! Who greets: what a session is told that says its name, and who is connected then.
+//! Who greets: what a session is answered that says its name, and who is connected then.
 ghost use Rattle.std.specs.Prelude.{◌≡◌, []};
 ghost use Rattle.session_line.specs.Greetings.{is_met, met, service_version};
 
@@ -10,7 +10,7 @@ use std::alloc::Global;
 /// The version of the program.
 pub const VERSION: &str = "0.1.0";
 
-/// A session that is connected: its number, its name, the number as text where it told none, and what it may
+/// A session that is connected: its number, its name, the number as text where it gave none, and what it may
 /// do.
 #[derive(Drop)]
 pub struct Connected {

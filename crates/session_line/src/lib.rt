@@ -44,7 +44,7 @@ mod reading;
 mod rights;
 mod tasks;
 
-// What is done and told.
+// What is done and shown.
 mod answers;
 mod executing;
 mod file_status;

@@ -71,7 +71,7 @@ fn add_decks<C: Calls>(
     Ok(lines)
 }
 
-/// Adds decks to a desk that has these, where it has the name of none and room for all, and tells what became
+/// Adds decks to a desk that has these, where it has the name of none and room for all, and returns what became
 /// of them with this version.
 fn tell_adds<C: Calls>(
     alloc: Global,
@@ -117,7 +117,7 @@ fn cut_cards(alloc: Global, cards: &[Card]) -> Result<Vec<Deck>, Refusal>
     }
 }
 
-/// One load of the shelf, and then the addition of the decks of its file; the shelf is told no version of
+/// One load of the shelf, and then the addition of the decks of its file; the shelf is given no version of
 /// them, so none of their files is known by it.
 pub(crate) fn load_all<C: Calls, S: Shelf>(
     alloc: Global,

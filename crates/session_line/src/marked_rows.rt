@@ -31,7 +31,7 @@ pub(crate) fn marked(row: &Row, saved: bool) -> MarkedRow
     }
 }
 
-/// The word that tells whether a file has a deck's cards.
+/// The word that shows whether a file has a deck's cards.
 fn saved_word(saved: bool) -> &'static [u8]
     ensures text { result.now ≡ saved_word saved }
     ensures short { length result.now ≤ 8 }

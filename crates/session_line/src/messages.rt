@@ -55,7 +55,7 @@ pub(crate) fn object_named<'a>(
     None
 }
 
-/// A character as it is told.
+/// A character as it is shown.
 fn told_character(character: u8) -> u8
     ensures { result ≡ told_character character }
 {
@@ -65,7 +65,7 @@ fn told_character(character: u8) -> u8
     }
 }
 
-/// Puts words as they are told.
+/// Puts words as they are shown.
 fn push_words(text: &mut Text, words: &[u8]) -> Result<(), AllocError>
     ensures { OnOk result (text.new ≡ text.old ++ map told_character words.now) }
 {
@@ -248,7 +248,7 @@ fn deck_messages(alloc: Global, keys: RandomState, object: &Object) -> Result<Te
     Ok(text)
 }
 
-/// What is told of the messages of a deck under a version, where there is memory for them.
+/// What is shown of the messages of a deck under a version, where there is memory for them.
 pub(crate) fn told_of_messages(
     alloc: Global,
     keys: RandomState,

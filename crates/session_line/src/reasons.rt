@@ -1,4 +1,4 @@
-//! How a session is told why the desk or the shelf refuses.
+//! How a session is shown why the desk or the shelf refuses.
 ghost use Rattle.std.specs.Prelude.{◌≡◌};
 ghost use Rattle.session_line.specs.Reasons.{cut_reason, desk_reason, file_reason, load_reason, save_reason};
 

@@ -35,7 +35,7 @@ fn version_in(name: &DeckName, rows: &[Row]) -> Result<u64, Refusal>
     }
 }
 
-/// The version of the deck of a name that the desk tells, or why it tells none.
+/// The version of the deck of a name that the desk shows, or why it shows none.
 fn version_told(name: &DeckName, reply: Reply) -> Result<u64, Refusal>
     ensures { result ≡ version_told name.now reply }
 {

@@ -28,7 +28,7 @@ pub(crate) fn shown_in(reply: Reply) -> Result<SharedPublication, Refusal>
     }
 }
 
-/// The status that is told.
+/// The status that is shown.
 pub(crate) fn status_in(reply: Reply) -> Result<Status, Refusal>
     ensures { result ≡ status_in reply }
 {

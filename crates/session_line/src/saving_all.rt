@@ -61,7 +61,7 @@ fn save_rows<C: Calls, S: Shelf>(
     Ok(saved)
 }
 
-/// Saves these decks, and tells what became of them with this version.
+/// Saves these decks, and returns what became of them with this version.
 fn tell_saves<C: Calls, S: Shelf>(
     alloc: Global,
     desk: &mut C,

@@ -52,7 +52,7 @@ pub(crate) fn send<W: Write>(output: &mut Counted<W>, answer: &Answer) -> Outcom
 /// belong to it, LOAD's before that of the desk, all others behind it; SAVEALL makes one call more for each
 /// deck that it saves; and its reply is written. Of a session that may only ask, one that changes a deck or a file is `NO ReadOnly`, and
 /// nothing is called. Where the input ends or fails before that, or a line is too long, nothing is called
-/// and nothing is written. Want of memory is told as `NO OutOfMemory`. Tables that are made for it hash by
+/// and nothing is written. Want of memory is reported as `NO OutOfMemory`. Tables that are made for it hash by
 /// these keys.
 pub fn serve_one<R: Read, W: Write, C: Calls, S: Shelf>(
     alloc: Global,

@@ -55,7 +55,7 @@ fn names_of(alloc: Global, objects: &[ListedObject]) -> Result<Text, AllocError>
     ended(text)
 }
 
-/// What is told of a text under a version, where there was memory for it.
+/// What is shown of a text under a version, where there was memory for it.
 fn told_lines(version: u64, made: Result<Text, AllocError>) -> Told
     requires { IfOk made IsEnded }
     ensures { IsLines version result }
@@ -66,7 +66,7 @@ fn told_lines(version: u64, made: Result<Text, AllocError>) -> Told
     }
 }
 
-/// What is told of the symbols of the deck with these cards, where there is memory for them.
+/// What is shown of the symbols of the deck with these cards, where there is memory for them.
 pub(crate) fn told_of_deck_symbols(
     alloc: Global,
     keys: RandomState,
@@ -78,7 +78,7 @@ pub(crate) fn told_of_deck_symbols(
     told_lines(version, symbols_of(alloc, keys, cards))
 }
 
-/// What is told of the names that these decks enter or have as externals, where there is memory for them.
+/// What is shown of the names that these decks enter or have as externals, where there is memory for them.
 pub(crate) fn told_of_entered(alloc: Global, version: u64, objects: &[ListedObject]) -> Told
     ensures { IsLines version result }
 {

@@ -100,7 +100,7 @@ pub(crate) fn is_put(command: &Result<Command, Refusal>) -> bool
     matches!(command, Ok(Command::Put(_)))
 }
 
-/// The name in a call of a session, which knows none: who keeps the changes tells it.
+/// The name in a call of a session, which knows none: the door that keeps the changes sets it.
 fn nobody() -> DeckName
     ensures { result ≡ nobody }
 {

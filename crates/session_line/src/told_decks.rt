@@ -28,7 +28,7 @@ pub struct ToldDeck {
     pub outcome: DeckOutcome,
 }
 
-/// The outcome that is told of a deck.
+/// The outcome that is shown of a deck.
 pub(crate) fn outcome_of(told: &Told) -> DeckOutcome
     ensures { result ≡ outcome_of told.now }
 {

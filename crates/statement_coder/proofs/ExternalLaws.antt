@@ -102,7 +102,7 @@ or_new false false false l h e = refl
 abbrev facts : View → List (Option (List ℕ)) → List Definition → List Letter
 facts symbol names so_far = two (has_unlawful names) (any_defined names so_far || has_known symbol names)
 
--- one name more, once it is told whether it is known
+-- one name more, once it is shown whether it is known
 name_more : (c : ℕ) (symbol : View) (name : List ℕ) (names : List (Option (List ℕ))) (so_far : List Definition) (known : Bool) → is_known symbol name so_far ≡ known →
     ((before : List Definition) → tells c (external_letters symbol names before) ≡ tells c (facts symbol names before)) →
     tells c (letter_where known letter.D ++ external_letters symbol names (if known then so_far else so_far ++ external name ∷ [])) ≡ tells c (facts symbol (Some name ∷ names) so_far)

@@ -1,4 +1,4 @@
--- Fields told word by word have the width of the fields, and join to the same bits.
+-- Fields listed word by word have the width of the fields, and join to the same bits.
 use Rattle.std.proofs.Common.{◌≡◌, ◌∙◌, ℕ, zero, suc, ◌+◌, ◌*◌, ◌/◌, ◌%◌, ◌^◌, ◌<◌, Bool, true, false, ◌&&◌, List, [], ◌∷◌, ◌++◌, length, flat_map, refl, ap, ap₂, sym, arith, if◌then◌else◌}
 use Rattle.std.specs.Prelude.{nat_lt, nat_eq}
 use Rattle.std.proofs.lemmas.Bool.{and_parts, ltb-true, eqb-true}
@@ -86,7 +86,7 @@ same-words_of linking word field [] (Known bits) c = same-by linking field word 
 same-words_of linking word field [] (Linked form) c = one-same linking field
 same-words_of linking word field (letter ∷ letters) content c = one-same linking field
 
--- all fields, told word by word
+-- all fields, listed word by word
 same-in_words : (linking : Linking) (word : ℕ) (fields : List Item) → AreSame linking (flat_map (in_words word) fields) (width_of fields) (joined linking fields)
 same-in_words linking word [] = record { width_is = refl; bits_are = refl }
 same-in_words linking word (field ∷ fields) =
@@ -101,7 +101,7 @@ same-in_words linking word (field ∷ fields) =
           ∙ ap (λ j. content_bits linking field.width field.content * 2 ^ width_of fields + j) behind.bits_are;
     }
 
--- the fields of an operand as a list tells them
+-- the fields of an operand as a list has them
 same-listed : (linking : Linking) (kind : DeckKind) (operand : Operand) (fields : List Item) → AreSame linking (listed_fields kind operand fields) (width_of fields) (joined linking fields)
 same-listed linking kind (WordsOperand data') fields = same-in_words linking (word_bits kind) fields
 same-listed linking kind (TextOperand count characters) fields = same-in_words linking (word_bits kind) fields

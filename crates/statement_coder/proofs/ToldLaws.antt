@@ -1,4 +1,4 @@
--- What is told of fields: behind the old end of a list stand the fields of an operand, and their letters.
+-- What is listed of fields: behind the old end of a list stand the fields of an operand, and their letters.
 use Rattle.std.proofs.Common.{◌≡◌, ◌∙◌, ℕ, ◌-◌, ◌*◌, ◌/◌, ◌^◌, ◌<◌, ◌≤◌, Bool, true, false, List, [], ◌∷◌, ◌++◌, length, map, flat_map, drop, refl, ap, ap₂, sym, subst, arith, append-nil, if◌then◌else◌}
 use Rattle.std.proofs.lemmas.List.{drop-map, drop_at, length-map}
 use Rattle.std.proofs.lemmas.List.Concat.{flat_map-append}
@@ -65,7 +65,7 @@ letters-words_of word field [] (Known bits) e =
 letters-words_of word field [] (Linked form) e = append-nil field.letters ∙ e
 letters-words_of word field (letter ∷ letters) content e = append-nil field.letters ∙ e
 
--- fields told word by word have the letters of the fields
+-- fields listed word by word have the letters of the fields
 letters-in_words : (word : ℕ) (fields : List Item) → field_letters (flat_map (in_words word) fields) ≡ field_letters fields
 letters-in_words word [] = refl
 letters-in_words word (field ∷ fields) =
@@ -86,7 +86,7 @@ letters-listed kind (operands.UseName name) fields = refl
 letters-listed kind operands.UseBefore fields = refl
 letters-listed kind operands.UseRefused fields = refl
 
--- the letters of what is told are those of the fields
+-- the letters of what is listed are those of the fields
 pub told-letters : (kind : DeckKind) (operand : Operand) (count : ℕ) (before after : List code.Item) (fields : List Item) (text : List ℕ) →
     AreListed kind operand count before after fields → text ≡ in_order (field_letters (map item_as (drop (length after - count) after))) → text ≡ in_order (field_letters fields)
 told-letters kind operand count before after fields text h e =

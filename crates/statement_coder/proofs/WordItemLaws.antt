@@ -1,4 +1,4 @@
--- Fields as a list tells them: narrow ones stay as they are, and known bits of whole words become their words.
+-- Fields as a list has them: narrow ones stay as they are, and known bits of whole words become their words.
 use Rattle.std.proofs.Common.{◌≡◌, ◌∙◌, ℕ, zero, suc, ◌+◌, ◌*◌, ◌/◌, ◌%◌, ◌^◌, ◌≤◌, ◌<◌, Bool, true, false, ◌&&◌, List, [], ◌∷◌, refl, ap, ap₂, sym, arith, if◌then◌else◌}
 use Rattle.std.specs.Prelude.{nat_lt, nat_eq}
 use Rattle.std.proofs.lemmas.Bool.{lt-ltb, le-ltb, eq-eqb}
@@ -38,7 +38,7 @@ several word words bits some more fits =
     wider word (suc zero) some more = absurd (omega arith)
     wider word zero some more = absurd (omega arith)
 
--- known bits that fit so many words are told as these words
+-- known bits that fit so many words are listed as these words
 pub in_words-known : (word words bits : ℕ) → 0 < word → 0 < words → bits < 2 ^ (words * word) →
     in_words word (known (words * word) bits) ≡ known_words word (cut word words bits)
 in_words-known word zero bits some none fits = absurd (omega arith)

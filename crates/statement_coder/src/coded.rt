@@ -1,4 +1,4 @@
-//! What is told of a coded statement: its fields and its letters.
+//! What is listed of a coded statement: its fields and its letters.
 use crate::InstructionItems;
 use operations::Letters;
 
@@ -9,7 +9,7 @@ pub enum CodedItems {
     Absent,
     /// Those of an instruction.
     Instruction(InstructionItems),
-    /// So many at the end of the list; a field of several words is told word by word.
+    /// So many at the end of the list; a field of several words is listed word by word.
     Listed(usize),
     /// Zeros from its place to its end, as BSSZ stores them.
     Zeros,

@@ -57,7 +57,7 @@ fn zeros(items: CodedItems, list: &mut Vec<Item>) -> CodedItems
     CodedItems::Zeros
 }
 
-/// The fields of a statement, where those of its operand are told: BSSZ has zeros, and a statement
+/// The fields of a statement, where those of its operand are listed: BSSZ has zeros, and a statement
 /// that ends at its place has none.
 fn placed(
     operation: Operation,

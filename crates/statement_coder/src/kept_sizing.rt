@@ -225,7 +225,7 @@ impl Sizing {
     }
 }
 
-/// A sizing, or what it can be told from.
+/// A sizing, or what it can be found from.
 #[derive(Drop)]
 enum Held {
     Usual(UsualSizing),

@@ -13,7 +13,7 @@
 //!
 //! An `Item` has a width, at most one letter, and bits that are known or a form for the link: in
 //! ABS and PERIPH decks a form becomes a number here, in a REL deck one with a block or external
-//! stays. What is longer than a word is told word by word.
+//! stays. What is longer than a word is listed word by word.
 #![tactic(auto)]
 
 // A statement, and what its variable field is to its operation.

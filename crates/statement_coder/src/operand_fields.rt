@@ -107,7 +107,7 @@ pub(crate) fn fields_told<B: BlockBases, N: Names>(
     }
 }
 
-/// The letters of the fields that are told.
+/// The letters of the fields that are listed.
 pub(crate) fn told_letters(items: &CodedItems, list: &[Item]) -> Letters
     ensures { (kind : kinds.DeckKind) (operand : operands.Operand) (sizing : sizings.Sizing) (before : List fields.Item) (told : List definitions.Item) →
         AreTold kind operand sizing items.now before list.now told → result ≡ in_order (field_letters told) }
@@ -122,7 +122,7 @@ pub(crate) fn told_letters(items: &CodedItems, list: &[Item]) -> Letters
     }
 }
 
-/// Takes what was told off the end of the list.
+/// Takes what was listed off the end of the list.
 pub(crate) fn take_back(items: CodedItems, list: &mut Vec<Item>)
     ensures { (kind : kinds.DeckKind) (operand : operands.Operand) (sizing : sizings.Sizing) (before : List fields.Item) (told : List definitions.Item) →
         AreTold kind operand sizing items before list.old.items told → list.new.items ≡ before }

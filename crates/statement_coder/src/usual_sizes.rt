@@ -1,4 +1,4 @@
-//! The sizing of a usual statement, told at once in few bytes.
+//! The sizing of a usual statement, made at once, in few bytes.
 ghost use Rattle.std.specs.Prelude.{◌≡◌, ℕ, List, true, None, is_some, IfSome};
 ghost use Rattle.definitions.specs.Blocks.{change_of};
 ghost use Rattle.definitions.specs.EarlyValues.{early_value};

@@ -6,7 +6,7 @@ use definitions::{DeckKind, NumberBase};
 use expr_forms::Name;
 use operations::Letters;
 
-/// What cannot be told from the rest in a usual sizing: its statement changes neither block nor
+/// What cannot be found from the rest in a usual sizing: its statement changes neither block nor
 /// location counter, and both counters are the word of its block.
 #[derive(Drop)]
 pub(crate) struct UsualSizing {

@@ -31,7 +31,7 @@ part-behind old mid new head body sent more count first part =
     let cut : take (sent + more) (head ++ body) ≡ head ++ take more body = ap (λ (n : ℕ). take (n + more) (head ++ body)) count ∙ take-both head body more in
     (omega (arith, part.0, count, length-append head body), subst (λ l. Appends old new l) (sym cut) (Appends-trans old mid new head (take more body) first part.1))
 
--- the same, where the first text is told otherwise
+-- the same, where the first text is shown otherwise
 pub part-second : (old mid new : Option (List ℕ)) (head bytes body : List ℕ) (more : ℕ) → bytes ≡ head → Appends old mid bytes → IsPart mid new body more →
     IsPart old new (head ++ body) (length bytes + more)
 part-second old mid new head bytes body more same first part =

@@ -55,7 +55,7 @@ impl<T> Counted<T> {
         *faults = faults.saturating_add(1);
     }
 
-    /// The port; the count is let go.
+    /// The port; the count is freed.
     pub fn into_inner(self) -> T
         ensures { result ≡ self.0 }
     {

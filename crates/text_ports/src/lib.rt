@@ -7,8 +7,8 @@
 //! taken at once. `Text` takes what it appends in one call, so without memory it is as it was;
 //! `PrependedText` is an array on the stack that grows at its front, for the digits of a number, and for a
 //! line that is appended whole. A
-//! `Piece` takes all bytes and tells at its end whether it has them: so a text can be put to it by
-//! functions that have no want of memory to tell.
+//! `Piece` takes all bytes and reports at its end whether it has them: so a text can be put to it by
+//! functions that have no want of memory to report.
 #![tactic(auto)]
 
 // Numbers.

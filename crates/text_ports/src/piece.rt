@@ -9,7 +9,7 @@ use itoa::Buffer;
 use std::alloc::{AllocError, Global};
 use std::marker::Model;
 
-/// A text that takes all bytes that are put to it: what there is no memory for is let go, and told at the
+/// A text that takes all bytes that are put to it: what there is no memory for is left out, and reported at the
 /// end. So whoever puts a text to it asks for no memory. Contracts see the list of all bytes that were
 /// put.
 #[derive(Drop)]
@@ -42,7 +42,7 @@ impl Piece {
         }
     }
 
-    /// Asks for memory for so many bytes more at once. Where there is none, the text is told as cut.
+    /// Asks for memory for so many bytes more at once. Where there is none, the text is reported as cut.
     pub fn make_room(&mut self, bytes: usize)
         ensures { self.new ≡ self.old }
     {

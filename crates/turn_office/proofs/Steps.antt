@@ -1,4 +1,4 @@
--- Each step of a turn keeps the rule of the table, and tells what it promises.
+-- Each step of a turn keeps the rule of the table, and shows what it promises.
 use Rattle.std.proofs.Common.{◌≡◌, ◌≢◌, ℕ, zero, suc, ◌+◌, ◌-◌, ◌%◌, ◌^◌, ◌<◌, ◌≤◌, ◌==◌, if◌then◌else◌, Bool, cond, List, [], ◌∷◌, ◌++◌, map, length, get_or, set, sym, refl, ap, ◌∙◌, subst, arith, Option, Some, length-set, length-append, count_by, eq-eqb, ne_eqb}
 use mathlib.Core.Logic.{dite}
 use mathlib.Core.Option.{none, some, some-injective}
@@ -243,7 +243,7 @@ module _ {T C R : Type 0} (allowed : T → C → R → T → Type 0) (seats : �
             });
       }
 
-  -- what the end of a turn tells
+  -- what the end of a turn shows
   tells : (s : State (Option T) (View T C R)) (r : Rule s) (id number : ℕ) (seen : List (Entry C R)) (before after : T) (call : C) (reply : R) → get_elem? s.views id ≡ some (view (Serves before) (chair number seen ∷ [])) → allowed before call reply after
       → HasEnded allowed (ended seats first call reply) call reply number seen (at_rest number (r.log ++ entry number call reply ∷ []), [])
   tells s r id number seen before after call reply at steps =
@@ -263,7 +263,7 @@ module _ {T C R : Type 0} (allowed : T → C → R → T → Type 0) (seats : �
         };
       }
 
-  -- what was told, by other words for the same
+  -- what was shown, by other words for the same
   ended_as : (number : ℕ) (seen : List (Entry C R)) (call : C) (reply : R) (told : Told T C R) (call' : C) (reply' : R) (number' : ℕ) (seen' : List (Entry C R)) (after : Standing T C R) → Some (ended seats first call reply) ≡ Some told → told.made ≡ Some (call', reply')
       → chair number seen ∷ [] ≡ chair number' seen' ∷ [] → HasEnded allowed (ended seats first call reply) call reply number seen after → HasEnded allowed told call' reply' number' seen' after
   ended_as number seen call reply told call' reply' number' seen' after said made chairs has =

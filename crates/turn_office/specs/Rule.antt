@@ -1,4 +1,4 @@
--- The rule of an office's table, and what each step tells (ours).
+-- The rule of an office's table, and what each step shows (ours).
 use Rattle.std.specs.Prelude.{◌≡◌, ◌≢◌, ℕ, ◌+◌, ◌%◌, ◌^◌, ◌<◌, ◌≤◌, ◌==◌, List, [], ◌∷◌, ◌++◌, map, length, Option, Some, ⊤, sum_by, count_by}
 use Rattle.std.specs.List.{AllByRecursion, range_with_len}
 use mathlib.Core.Option.{some}
@@ -122,15 +122,15 @@ module _ {T C R : Type 0} where
   abbrev pub HasTurn : Standing T C R → Standing T C R → Type 0
   HasTurn me after = (d : T) × (after ≡ (staged (Serves d) me.0, (0, Some d) ∷ me.1))
 
-  -- kind 2 tells that a ticket was drawn
+  -- kind 2 shows that a ticket was drawn
   abbrev pub drew : At T → Standing T C R → ℕ → Standing T C R → Type 0
   drew at me found after = HasDrawn found me after
 
-  -- kind 9 tells nothing
+  -- kind 9 shows nothing
   abbrev pub rang : At T → Standing T C R → ℕ → Standing T C R → Type 0
   rang at me found after = after ≡ me
 
-  -- kind 3 tells a waiting seat that the turn is its own, or nothing
+  -- kind 3 shows a waiting seat that the turn is its own, or nothing
   abbrev pub looked : At T → Standing T C R → ℕ → Standing T C R → Type 0
   looked at me found after = (t : ℕ) → me.0.stage ≡ Waits t → (found ≡ t % 2 ^ 64 → HasTurn me after) × (found ≢ t % 2 ^ 64 → after ≡ me)
 
@@ -148,7 +148,7 @@ module _ {T C R : Type 0} (allowed : T → C → R → T → Type 0) where
     pub rests : after ≡ (at_rest number log, [])
     pub answers : Answers allowed told.seats told.first number call reply seen log
 
-  -- kind 4 tells what the seat has then seen, by the call and the reply that it was told
+  -- kind 4 shows what the seat has then seen, by the call and the reply that it was given
   abbrev pub gave : Option (Told T C R) → At T → Standing T C R → ℕ → Standing T C R → Type 0
   gave said at me found after = (told : Told T C R) (call : C) (reply : R) (number : ℕ) (seen : List (Entry C R)) → said ≡ Some told → told.made ≡ Some (call, reply)
       → me.0.chairs ≡ chair number seen ∷ [] → HasEnded told call reply number seen after
@@ -160,7 +160,7 @@ module _ {T C R : Type 0} (allowed : T → C → R → T → Type 0) where
     pub continues : AllByRecursion (λ c. Continues c.number c.seen log) me.0.chairs
     pub rests : after ≡ (view me.0.stage (map (λ c. chair c.number log) me.0.chairs), me.1)
 
-  -- kind 6 tells that the history so far was seen
+  -- kind 6 shows that the history so far was seen
   abbrev pub learned : Option (Told T C R) → At T → Standing T C R → ℕ → Standing T C R → Type 0
   learned said at me found after = (told : Told T C R) → said ≡ Some told → HasLearned told me after
 

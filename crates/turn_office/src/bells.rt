@@ -50,7 +50,7 @@ pub(crate) struct Missed {
     watched: Watched,
 }
 
-/// Kind 9: makes the number of the ticket's bell odd where it is even, and tells what it is then.
+/// Kind 9: makes the number of the ticket's bell odd where it is even, and returns what it is then.
 /// Another may have made it odd meanwhile, so it may be even: then it is to be watched again.
 pub(crate) fn watch<O: Sequential>(floor: &Floor<O>, place: &mut Place<O>, ticket: u64) -> Watched
     requires own { IsPlaceOf floor.now.table_id place.old }

@@ -1,4 +1,4 @@
-//! The rule over the words, the slot and the views, and what each step tells.
+//! The rule over the words, the slot and the views, and what each step shows.
 //! Word 0 is the number of turns that have ended, word 1 the number of tickets drawn, both modulo
 //! 2^64; the other 64 are bells, which those who wait sleep on and the rule says nothing of. Slot 0
 //! has the object while nobody has the turn.
@@ -44,7 +44,7 @@ impl<O: Sequential> TableRule<Option<O>, View<O, O::Call, O::Reply>, Opening<O>>
     ghost first = { λ key. undealt key.seats };
 }
 
-/// What a step is told for the proof alone: the opening, and the call and the reply of the turn.
+/// What a step is given for the proof alone: the opening, and the call and the reply of the turn.
 pub trait Said<T, C, R> {
     ghost told: { Option (Told T C R) };
 }

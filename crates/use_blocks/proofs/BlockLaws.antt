@@ -1,4 +1,4 @@
--- Blocks told by their names and by their indexes.
+-- Blocks known by their names and by their indexes.
 use Rattle.std.proofs.Common.{◌≡◌, ◌∙◌, ℕ, zero, suc, ◌+◌, ◌<◌, Bool, true, false, not, ◌||◌, List, [], ◌∷◌, ◌++◌, length, refl, ap, ap₂, arith, inl, inr, set}
 use Rattle.std.specs.Prelude.{map, if◌then◌else◌}
 use Rattle.std.specs.List.{prefix_len}

@@ -1,4 +1,4 @@
--- What the tests of names and relocations tell.
+-- What the tests of names and relocations show.
 use Rattle.std.proofs.Common.{◌≡◌, ℕ, List, ap}
 use Rattle.std.specs.Bool.{Decides}
 use Rattle.definitions.specs.Forms.{Relocation, Block, External, same_relocation}

@@ -166,7 +166,7 @@ block_now-read blocks stack at block is e read =
 abbrev pub state_of : List UsedBlock → List ℕ → NumberBase → Bool → BlockState
 state_of blocks stack base neutral = record { open_names = opened_names (names_of_blocks blocks) stack; blocks = blocks; number_base = base; neutral = neutral }
 
--- a test of two stacks tells whether the states are the same
+-- a test of two stacks shows whether the states are the same
 pub same-states : (result : Bool) (blocks first : List UsedBlock) (stack other : List ℕ) (base last : NumberBase) (neutral least : Bool) →
     IsState blocks stack → IsState first other → blocks ≡ first → base ≡ last → neutral ≡ least → Decides result (stack ≡ other) →
     Decides result (state_of blocks stack base neutral ≡ state_of first other last least)

@@ -217,7 +217,7 @@ fn literals_base(rows: &Rows, name: &Name) -> u64
     }
 }
 
-/// Adds the rows of some blocks, each local one at the end of those before it, and tells where the last
+/// Adds the rows of some blocks, each local one at the end of those before it, and returns where the last
 /// one ends.
 fn place_blocks(rows: &mut Rows, blocks: &Words) -> Result<u64, AllocError>
     requires empty { rows.old.entries ≡ [] }

@@ -1,7 +1,7 @@
 //! What statements leave of blocks: the stack of USE, the position, the LOC and the length of each
 //! block, the number base, and the literals, exactly as the definitions have them.
 //!
-//! It knows no operation and no operand: who stands above tells it the `Effect` of a statement. A
+//! It knows no operation and no operand: who stands above gives it the `Effect` of a statement. A
 //! `BlockState` takes it by `advance`, and `Lengths` by `follow`, beside the same state; the stack
 //! of USE is a list of indexes inside, and contracts see names. `Bases` is made of lengths and
 //! literals once the last statement is known, the literals last. Memory is taken where one of them

@@ -43,7 +43,7 @@ abbrev pub are_zeros : kept.LineFields → Bool
 are_zeros fields.Zeros = true
 are_zeros _ = false
 
--- what is told of a settled statement with these fields, and what the laws say of those
+-- what is stated of a settled statement with these fields, and what the laws say of those
 pub record IsTold (kind : DeckKind) (view : View) (settled : Settled) (sizing : Sizing) (told : CodedItems) (before after : List code.Item) (fields' : List Item) : Type 0 where
   pub is_sizing : IsSizing view settled sizing
   pub are_told : AreTold kind settled.read.operand sizing told before after fields'

@@ -35,13 +35,13 @@ abbrev pub is_data_words : Operation → Bool
 is_data_words op.Data = true
 is_data_words operation = false
 
--- whether what was kept of the operand of this operation tells its literals
+-- whether what was kept of the operand of this operation shows its literals
 abbrev pub is_told : Operation → readings.KeptReading → Bool
 is_told operation kept.Again = false
 is_told operation (kept.Data words) = is_data_words operation
 is_told operation told = true
 
--- what was kept of an operand tells its literals, and it gives no names
+-- what was kept of an operand shows its literals, and it gives no names
 pub record IsTold (told : readings.KeptReading) (operand : Operand) : Type 0 where
   pub literals : operand_literals operand ≡ kept_literals told
   pub names : (v : View) → with_names operand v ≡ v

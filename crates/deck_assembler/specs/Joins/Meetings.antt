@@ -1,4 +1,4 @@
--- Where an old deck and an edited one are found to agree again, told from a place where they do.
+-- Where an old deck and an edited one are found to agree again, found from a place where they do.
 use Rattle.std.specs.Prelude.{ℕ, ◌≡◌, ◌+◌, ◌<◌, ◌≤◌, ◌⊎◌, List, [], ◌∷◌, ◌++◌, Option, None, false, length, map, reverse}
 use Rattle.std.specs.List.{AllByRecursion}
 use Rattle.cards.specs.Joins.Spans.{statement_at}

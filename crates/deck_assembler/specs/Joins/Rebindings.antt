@@ -23,7 +23,7 @@ abbrev pub names_in : Bindings → Form → Form → Names
 names_in bindings location origin =
     record { symbol = symbol_in bindings.symbols.now; literal = λ literal. literal_form bindings.literals.now literal; location = location; origin = origin }
 
--- a deck of which only the places of its blocks are told
+-- a deck of which only the places of its blocks are known
 abbrev pub context_at : List BlockRow → Context
 context_at rows = record { kind = Rel; settled = []; rows = rows; literals = [] }
 

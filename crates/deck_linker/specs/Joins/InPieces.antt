@@ -33,7 +33,7 @@ DoFit text room [] = ⊤
 DoFit text room (x ∷ xs) = (length (text x) ≤ room) × DoFit text room xs
 
 -- all is there that the texts of decks are made of, and the sheet on which they are made has room for the longest part;
--- how many bytes they have together can be told
+-- how many bytes they have together can be written
 pub record AreLinked {X Y Z : Type 0} (decks : List Deck) (layout : Layout) (words : List (Vec (Vec WordSpan X) Y)) (commons : List (Vec WordSpan Z)) (mapped sheet : List ℕ) (errors links : ℕ) : Type 0 where
   pub layout_is : layout ≡ layout_of (map object_of decks)
   pub words_are : AllZip (AreDeckWords layout) layout.decks words

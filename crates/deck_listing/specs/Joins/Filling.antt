@@ -61,7 +61,7 @@ abbrev pub is_none_there : List Parcel → Bool
 is_none_there [] = true
 is_none_there (parcel ∷ parcels) = false
 
--- a word being gathered tells what these parcels have at each place of it
+-- a word being gathered shows what these parcels have at each place of it
 pub record IsOpenWord (kind : DeckKind) (next : OpenWord) (parcels : List Parcel) : Type 0 where
   pub bits : (filling place : ℕ) → place < 4 → bits_at kind filling place parcels ≡ unwrap_or (slice_index_or next.parcels place None) filling
   pub instruction : list_any (λ (parcel : Parcel). parcel.is_instruction) parcels ≡ next.has_instruction

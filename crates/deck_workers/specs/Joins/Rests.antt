@@ -32,7 +32,7 @@ abbrev pub is_refused : Reply → Bool
 is_refused (Refused refusal) = true
 is_refused _ = false
 
--- what the round of a worker is told as
+-- what the round of a worker is shown as
 abbrev pub told_as : WorkerRound → Round
 told_as (AtOnce (rounds.Resting claimed)) = round_without_job (is_refused claimed)
 told_as (AtOnce (rounds.Working claimed result answered)) = round_with_job (went_well (is_result result) answered)
@@ -51,7 +51,7 @@ patience_behind Delivered milliseconds = 100
 patience_behind GaveUp milliseconds = min (2 * milliseconds) 60000
 patience_behind NoJob milliseconds = milliseconds
 
--- whether there may be work, by what a sleep gave: a bell that tells so, or none in the time
+-- whether there may be work, by what a sleep gave: a bell that says so, or none in the time
 abbrev pub may_work : Result Bell RecvTimeoutError → Bool
 may_work (Ok bell.Work) = true
 may_work (Ok bell.Stop) = false

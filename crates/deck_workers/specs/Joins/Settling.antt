@@ -14,7 +14,7 @@ use Rattle.deck_workers.specs.Rounds.{Round, Resting, Working, IsRound, job_in, 
 use Rattle.deck_workers.specs.declared.settling.Settled.{Settled}
 use Rattle.deck_workers.specs.declared.settling.Settled.TheVariants.{Idle, Refused, Waiting, Turns}
 
--- the refusal that a reply tells, if it tells one
+-- the refusal that a reply shows, if it shows one
 abbrev pub refusal_in : Reply → Option Refusal
 refusal_in (reply.Refused refusal) = Some refusal
 refusal_in _ = None

@@ -1,5 +1,5 @@
 -- An edit of a deck: what it leaves in front, where the two decks agree again behind it, and how many statements are due (ours).
--- Lists of statements are newest first, up to END. A card is told by its place, never by its text.
+-- Lists of statements are newest first, up to END. A card is known by its place, never by its text.
 use Rattle.std.specs.Prelude.{ℕ, ◌≡◌, ◌≤◌, ◌+◌, List, ◌++◌, length}
 use Rattle.definitions.specs.Statements.{Statement, cards_in}
 use Rattle.definitions.specs.DeckKinds.{kind_of_statements}

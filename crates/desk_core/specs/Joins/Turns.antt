@@ -9,6 +9,6 @@ use Rattle.desk_core.specs.Steps.{is_made}
 abbrev pub IsAnswer : Answer → Reply → Desk → Type 0
 IsAnswer answer reply next = (reply ≡ answer.reply) × (next ≡ answer.desk)
 
--- they are; or, where the reply has to be made first, want of memory is told and the desk is as it was
+-- they are; or, where the reply has to be made first, want of memory is reported and the desk is as it was
 abbrev pub MayAnswer : Desk → Answer → Reply → Desk → Type 0
 MayAnswer desk answer reply next = IsAnswer answer reply next ⊎ (IsTrue (is_made answer.reply) × (reply ≡ Refused OutOfMemory) × (next ≡ desk))

@@ -110,7 +110,7 @@ fn save_all<S: Shelf>(scene: &mut Scene, shelf: &mut S) -> Result<(), AllocError
     Ok(())
 }
 
-/// Whether rows tell that a deck has so many cards; none where its file was not read.
+/// Whether rows show that a deck has so many cards; none where its file was not read.
 fn tells(rows: &[FileRow], deck: &[u8], cards: usize) -> Option<bool> {
     for row in rows {
         if row.name.as_slice() == deck {
@@ -120,7 +120,7 @@ fn tells(rows: &[FileRow], deck: &[u8], cards: usize) -> Option<bool> {
     Some(false)
 }
 
-/// Whether the shelf tells that a deck has so many cards; none where it tells nothing of it.
+/// Whether the shelf shows that a deck has so many cards; none where it shows nothing of it.
 fn tells_once<S: Shelf>(shelf: &mut S, deck: &[u8], cards: usize) -> Option<bool> {
     match shelf.list() {
         Ok(rows) => tells(&rows, deck, cards),

@@ -6,10 +6,10 @@ use deck_workers::{Job, Made, Runs, job_in};
 use desk_core::{Call, Desk, Refusal, Reply, SharedPublication};
 use edit_core::RecordFault;
 
-/// How what ends a job is told.
+/// How what ends a job is shown.
 const HAND_IN: &str = "DeliverDeck, OfferObject with Publish, or GiveUp";
 
-/// What a reply of the desk tells, but for what it gives.
+/// What a reply of the desk shows, but for what it gives.
 #[derive(Clone, Copy, PartialEq, Eq)]
 pub enum Told {
     /// The desk has this version.
@@ -25,7 +25,7 @@ pub enum Told {
 /// That there is no memory.
 const LACKING: Told = Told::Refused(Refusal::OutOfMemory);
 
-/// What a reply tells.
+/// What a reply shows.
 pub fn told_in(reply: &Reply) -> Told {
     match reply {
         Reply::StatusIs(version, _, _) => Told::Version(*version),
@@ -37,7 +37,7 @@ pub fn told_in(reply: &Reply) -> Told {
     }
 }
 
-/// What the reply to a call tells.
+/// What the reply to a call shows.
 fn told_to(desk: &mut Desk, call: Call) -> Told {
     let reply = ask(desk, call);
     let told = told_in(&reply);
@@ -57,7 +57,7 @@ fn note_claim(scene: &mut Scene, told: Told, before: &[u8], is_first: bool) {
     }
 }
 
-/// Claims what is due: what that tells, and the job.
+/// Claims what is due: what that shows, and the job.
 fn claim_once(scene: &mut Scene, before: &[u8], is_first: bool) -> (Told, Option<Job>) {
     let reply = ask(&mut scene.desk, Call::Claim);
     let told = told_in(&reply);
@@ -88,7 +88,7 @@ fn is_lost(made: &Made) -> bool {
     )
 }
 
-/// Has a desk publish its decks; where memory lacks for that the lease is given up. What the desk told last, and
+/// Has a desk publish its decks; where memory lacks for that the lease is given up. What the desk answered last, and
 /// whether memory lacked.
 fn publish(desk: &mut Desk, lease: u64) -> (Told, bool) {
     let told = told_to(desk, Call::Publish(lease));
@@ -137,7 +137,7 @@ fn end_made(desk: &mut Desk, made: Made) -> (Told, bool) {
     }
 }
 
-/// Notes what a desk told at the end of a job: names, versions and cards are as before whatever that is.
+/// Notes what a desk answered at the end of a job: names, versions and cards are as before whatever that is.
 fn note_end(scene: &mut Scene, told: Told, before: &[u8], is_foreign: bool) {
     let is_kept = scene.state().as_slice() == before;
     let is_wanted = match told {

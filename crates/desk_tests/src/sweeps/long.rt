@@ -184,7 +184,7 @@ fn write_part(
     }
 }
 
-/// What came of two tries: what is told of the first that did not come to its end.
+/// What came of two tries: what is reported of the first that did not come to its end.
 fn both(first: Came, second: Came) -> Came {
     match first {
         Came::Whole => second,

@@ -1,7 +1,7 @@
 //! Goes through scenarios of everything that asks for memory, reads or writes, so that each request
 //! for memory can be refused from outside, and each read and each write failed. What is refused leaves
 //! what it is to leave, and is asked for once more; so standard output is the same whatever was
-//! refused, and standard error tells on a line what was, and whether all was as it is to be then.
+//! refused, and standard error prints on a line what was, and whether all was as it is to be then.
 //!
 //! A word names a scenario; an empty one stands for all but the large ones. The status is 0 where all
 //! checks held, 1 where one failed, and 2 where a scenario's own memory was refused twice or there is no
@@ -148,7 +148,7 @@ fn journal_of<R: AllocGlobal + Files<File = File> + Clone + Drop + Wait>(
     scene.into_journal()
 }
 
-/// Tells on standard error what was refused and what failed, each on a line.
+/// Shows on standard error what was refused and what failed, each on a line.
 fn tell_notes<R: Eprint>(rt: &R, name: &str, journal: &Journal) -> io::Result<()> {
     for note in &journal.notes {
         let found = if note.holds {
@@ -161,7 +161,7 @@ fn tell_notes<R: Eprint>(rt: &R, name: &str, journal: &Journal) -> io::Result<()
     Ok(())
 }
 
-/// Tells what came of a scenario.
+/// Shows what came of a scenario.
 fn tell<R: Print + Eprint>(rt: &R, name: &str, journal: &Journal) -> io::Result<Ended> {
     if journal.is_lacking {
         eprintln!(rt; "{name}: begun again")?;

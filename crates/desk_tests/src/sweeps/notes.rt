@@ -4,10 +4,10 @@
 use std::alloc::{AllocError, Global};
 use test_parts::plain_text;
 
-/// What is called, as it is told.
+/// What is called, as it is shown.
 pub type Called = &'static str;
 
-/// What the command of these lines is called: by its first word, but where others are told with it.
+/// What the command of these lines is called: by its first word, but where others are shown with it.
 pub fn called(lines: &'static str) -> Called {
     let word = lines.split_whitespace().next().unwrap_or("");
     match word {
@@ -65,7 +65,7 @@ impl Journal {
     }
 
     /// A call was refused for want of memory, and what stands there is as it is to be then or not. What
-    /// is found after the scenario's own memory was refused tells nothing.
+    /// is found after the scenario's own memory was refused shows nothing.
     pub fn refused(&mut self, call: Called, holds: bool) {
         if self.is_lacking {
             return;

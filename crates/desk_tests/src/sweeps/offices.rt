@@ -45,7 +45,7 @@ fn open(scene: &mut Scene) -> Result<(Office<Desk>, SeatList<Desk>), AllocError>
     }
 }
 
-/// What one call from a seat tells. It is looked at and no contract of it.
+/// What one call from a seat shows. It is looked at and no contract of it.
 fn ask<R: Wait>(rt: &R, office: &Office<Desk>, seat: &mut Seat<Desk>, call: Call) -> Told
     requires { seat.old.office ≡ office.now.id }
     ensures { seat.new.office ≡ seat.old.office }

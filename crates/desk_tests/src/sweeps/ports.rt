@@ -34,7 +34,7 @@ pub struct AsmRun<'i> {
 
 impl<'i> Tries for AsmRun<'i> {
     /// Before all is read nothing is written; after a fault of the writer exactly the bytes that are
-    /// told went out.
+    /// shown went out.
     fn try_once(&self, alloc: Global, failing: Failing) -> Result<Came, AllocError> {
         let Ok(reader) = BufReader::new(alloc, failing.reader(self.input)) else {
             return Err(AllocError);

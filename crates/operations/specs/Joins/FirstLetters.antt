@@ -1,4 +1,4 @@
--- The first letter of an operation tells which table has it: JP and what sets a register begin with J or S, and no others do.
+-- The first letter of an operation shows which table has it: JP and what sets a register begin with J or S, and no others do.
 use Rattle.std.specs.Prelude.{ℕ, ◌==◌, List, [], ◌∷◌, Bool, false, ◌||◌}
 
 -- whether a name begins with J or S

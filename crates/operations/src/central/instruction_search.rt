@@ -100,7 +100,7 @@ fn fit<'a>(
 /// row has the operation, V where its rows do not take the operand. PS and NO take every operand.
 ///
 /// An operation is looked up once, by at most fifteen comparisons of names, whether a table has it or
-/// not. Two letters that begin with N or P are compared with NO or PS. Then the first letter tells the
+/// not. Two letters that begin with N or P are compared with NO or PS. Then the first letter shows the
 /// table, and both letters a place in it, where at most four comparisons show the rows. An operation
 /// that does not stand there is looked for by halving: sums have 44 rows and at most 14 of an
 /// operation, which is six comparisons and four more; the other has 72 rows and at most 8 of an

@@ -27,13 +27,13 @@ is_session_call (call.OfferObject lease place object) = false
 is_session_call (call.Publish lease) = false
 is_session_call (call.GiveUp lease) = false
 
--- whether a reply tells a change, or refuses
+-- whether a reply shows a change, or refuses
 abbrev pub is_change : Reply → Bool
 is_change (reply.Changed version) = true
 is_change (reply.Refused reason) = true
 is_change _ = false
 
--- whether a reply tells a change with its edits, or refuses
+-- whether a reply shows a change with its edits, or refuses
 abbrev pub is_carried : Reply → Bool
 is_carried (reply.Carried version seen edits) = true
 is_carried (reply.Refused reason) = true

@@ -1,4 +1,4 @@
--- What is told of the fields of a statement.
+-- What is listed of the fields of a statement.
 use Rattle.std.specs.Prelude.{ℕ, ◌≡◌, ◌+◌, ◌-◌, ◌*◌, ◌/◌, List, [], ◌∷◌, Bool, true, false, map, length, take, drop}
 use Rattle.definitions.specs.Kinds.{word_bits, units}
 use Rattle.definitions.specs.Operands.{Operand}
@@ -27,15 +27,15 @@ pub record AreListed (kind : DeckKind) (operand : Operand) (count : ℕ) (before
 abbrev pub zeros_of : DeckKind → Sizing → Item
 zeros_of kind sizing = known ((sizing.end - sizing.place) / units kind * word_bits kind) 0
 
--- what is told of the fields of a statement with this operand, with the list before and after it, are these;
--- those of an instruction are what a list would tell
+-- what is listed of the fields of a statement with this operand, with the list before and after it, are these;
+-- those of an instruction are what a list would have
 abbrev pub AreTold : DeckKind → Operand → Sizing → told.CodedItems → List code.Item → List code.Item → List Item → Type 0
 AreTold kind operand sizing items.Absent before after fields = (fields ≡ []) × (after ≡ before)
 AreTold kind operand sizing (items.Instruction instruction) before after fields = (items_as instruction ≡ fields) × ((after ≡ before) × (listed_fields kind operand fields ≡ fields))
 AreTold kind operand sizing (items.Listed count) before after fields = AreListed kind operand count before after fields
 AreTold kind operand sizing items.Zeros before after fields = (fields ≡ zeros_of kind sizing ∷ []) × (after ≡ before)
 
--- whether zeros are told
+-- whether zeros are listed
 abbrev pub is_zeros : told.CodedItems → Bool
 is_zeros items.Zeros = true
 is_zeros _ = false

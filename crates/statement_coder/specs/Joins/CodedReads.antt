@@ -18,7 +18,7 @@ use Rattle.statement_coder.specs.declared.items.Item as code
 use Rattle.statement_coder.specs.declared.read_operands.ReadOperand.{ReadOperand}
 use Rattle.statement_coder.specs.declared.sizing.Sizing.{Sizing}
 
--- the fields that are told, with the list before and after it, are the definitions' of every settled statement that was so read and sized
+-- the fields that are listed, with the list before and after it, are the definitions' of every settled statement that was so read and sized
 abbrev pub AreCodedItems : ReadOperand → Sizing → View → (Literal → Result Form Letter) → List BlockRow → Coded → List code.Item → List code.Item → Type 0
 AreCodedItems read sizing symbols literals rows coded before after =
     (view : View) (settled : Settled) (all : List Settled) (words : List ℕ) → symbols ≡ (λ name. defined name all) → literals ≡ (λ literal. literal_form words literal) →

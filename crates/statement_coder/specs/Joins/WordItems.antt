@@ -1,4 +1,4 @@
--- Fields as a list tells them: what fills several words is told word by word.
+-- Fields as a list has them: what fills several words is listed word by word.
 use Rattle.std.specs.Prelude.{ℕ, ◌/◌, ◌%◌, ◌^◌, ◌==◌, List, [], ◌∷◌, Bool, ◌&&◌, nat_lt, map, flat_map, if◌then◌else◌}
 use Rattle.definitions.specs.Kinds.{word_bits}
 use Rattle.definitions.specs.Operands.{Operand, WordsOperand, TextOperand}
@@ -20,11 +20,11 @@ abbrev pub words_of : ℕ → Item → List Letter → Content → List Item
 words_of word field [] (Known bits) = if is_several word field.width bits then known_words word (cut word (field.width / word) bits) else field ∷ []
 words_of word field letters content = field ∷ []
 
--- a field without letters whose known bits fill several words is told word by word, every other as it is
+-- a field without letters whose known bits fill several words is listed word by word, every other as it is
 abbrev pub in_words : ℕ → Item → List Item
 in_words word field = words_of word field field.letters field.content
 
--- the fields of an operand as a list tells them: those of DATA, CON and DIS in words, those of a VFD as they are
+-- the fields of an operand as a list has them: those of DATA, CON and DIS in words, those of a VFD as they are
 abbrev pub listed_fields : DeckKind → Operand → List Item → List Item
 listed_fields kind (WordsOperand data') fields = flat_map (in_words (word_bits kind)) fields
 listed_fields kind (TextOperand count characters) fields = flat_map (in_words (word_bits kind)) fields

@@ -1,4 +1,4 @@
--- A name that has no value yet gets this one, and it is told whether it had none.
+-- A name that has no value yet gets this one, and the call returns whether it had none.
 use Rattle.std.proofs.Common.{rules}
 use Rattle.deck_assembler.proofs.SymbolLaws.{is-first, is-later, keep-entered}
 use Rattle.deck_assembler.proofs.symbol_table.keep.Goals as goal

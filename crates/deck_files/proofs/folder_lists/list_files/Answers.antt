@@ -3,7 +3,7 @@ use Rattle.deck_files.specs.FolderLists.{lacking}
 use Rattle.deck_files.specs.Steps.{Decks, Holds, TakesStep}
 use Rattle.deck_files.proofs.folder_lists.list_files.Goals as goal
 
--- the folder told, and no memory was left for all rows
+-- the folder listed them, and no memory was left for all rows
 pub returns-clause-fault : goal.returns-clause-fault
 returns-clause-fault g c =
     let P : List ℕ → Type 0 = λ (path : List ℕ). TakesStep g.F.Folder.has_done c.args.files.now (Decks path, Holds c.in-Ok.entries.items) c.decks.new.self in

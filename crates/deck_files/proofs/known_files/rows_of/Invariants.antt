@@ -1,4 +1,4 @@
--- What is left to be read, behind what is known so far, tells what the whole text does.
+-- What is left to be read, behind what is known so far, shows what the whole text does.
 use Rattle.std.proofs.Common.{◌≡◌, Some, length}
 use Rattle.definitions.specs.InputLines.{lines_of}
 use Rattle.deck_files.specs.KnownTexts.{rows_behind, rows_in}

@@ -1,4 +1,4 @@
--- The sections so far, and those of the decks that are left; of the decks so far it is known what is told of
+-- The sections so far, and those of the decks that are left; of the decks so far it is known what is stated of
 -- them; the objects are as they were.
 use Rattle.std.proofs.Common.{◌≡◌, ◌++◌, drop, length, map}
 use Rattle.deck_linker.specs.Joins.UnfitLines.{AreKnownToFit}

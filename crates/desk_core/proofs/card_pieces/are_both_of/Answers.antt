@@ -1,4 +1,4 @@
--- Cards and others are told apart from pieces, a piece at a time.
+-- Cards and others are distinguished from pieces, a piece at a time.
 use Rattle.std.proofs.Common.{ℕ, ◌≡◌, ◌+◌, ◌-◌, ◌≤◌, ◌==◌, ◌&&◌, Bool, List, length, take, drop, sym, ap, ap₂, ◌∙◌, arith}
 use Rattle.std.proofs.lemmas.Bool.{and_left}
 use Rattle.std.proofs.lemmas.List.{drop_all, length-drop, length-take-le}

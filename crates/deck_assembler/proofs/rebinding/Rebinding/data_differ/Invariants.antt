@@ -4,7 +4,7 @@ use Rattle.definitions.specs.Laws.Rebound.{datum_elements}
 use Rattle.deck_assembler.specs.Joins.Rebindings.{differs}
 use Rattle.deck_assembler.proofs.rebinding.Rebinding.data_differ.Given as goal
 
--- what is left tells what all tells
+-- what is left shows what all shows
 abbrev pub invariant-words : goal.invariant-words
 invariant-words l = list_any (differs l.self) (flat_map datum_elements l.rest) ≡ list_any (differs l.self) (flat_map datum_elements l.fn.words)
 

@@ -5,7 +5,7 @@ use Rattle.expr_forms.specs.Joins.ElementLists.{elements_in}
 use Rattle.deck_assembler.specs.Joins.Rebindings.{differs}
 use Rattle.deck_assembler.proofs.rebinding.Rebinding.expression_differs.Given as goal
 
--- the elements that are left tell what all tell
+-- the elements that are left show what all show
 abbrev pub invariant-links : goal.invariant-links
 invariant-links l = list_any (differs l.self) (elements_in l.links) ≡ list_any (differs l.self) (elements_of l.expression)
 

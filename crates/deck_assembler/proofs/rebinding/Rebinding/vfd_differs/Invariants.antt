@@ -4,7 +4,7 @@ use Rattle.deck_assembler.specs.Joins.Rebindings.{bit_elements}
 use Rattle.deck_assembler.specs.Joins.Rebindings.{differs}
 use Rattle.deck_assembler.proofs.rebinding.Rebinding.vfd_differs.Given as goal
 
--- what is left tells what all tells
+-- what is left shows what all shows
 abbrev pub invariant-fields : goal.invariant-fields
 invariant-fields l = list_any (differs l.self) (flat_map bit_elements l.rest) ≡ list_any (differs l.self) (flat_map bit_elements l.fn.fields)
 

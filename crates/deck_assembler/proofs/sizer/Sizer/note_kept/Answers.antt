@@ -1,4 +1,4 @@
--- Where an operand that was kept tells enough, it is not read.
+-- Where an operand that was kept shows enough, it is not read.
 use Rattle.std.proofs.Common.{◌∙◌, sym}
 use Rattle.std.proofs.lemmas.Result.{on_ok_weaker}
 use Rattle.operations.specs.Joins.OperationsAs.{operation_as}

@@ -1,4 +1,4 @@
--- What was kept of an operand tells what its reading would.
+-- What was kept of an operand shows what its reading would.
 use Rattle.std.proofs.Common.{◌∙◌}
 use Rattle.deck_assembler.specs.Joins.FirstSymbols.{symbol_in}
 use Rattle.deck_assembler.proofs.ToldOperands.{told-defined, told-externals}

@@ -1,4 +1,4 @@
--- A name keeps its first value, and it is told whether this is the first.
+-- A name keeps its first value, and the call returns whether this is the first.
 use Rattle.std.proofs.Common.{◌≡◌, ◌∙◌, not, is_some, Option, ap, arith}
 use Rattle.std.specs.Prelude.{nat_eq}
 use Rattle.std.specs.Map.{lookup}

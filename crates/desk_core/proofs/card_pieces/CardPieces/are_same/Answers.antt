@@ -1,4 +1,4 @@
--- Cards are told apart piece by piece.
+-- Cards are distinguished piece by piece.
 use Rattle.std.proofs.Common.{◌≡◌, ◌+◌, ◌&&◌, ◌==◌, Bool, true, false, List, [], length, take, drop, refl, sym, ap, ap₂, ◌∙◌, arith}
 use Rattle.std.proofs.lemmas.Bool.{and_left}
 use Rattle.std.proofs.lemmas.List.{drop_all}

@@ -14,7 +14,7 @@ use Rattle.desk_core.proofs.desk.Desk.put_deck.Goals as goal
 pub against_put-requires : goal.against_put-requires
 against_put-requires c = (c.place_of.ensures.some c.in-Some.place c.in-Some.is).1
 
--- what may be answered is told by what the answer has
+-- what may be answered is known by what the answer has
 answered : (desk : Desk) (answer other : Answer) (reply : Reply) (next : Desk) → IsAnswer other answer.reply answer.desk → MayAnswer desk answer reply next → MayAnswer desk other reply next
 answered desk answer other reply next same (inl (told, left)) = inl (told ∙ same.0, left ∙ same.1)
 answered desk answer other reply next same (inr (made, told, left)) = inr (subst (λ (reply : Reply). IsTrue (is_made reply)) same.0 made, told, left)
