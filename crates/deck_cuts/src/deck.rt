@@ -63,7 +63,7 @@ impl Deck {
     pub fn push(&mut self, card: Card) -> Result<(), AllocError>
         requires { length self.old.cards < 20000 }
         ensures ok { OnOk result
-            (self.new ≡ record { name = self.old.name; cards = self.old.cards ++ card ∷ [] }) }
+            (self.new ≡ record self.old { cards = self.old.cards ++ card ∷ [] }) }
         ensures err { OnErr result (self.new ≡ self.old) }
     {
         self.cards.push(card)?;

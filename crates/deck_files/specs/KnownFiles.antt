@@ -22,7 +22,7 @@ version_up_to last (Some version) = if nat_le version last then Some version els
 
 -- what is known of a file, for such a desk
 abbrev pub known_up_to : ℕ → Known → Known
-known_up_to last known = record { sum = known.sum; version = version_up_to last known.version }
+known_up_to last known = record known { version = version_up_to last known.version }
 
 -- what is known at a place
 abbrev pub known_at : Option (Option Known) → Option Known

@@ -149,7 +149,7 @@ impl<F> Limited<F> {
 
     /// Counts bytes that were written.
     fn count(&mut self, written: usize)
-        ensures { self.new ≡ record { file = self.old.file; left = self.old.left - written } }
+        ensures { self.new ≡ record self.old { left = self.old.left - written } }
     {
         self.left = self.left.saturating_sub(written as u64);
     }

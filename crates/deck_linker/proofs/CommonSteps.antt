@@ -1,23 +1,27 @@
 -- The words of the common blocks of a link, a deck and a block at a time.
 use Rattle.std.proofs.Common.{ℕ, zero, suc, ◌≡◌, ◌+◌, ◌^◌, ◌<◌, ◌≤◌, Bool, true, false, ◌||◌, cond, List, [], ◌∷◌, ◌++◌, Option, Some, None, length, map, take, get_or, refl, sym, ap, ap₂, subst, ◌∙◌, inl, inr, arith}
 use Rattle.std.specs.Prelude.{Vec, slice_get, if◌then◌else◌}
-use Rattle.std.specs.List.{position_from}
+use Rattle.std.specs.List.{AllByRecursion, position_from}
 use Rattle.std.specs.Option.{is_some}
 use Rattle.std.proofs.lemmas.List.{length-append, length-map, take_more}
 use Rattle.std.proofs.lemmas.List.Folds.{list_any-append}
 use Rattle.std.proofs.lemmas.Map.Keys.{IsDistinct-head, IsDistinct-tail}
 use Rattle.std.proofs.lemmas.Option.{slice_get-get_or, slice_get_within}
 use Rattle.definitions.specs.Characters.{same_text}
-use Rattle.definitions.specs.Image.{common_words, with_all_stored}
+use Rattle.definitions.specs.Image.{common_words}
 use Rattle.definitions.specs.Lengths.{BlockRow}
 use Rattle.definitions.specs.Layout.{Based, Common, Layout}
-use Rattle.definitions.specs.Words.{StoredWord}
+use Rattle.definitions.specs.LinkValues.{linking_of}
+use Rattle.definitions.specs.Words.{StoredWord, runs_of}
 use Rattle.definitions.proofs.TextLaws.{same_text-refl, same_text_tells}
+use Rattle.deck_listing.specs.Joins.Laying.{with_all_stored}
 use Rattle.deck_listing.specs.Joins.Filling.{DoSpansRise, as_stored}
 use Rattle.deck_listing.specs.declared.packing.word_spans.WordSpan.{WordSpan}
 use Rattle.deck_listing.specs.Joins.Walking.{DoNamesDiffer}
 use Rattle.deck_listing.proofs.BlockSteps.{behind_other}
-use Rattle.deck_linker.specs.Joins.CommonWords.{AreCommonWords, AreMade, AreNone, DoListsRise, IsPutOver, common_place, deck_words, has_common, has_row, over_deck, over_row, over_rows}
+use Rattle.deck_listing.proofs.FillLaws.{stored-rise}
+use Rattle.deck_listing.proofs.LaidLaws.{DoesRise, over-laid}
+use Rattle.deck_linker.specs.Joins.CommonWords.{AreCommonWords, AreMade, AreNone, DoListsRise, IsPutOver, common_place, deck_words, has_common, has_row, over_deck, over_decks, over_row, over_rows}
 use Rattle.deck_linker.specs.Joins.Placing.{names_of_commons}
 
 -- a place that is found lies between the first and the end
@@ -243,36 +247,46 @@ deck-rows layout based rows old new nowhere made =
     by_row name words false e = sym (ap (λ (ws : List StoredWord). with_all_stored ws words) (nowhere name e))
 
 -- one deck more
-common-words-more : (layout : Layout) (name : List ℕ) (decks : List Based) (based : Based) (earlier : List StoredWord) →
-    over_deck layout based name (common_words layout name decks earlier) ≡ common_words layout name (decks ++ based ∷ []) earlier
-common-words-more layout name [] based earlier = refl
-common-words-more layout name (first ∷ decks) based earlier = common-words-more layout name decks based (over_deck layout first name earlier)
+over-decks-more : (layout : Layout) (name : List ℕ) (decks : List Based) (based : Based) (earlier : List StoredWord) →
+    over_deck layout based name (over_decks layout name decks earlier) ≡ over_decks layout name (decks ++ based ∷ []) earlier
+over-decks-more layout name [] based earlier = refl
+over-decks-more layout name (first ∷ decks) based earlier = over-decks-more layout name decks based (over_deck layout first name earlier)
 
 pub decks-more : (layout : Layout) (decks : List Based) (i : ℕ) (based : Based) → i < length decks → based ≡ get_or decks i based → (name : List ℕ) (earlier : List StoredWord) →
-    over_deck layout based name (common_words layout name (take i decks) earlier) ≡ common_words layout name (take (i + 1) decks) earlier
+    over_deck layout based name (over_decks layout name (take i decks) earlier) ≡ over_decks layout name (take (i + 1) decks) earlier
 decks-more layout decks i based h is name earlier =
-    common-words-more layout name (take i decks) based earlier
-    ∙ ap (λ (l : List Based). common_words layout name l earlier) (ap (λ (d : Based). take i decks ++ d ∷ []) is ∙ sym (take_more decks i based h))
+    over-decks-more layout name (take i decks) based earlier
+    ∙ ap (λ (l : List Based). over_decks layout name l earlier) (ap (λ (d : Based). take i decks ++ d ∷ []) is ∙ sym (take_more decks i based h))
 
 -- lists without words are by increasing offset
 pub none-rise : {Z : Type 0} (count : ℕ) (lists : List (Vec WordSpan Z)) → AreNone count lists → DoListsRise lists
 none-rise {Z = Z} count lists none i spans e = subst (λ (words : List WordSpan). DoSpansRise 0 words (2 ^ 20)) (sym (none.none i spans e)) (omega arith)
 
+-- the words of decks, one over the other from none on, are those that the definitions lay
+decks-laid : (layout : Layout) (name : List ℕ) (decks : List Based) → over_decks layout name decks [] ≡ common_words layout name decks
+decks-laid layout name decks = over-laid (map (λ (based : Based). deck_words layout based name) decks) (each decks)
+  where
+    each : (left : List Based) → AllByRecursion DoesRise (map (λ (based : Based). deck_words layout based name) left)
+    each [] = tt
+    each (based ∷ left) = (stored-rise based.object.kind (runs_of based.object.kind (linking_of layout based) name based.object.coded), each left)
+
 -- the words of all decks
 pub all-made : {Z : Type 0} (layout : Layout) (count : ℕ) (old new : List (Vec WordSpan Z)) → AreNone count old → count ≡ length layout.commons →
-    AreMade layout.commons (λ name words. common_words layout name layout.decks words) old new → AreCommonWords layout new
+    AreMade layout.commons (λ name words. over_decks layout name layout.decks words) old new → AreCommonWords layout new
 all-made {Z = Z} layout count old new none counted made = record {
   same = made.same ∙ none.same ∙ counted;
   rise = made.rise;
   each = by_name;
 }
   where
-    by_name : (name : List ℕ) (i : ℕ) (spans : Vec WordSpan Z) → common_place name layout.commons ≡ Some i → slice_get new i ≡ Some spans → as_stored spans.items ≡ common_words layout name layout.decks []
+    by_name : (name : List ℕ) (i : ℕ) (spans : Vec WordSpan Z) → common_place name layout.commons ≡ Some i → slice_get new i ≡ Some spans → as_stored spans.items ≡ common_words layout name layout.decks
     by_name name i spans p e =
         let within = slice_get_within new i spans e in
         let same = made.same in
         let there : slice_get old i ≡ Some (get_or old i spans) = slice_get-get_or old i spans (omega (arith, within, same)) in
-        made.each name i (get_or old i spans) spans p there e ∙ ap (λ (ws : List WordSpan). common_words layout name layout.decks (as_stored ws)) (none.none i (get_or old i spans) there)
+        made.each name i (get_or old i spans) spans p there e
+        ∙ ap (λ (ws : List WordSpan). over_decks layout name layout.decks (as_stored ws)) (none.none i (get_or old i spans) there)
+        ∙ decks-laid layout name layout.decks
 
 -- one list more without words
 pub none-more : {Z : Type 0} (count : ℕ) (old new : List (Vec WordSpan Z)) (last : Vec WordSpan Z) → AreNone count old → last.items ≡ [] → new ≡ old ++ last ∷ [] → AreNone (count + 1) new

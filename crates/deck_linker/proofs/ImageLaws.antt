@@ -44,9 +44,9 @@ unfolding common_head
 section-some common [] h = absurd (h refl)
 section-some common (word ∷ words) h = ap (λ (t : List ℕ). common_head common.name common.base ++ t) (words-text common.base (word ∷ words))
 
-section-by : (layout : Layout) (common : Common) (past : Bool) (words : List StoredWord) → past ≡ false → words ≡ common_words layout common.name layout.decks [] →
-    common_section common words ≡ (if past then [] else common_section common (common_words layout common.name layout.decks []))
-section-by layout common past words e f = ap (common_section common) f ∙ sym (ap (λ (b : Bool). if b then [] else common_section common (common_words layout common.name layout.decks [])) e)
+section-by : (layout : Layout) (common : Common) (past : Bool) (words : List StoredWord) → past ≡ false → words ≡ common_words layout common.name layout.decks →
+    common_section common words ≡ (if past then [] else common_section common (common_words layout common.name layout.decks))
+section-by layout common past words e f = ap (common_section common) f ∙ sym (ap (λ (b : Bool). if b then [] else common_section common (common_words layout common.name layout.decks)) e)
 
 -- words that are counted are there
 pub some_words : {X : Type 0} (words slice : List X) (count : ℕ) → false ≡ eqb count 0 → length slice ≡ count → slice ≡ words → words ≡ [] → ⊥
@@ -56,7 +56,7 @@ some_words words slice count some counted same none =
 
 -- the section of a common block is written
 pub section-written : (layout : Layout) (common : Common) (old headed name : List ℕ) (base place : ℕ) (words told : List StoredWord) (past : Bool) → past ≡ false → past ≡ common.is_past →
-    words ≡ common_words layout common.name layout.decks [] → (words ≡ [] → ⊥) → told ≡ words → headed ≡ old ++ common_head name base → name ≡ common.name → base ≡ common.base → place ≡ common.base →
+    words ≡ common_words layout common.name layout.decks → (words ≡ [] → ⊥) → told ≡ words → headed ≡ old ++ common_head name base → name ≡ common.name → base ≡ common.base → place ≡ common.base →
     headed ++ common_words_text place told ≡ old ++ common_section_by layout common
 section-written layout common old headed name base place words told past kept is all some same h named based placed =
     ap₂ (λ (a b : List ℕ). a ++ b) (h ∙ ap₂ (λ (n : List ℕ) (k : ℕ). old ++ common_head n k) named based) (ap₂ common_words_text placed same)
@@ -64,7 +64,7 @@ section-written layout common old headed name base place words told past kept is
     ∙ ap (λ (t : List ℕ). old ++ t) (sym (section-some common words some) ∙ section-by layout common common.is_past words (sym is ∙ kept) all)
 
 -- a common block without words has no section
-pub section-none : (layout : Layout) (common : Common) (old : List ℕ) (words : List StoredWord) (past : Bool) → past ≡ false → past ≡ common.is_past → words ≡ common_words layout common.name layout.decks [] → words ≡ [] →
+pub section-none : (layout : Layout) (common : Common) (old : List ℕ) (words : List StoredWord) (past : Bool) → past ≡ false → past ≡ common.is_past → words ≡ common_words layout common.name layout.decks → words ≡ [] →
     old ≡ old ++ common_section_by layout common
 section-none layout common old words past kept is all none =
     sym (append-nil old) ∙ ap (λ (t : List ℕ). old ++ t) (ap (common_section common) (sym none) ∙ section-by layout common common.is_past words (sym is ∙ kept) all)

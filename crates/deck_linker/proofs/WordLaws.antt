@@ -10,7 +10,8 @@ use Rattle.definitions.specs.Characters.{same_text}
 use Rattle.definitions.specs.Kinds.{memory_end, units, unit_bits}
 use Rattle.definitions.specs.Operations.{is_instruction}
 use Rattle.definitions.specs.StatementItems.{Item}
-use Rattle.definitions.specs.Words.{Coded, Linking, Parcel, StoredWord, cut, parcels_from, parcels_of, onto_runs, runs_of, with_number, words_in_run, words_in, stored, stored_words, joined}
+use Rattle.definitions.specs.Words.{Coded, Linking, Parcel, StoredWord, cut, parcels_from, parcels_of, onto_runs, runs_of, with_number, words_in, stored, stored_words, joined}
+use Rattle.definitions.proofs.WordLaws.{with_words_of, words_in-run}
 use Rattle.definitions.specs.declared.deck_kind.DeckKind.{DeckKind}
 use Rattle.definitions.specs.declared.deck_kind.DeckKind.TheVariants.{Rel, Abs, Periph}
 use Rattle.definitions.specs.Lengths.{BlockRow}
@@ -55,10 +56,10 @@ any-number P n (m ∷ words) = by_test (any-number P n words) (n == m) refl (nat
 
 -- the words of a run
 any-in_run : (kind : DeckKind) (P : ℕ → Bool) (run : List Parcel) (words : List ℕ) →
-    list_any P (words_in_run kind run words) ≡ (list_any (λ (parcel : Parcel). P (parcel.place / units kind)) run || list_any P words)
+    list_any P (with_words_of kind run words) ≡ (list_any (λ (parcel : Parcel). P (parcel.place / units kind)) run || list_any P words)
 any-in_run kind P [] words = refl
 any-in_run kind P (parcel ∷ run) words =
-    any-number P (parcel.place / units kind) (words_in_run kind run words)
+    any-number P (parcel.place / units kind) (with_words_of kind run words)
     ∙ ap (λ (b : Bool). P (parcel.place / units kind) || b) (any-in_run kind P run words)
     ∙ or-apart (P (parcel.place / units kind)) (list_any (λ (other : Parcel). P (other.place / units kind)) run) (list_any P words)
 
@@ -70,7 +71,8 @@ any_parcel kind P run = list_any (λ (parcel : Parcel). P (parcel.place / units 
 any-in : (kind : DeckKind) (P : ℕ → Bool) (runs : List (List Parcel)) → list_any P (words_in kind runs) ≡ list_any (any_parcel kind P) runs
 any-in kind P [] = refl
 any-in kind P (run ∷ runs) =
-    any-in_run kind P run (words_in kind runs) ∙ ap (λ (b : Bool). any_parcel kind P run || b) (any-in kind P runs)
+    ap (list_any P) (words_in-run kind run runs)
+    ∙ any-in_run kind P run (words_in kind runs) ∙ ap (λ (b : Bool). any_parcel kind P run || b) (any-in kind P runs)
 
 -- parcels that join the latest run
 any-onto : (kind : DeckKind) (P : ℕ → Bool) (begins : Bool) (parcels : List Parcel) (runs : List (List Parcel)) →

@@ -45,7 +45,7 @@ fn push_head(text: &mut Sheet, name: &Name, base: u32)
 /// Writes the section of a common block that has these words; one that passes the end of memory, or in
 /// which no deck stores a word, has none.
 fn push_section(text: &mut Sheet, layout: &Layout, common: &Common, words: &[WordSpan])
-    requires words { as_stored words.now ≡ common_words layout.now common.now.name layout.now.decks [] }
+    requires words { as_stored words.now ≡ common_words layout.now common.now.name layout.now.decks }
     requires rise { DoSpansRise 0 words.now (2 ^ 20) }
     ensures { text.new ≡ text.old ++ common_section_by layout.now common.now }
 {

@@ -1,9 +1,8 @@
 //! The words of the common blocks of a link: each deck that has some is walked once for all of them.
 ghost use Rattle.std.specs.Prelude.{◌≡◌, ◌<◌, ◌^◌, length, IfOk, OnOk};
 ghost use Rattle.std.specs.List.{AllZip};
-ghost use Rattle.definitions.specs.Image.{common_words};
 ghost use Rattle.definitions.specs.LinkValues.{linking_of};
-ghost use Rattle.deck_linker.specs.Joins.CommonWords.{AreCommonWords, AreMade, AreNone, DoListsRise, IsPutOver, has_common, over_deck, over_row, over_rows};
+ghost use Rattle.deck_linker.specs.Joins.CommonWords.{AreCommonWords, AreMade, AreNone, DoListsRise, IsPutOver, has_common, over_deck, over_row, over_rows, over_decks};
 ghost use Rattle.deck_listing.specs.Joins.BlockWords.{AreWordsOf};
 ghost use Rattle.deck_listing.specs.Joins.Walking.{DoNamesDiffer};
 ghost use Rattle.deck_listing.specs.Joins.Filling.{DoSpansRise, as_stored};
@@ -129,7 +128,7 @@ fn put_decks(
 ) -> Result<(), AllocError>
     requires lists { DoListsRise lists.old.items }
     requires same { length lists.old.items ≡ length layout.now.commons }
-    ensures { OnOk result (AreMade layout.now.commons (λ name words. common_words layout.now name decks.now words) lists.old.items lists.new.items) }
+    ensures { OnOk result (AreMade layout.now.commons (λ name words. over_decks layout.now name decks.now words) lists.old.items lists.new.items) }
 {
     for based in decks {
         put_deck(alloc, layout, based, lists)?;

@@ -1,11 +1,13 @@
 -- Spans that have each word of the runs, by increasing offset, are what the definitions store.
-use Rattle.std.proofs.Common.{◌≡◌, ◌≢◌, ℕ, zero, suc, ◌+◌, ◌/◌, ◌^◌, ◌<◌, ◌≤◌, Bool, true, false, not, ◌||◌, nat_eq, nat_lt, List, [], ◌∷◌, ◌++◌, Option, Some, None, reverse, refl, sym, ap, ◌∙◌, arith, ◌⊎◌, inl, inr}
+use Rattle.std.proofs.Common.{◌≡◌, ◌≢◌, ℕ, zero, suc, ◌+◌, ◌/◌, ◌^◌, ◌<◌, ◌≤◌, Bool, true, false, not, ◌||◌, nat_eq, nat_lt, List, [], ◌∷◌, ◌++◌, Option, Some, None, reverse, refl, sym, ap, subst, ◌∙◌, arith, ◌⊎◌, inl, inr}
 use Rattle.std.specs.Prelude.{if◌then◌else◌}
 use Rattle.std.proofs.lemmas.Bool.{cases_order}
 use Rattle.std.proofs.lemmas.Bool.Decides.{eqb_tells, leb_tells}
 use Rattle.std.proofs.lemmas.List.{reverse-append}
 use Rattle.definitions.specs.Kinds.{units}
-use Rattle.definitions.specs.Words.{Parcel, StoredWord, in_word, latest_in_word, word_of_parcels, with_number, words_in_run, words_in, stored}
+use Rattle.definitions.specs.Image.{stored_at}
+use Rattle.definitions.specs.Words.{Parcel, StoredWord, in_word, latest_in_word, word_of_parcels, with_number, words_in, stored}
+use Rattle.definitions.proofs.WordLaws.{with_words_of, words_in-run}
 use Rattle.definitions.specs.declared.deck_kind.DeckKind.{DeckKind}
 use Rattle.deck_listing.specs.Joins.Spans.{RiseWithin}
 use Rattle.deck_listing.specs.Joins.Filling.{DoSpansRise, IsFilled, as_stored, found, is_none_there, is_within, latest_value, or_else, value_in, value_of_parcels, words_from}
@@ -44,7 +46,7 @@ ltb_tells a b = elim (leb_tells (suc a) b) [
 ]
 
 -- whether a number is among others
-abbrev among : ℕ → List ℕ → Bool
+abbrev pub among : ℕ → List ℕ → Bool
 among n [] = false
 among n (m ∷ ms) = nat_eq m n || among n ms
 
@@ -62,7 +64,7 @@ or-assoc : (a b c : Bool) → ((a || b) || c) ≡ (a || (b || c))
 or-assoc true b c = refl
 or-assoc false b c = refl
 
-among-with_number : (word n : ℕ) (ns : List ℕ) → among word (with_number n ns) ≡ (nat_eq n word || among word ns)
+pub among-with_number : (word n : ℕ) (ns : List ℕ) → among word (with_number n ns) ≡ (nat_eq n word || among word ns)
 among-with_number word n [] = refl
 among-with_number word n (m ∷ ms) = elim (eqb_tells n m) [
   | inl e ↦ rw e.0 (rw e.1 (or_twice (nat_eq m word) (among word ms)))
@@ -76,20 +78,20 @@ some_held : (test : Bool) (parcel : Parcel) (held : List Parcel) → not (is_non
 some_held true parcel held = refl
 some_held false parcel held = refl
 
-among-run : (kind : DeckKind) (word : ℕ) (run : List Parcel) (words : List ℕ) → among word (words_in_run kind run words) ≡ (not (is_none_there (in_word kind word run)) || among word words)
+among-run : (kind : DeckKind) (word : ℕ) (run : List Parcel) (words : List ℕ) → among word (with_words_of kind run words) ≡ (not (is_none_there (in_word kind word run)) || among word words)
 among-run kind word [] words = refl
 among-run kind word (parcel ∷ run) words =
-    among-with_number word (parcel.place / units kind) (words_in_run kind run words)
+    among-with_number word (parcel.place / units kind) (with_words_of kind run words)
     ∙ ap (λ b. nat_eq (parcel.place / units kind) word || b) (among-run kind word run words)
     ∙ sym (or-assoc (nat_eq (parcel.place / units kind) word) (not (is_none_there (in_word kind word run))) (among word words))
     ∙ ap (λ b. b || among word words) (sym (some_held (nat_eq (parcel.place / units kind) word) parcel (in_word kind word run)))
 
 -- whether there is a value
-abbrev is_there : Option ℕ → Bool
+abbrev pub is_there : Option ℕ → Bool
 is_there None = false
 is_there (Some n) = true
 
-is_there-or : (a b : Option ℕ) → is_there (or_else a b) ≡ (is_there a || is_there b)
+pub is_there-or : (a b : Option ℕ) → is_there (or_else a b) ≡ (is_there a || is_there b)
 is_there-or None b = refl
 is_there-or (Some n) b = refl
 
@@ -100,13 +102,14 @@ is_there-held kind (parcel ∷ held) = refl
 among-words : (kind : DeckKind) (word : ℕ) (runs : List (List Parcel)) → among word (words_in kind runs) ≡ is_there (value_at kind runs word)
 among-words kind word [] = refl
 among-words kind word (run ∷ runs) =
-    among-run kind word run (words_in kind runs)
+    ap (among word) (words_in-run kind run runs)
+    ∙ among-run kind word run (words_in kind runs)
     ∙ ap (λ b. not (is_none_there (in_word kind word run)) || b) (among-words kind word runs)
     ∙ ap (λ b. b || is_there (value_at kind runs word)) (sym (is_there-held kind (in_word kind word run)))
     ∙ sym (is_there-or (value_in kind run word) (value_at kind runs word))
 
 -- a number put among rising ones leaves them rising
-with_number-rise : (n low : ℕ) (ns : List ℕ) (high : ℕ) → RiseWithin low ns high → low ≤ n → n < high → RiseWithin low (with_number n ns) high
+pub with_number-rise : (n low : ℕ) (ns : List ℕ) (high : ℕ) → RiseWithin low ns high → low ≤ n → n < high → RiseWithin low (with_number n ns) high
 with_number-rise n low [] high h from to = (from, omega arith)
 with_number-rise n low (m ∷ ms) high h from to = elim (eqb_tells n m) [
   | inl e ↦ rw e.0 h
@@ -119,26 +122,23 @@ with_number-rise n low (m ∷ ms) high h from to = elim (eqb_tells n m) [
     later : (a b : ℕ) → (a ≡ b → ⊥) → b ≤ a → b + 1 ≤ a
     later a b other above = elim (cases_order a b) [ inl e ↦ absurd (other e) | inr r ↦ omega arith ]
 
-run-rise : (kind : DeckKind) (run : List Parcel) (ns : List ℕ) (high : ℕ) → RiseWithin 0 ns high → (top : ℕ) × RiseWithin 0 (words_in_run kind run ns) top
+run-rise : (kind : DeckKind) (run : List Parcel) (ns : List ℕ) (high : ℕ) → RiseWithin 0 ns high → (top : ℕ) × RiseWithin 0 (with_words_of kind run ns) top
 run-rise kind [] ns high h = (high, h)
 run-rise kind (parcel ∷ run) ns high h =
     let rest = run-rise kind run ns high h in
     let word = parcel.place / units kind in
-    (rest.0 + word + 1, with_number-rise word 0 (words_in_run kind run ns) (rest.0 + word + 1) (rise-wider 0 (words_in_run kind run ns) rest.0 (rest.0 + word + 1) rest.1 (omega arith)) (omega arith) (omega arith))
+    (rest.0 + word + 1, with_number-rise word 0 (with_words_of kind run ns) (rest.0 + word + 1) (rise-wider 0 (with_words_of kind run ns) rest.0 (rest.0 + word + 1) rest.1 (omega arith)) (omega arith) (omega arith))
 
 words-rise : (kind : DeckKind) (runs : List (List Parcel)) → (top : ℕ) × RiseWithin 0 (words_in kind runs) top
 words-rise kind [] = (0, omega arith)
-words-rise kind (run ∷ runs) = let rest = words-rise kind runs in run-rise kind run (words_in kind runs) rest.0 rest.1
+words-rise kind (run ∷ runs) =
+    let rest = words-rise kind runs in
+    subst (λ words. (top : ℕ) × RiseWithin 0 words top) (sym (words_in-run kind run runs)) (run-rise kind run (words_in kind runs) rest.0 rest.1)
 
 -- the offsets of words
 abbrev pub stored_offsets : List StoredWord → List ℕ
 stored_offsets [] = []
 stored_offsets (word ∷ words) = word.offset ∷ stored_offsets words
-
--- the value that a list of words has at an offset
-abbrev pub stored_at : ℕ → List StoredWord → Option ℕ
-stored_at offset [] = None
-stored_at offset (word ∷ words) = if nat_eq word.offset offset then Some word.value else stored_at offset words
 
 pub stored_at-other : (offset : ℕ) (x : StoredWord) (xs : List StoredWord) → x.offset ≢ offset → stored_at offset (x ∷ xs) ≡ stored_at offset xs
 stored_at-other offset x xs other = elim (eqb_tells x.offset offset) [ inl h ↦ absurd (other h.1) | inr h ↦ rw h.0 refl ]
@@ -220,6 +220,10 @@ stored-has kind runs word =
     stored-found kind runs (words_in kind runs) word
     ∙ chosen kind (latest_in_word kind word runs) (among word (words_in kind runs)) (among-words kind word runs ∙ ap is_there (sym (latest-value kind runs word)))
     ∙ latest-value kind runs word
+
+-- the words that are stored rise
+pub stored-rise : (kind : DeckKind) (runs : List (List Parcel)) → (top : ℕ) × RiseWithin 0 (stored_offsets (stored kind runs (words_in kind runs))) top
+stored-rise kind runs = let rises = words-rise kind runs in (rises.0, rw (stored-offsets kind runs (words_in kind runs)) rises.1)
 
 same_word : (x y : StoredWord) → x.offset ≡ y.offset → Some x.value ≡ Some y.value → x ≡ y
 same_word x y e h = let v : x.value ≡ y.value = cc in pair x.offset y.offset x.value y.value e v

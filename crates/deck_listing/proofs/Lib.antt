@@ -7,8 +7,9 @@ mod ZeroLaws
 mod MergeLaws
 mod JoinLaws
 mod NothingLaws
-mod FillLaws
+pub mod FillLaws
 pub mod OverLaws
+pub mod LaidLaws
 mod GatherSteps
 mod PutLaws
 mod PackedLaws

@@ -5,8 +5,9 @@ use Rattle.std.specs.List.{list_any}
 use Rattle.std.proofs.lemmas.Bool.{true≢false, not-true, not-false, lt-ltb}
 use Rattle.std.proofs.lemmas.List.Sorted.{list_any-IsPermutation, IsPermutation-reverse}
 use Rattle.definitions.specs.Kinds.{units}
-use Rattle.definitions.specs.Words.{Parcel, parcels_from, with_number, words_in_run, words_in}
+use Rattle.definitions.specs.Words.{Parcel, parcels_from, with_number, words_in}
 use Rattle.definitions.specs.declared.deck_kind.DeckKind.{DeckKind}
+use Rattle.definitions.proofs.WordLaws.{with_words_of, words_in-run}
 use Rattle.deck_listing.specs.Joins.Filling.{is_none_there}
 use Rattle.deck_listing.specs.Joins.Packing.{Packed, runs_in}
 use Rattle.deck_listing.specs.Joins.Spans.{has_parcel, lies_in, parcels_in, parcels_in_runs, run_of}
@@ -32,13 +33,14 @@ with_some : (n : ℕ) (ns : List ℕ) → has_number (with_number n ns) ≡ true
 with_some n [] = refl
 with_some n (m ∷ ms) = either_some (nat_eq n m) (nat_lt n m) m n ms (m ∷ ms) (with_number n ms)
 
-run_some : (kind : DeckKind) (run : List Parcel) (ns : List ℕ) → has_number (words_in_run kind run ns) ≡ (is_some run || has_number ns)
+run_some : (kind : DeckKind) (run : List Parcel) (ns : List ℕ) → has_number (with_words_of kind run ns) ≡ (is_some run || has_number ns)
 run_some kind [] ns = refl
-run_some kind (parcel ∷ run) ns = with_some (parcel.place / units kind) (words_in_run kind run ns)
+run_some kind (parcel ∷ run) ns = with_some (parcel.place / units kind) (with_words_of kind run ns)
 
 words_some : (kind : DeckKind) (runs : List (List Parcel)) → has_number (words_in kind runs) ≡ list_any is_some runs
 words_some kind [] = refl
-words_some kind (run ∷ runs) = run_some kind run (words_in kind runs) ∙ ap (λ b. is_some run || b) (words_some kind runs)
+words_some kind (run ∷ runs) =
+    ap has_number (words_in-run kind run runs) ∙ run_some kind run (words_in kind runs) ∙ ap (λ b. is_some run || b) (words_some kind runs)
 
 front_some : (is_instruction : Bool) (place count bits : ℕ) (more : List Parcel) →
     is_some (parcels_from is_instruction place (replicate count bits) ++ more) ≡ (nat_lt 0 count || is_some more)

@@ -2,13 +2,14 @@
 use Rattle.std.proofs.Common.{◌≡◌, ◌≢◌, ℕ, zero, suc, ◌+◌, ◌^◌, ◌<◌, ◌≤◌, true, false, nat_lt, List, [], ◌∷◌, ◌++◌, Some, None, refl, sym, ap, ◌∙◌, arith, inl, inr}
 use Rattle.std.proofs.lemmas.Bool.{cases_order}
 use Rattle.std.proofs.lemmas.Bool.Decides.{eqb_tells, leb_tells}
-use Rattle.definitions.specs.Image.{with_stored, with_all_stored}
+use Rattle.definitions.specs.Image.{stored_at}
 use Rattle.definitions.specs.Words.{StoredWord}
 use Rattle.deck_listing.specs.Joins.Spans.{RiseWithin}
+use Rattle.deck_listing.specs.Joins.Laying.{with_stored, with_all_stored}
 use Rattle.deck_listing.specs.Joins.Filling.{DoSpansRise, IsFilled, as_stored, found, or_else, words_from}
 use Rattle.deck_listing.specs.declared.packing.word_spans.WordSpan.{WordSpan}
 use Rattle.deck_listing.proofs.RiseLaws.{none-or_else, or_else-none, order_of, rise-lower, rise-order}
-use Rattle.deck_listing.proofs.FillLaws.{stored_at, stored_offsets, stored_at-other, stored_at-under, spans-found, spans-rise, unique}
+use Rattle.deck_listing.proofs.FillLaws.{stored_offsets, stored_at-other, stored_at-under, spans-found, spans-rise, unique}
 
 lt_is : (a b : ℕ) → a < b → nat_lt a b ≡ true
 lt_is a b h = elim (leb_tells (suc a) b) [ inl e ↦ e.0 | inr e ↦ let k = e.1 in absurd (omega arith) ]
@@ -42,7 +43,7 @@ stored_at-with offset word (other ∷ words) = elim (eqb_tells word.offset other
       | inr e ↦ rw e.0 rest
     ]
 
-over-found : (offset low high : ℕ) (words others : List StoredWord) → RiseWithin low (stored_offsets words) high → stored_at offset (with_all_stored words others) ≡ or_else (stored_at offset words) (stored_at offset others)
+pub over-found : (offset low high : ℕ) (words others : List StoredWord) → RiseWithin low (stored_offsets words) high → stored_at offset (with_all_stored words others) ≡ or_else (stored_at offset words) (stored_at offset others)
 over-found offset low high [] others h = refl
 over-found offset low high (word ∷ words) others h =
     over-found offset (word.offset + 1) high words (with_stored word others) h.1
@@ -65,7 +66,7 @@ with-rise low word (other ∷ words) high from to h = elim (eqb_tells word.offse
     later : word.offset ≢ other.offset → other.offset ≤ word.offset → other.offset + 1 ≤ word.offset
     later apart behind = elim (cases_order word.offset other.offset) [ inl e ↦ absurd (apart e) | inr r ↦ omega arith ]
 
-over-rise : (low : ℕ) (words others : List StoredWord) (high : ℕ) → RiseWithin 0 (stored_offsets others) high → RiseWithin low (stored_offsets words) high → RiseWithin 0 (stored_offsets (with_all_stored words others)) high
+pub over-rise : (low : ℕ) (words others : List StoredWord) (high : ℕ) → RiseWithin 0 (stored_offsets others) high → RiseWithin low (stored_offsets words) high → RiseWithin 0 (stored_offsets (with_all_stored words others)) high
 over-rise low [] others high h k = h
 over-rise low (word ∷ words) others high h k =
     let above = rise-order (word.offset + 1) (stored_offsets words) high k.1 in

@@ -4,6 +4,7 @@ pub mod Packing
 pub mod Spans
 pub mod Filling
 pub mod Joining
+pub mod Laying
 -- The lines of the words that fields fill.
 pub mod WordLines
 -- The text of what an object keeps, and the decks behind its END.

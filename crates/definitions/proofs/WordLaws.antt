@@ -1,16 +1,30 @@
 -- Each stored word fits a word of its deck.
-use Rattle.std.proofs.Common.{◌≡◌, ℕ, zero, suc, ◌+◌, ◌-◌, ◌*◌, ◌/◌, ◌%◌, ◌^◌, ◌<◌, Bool, true, false, nat_eq, List, [], ◌∷◌, ◌++◌, refl, arith}
-use Rattle.std.specs.Prelude.{All, filter, if◌then◌else◌}
+use Rattle.std.proofs.Common.{◌≡◌, ℕ, zero, suc, ◌+◌, ◌-◌, ◌*◌, ◌/◌, ◌%◌, ◌^◌, ◌<◌, Bool, true, false, nat_eq, List, [], ◌∷◌, ◌++◌, refl, ap, arith}
+use Rattle.std.specs.Prelude.{All, filter, flat_map, map, if◌then◌else◌}
 use Rattle.std.specs.List.{AllByRecursion, list_any}
 use Rattle.std.proofs.Math.Nat.{mod-lt, pow-suc as pow-succ}
 use Rattle.std.proofs.lemmas.List.Elements.{All-from_recursion}
 use Rattle.definitions.specs.Characters.{same_text}
 use Rattle.definitions.specs.Kinds.{units, unit_bits, word_bits}
 use Rattle.definitions.specs.Operations.{is_instruction}
-use Rattle.definitions.specs.Words.{Parcel, Coded, Linking, StoredWord, cut, parcels_from, parcels_of, onto_runs, runs_of, in_word, latest_in_word, pass, filling_of, bits_at, word_of_parcels, stored, words_in, stored_words, joined}
+use Rattle.definitions.specs.Words.{Parcel, Coded, Linking, StoredWord, cut, parcels_from, parcels_of, onto_runs, runs_of, in_word, latest_in_word, pass, filling_of, bits_at, word_of_parcels, stored, with_number, rising, words_in, stored_words, joined}
 use Rattle.definitions.specs.StatementItems.{Item}
 use Rattle.definitions.specs.declared.deck_kind.DeckKind.{DeckKind}
 use Rattle.definitions.specs.declared.deck_kind.DeckKind.TheVariants.{Rel, Abs, Periph}
+
+-- numbers in increasing order with the words of a run among them
+abbrev pub with_words_of : DeckKind → List Parcel → List ℕ → List ℕ
+with_words_of kind [] words = words
+with_words_of kind (parcel ∷ run) words = with_number (parcel.place / units kind) (with_words_of kind run words)
+
+front-words : (kind : DeckKind) (run rest : List Parcel) →
+    rising (map (λ (parcel : Parcel). parcel.place / units kind) (run ++ rest)) ≡ with_words_of kind run (rising (map (λ (parcel : Parcel). parcel.place / units kind) rest))
+front-words kind [] rest = refl
+front-words kind (parcel ∷ run) rest = ap (with_number (parcel.place / units kind)) (front-words kind run rest)
+
+-- the words of runs, one run more in front
+pub words_in-run : (kind : DeckKind) (run : List Parcel) (runs : List (List Parcel)) → words_in kind (run ∷ runs) ≡ with_words_of kind run (words_in kind runs)
+words_in-run kind run runs = front-words kind run (flat_map (λ (other : List Parcel). other) runs)
 
 -- a power of two is not 0
 pub pow_positive : (n : ℕ) → 0 < 2 ^ n

@@ -19,7 +19,7 @@ word_form kind block word = if is_nominal block then absolute (pos word) else re
 
 -- the form that is so many words further
 abbrev pub moved : Form → ℕ → ℕ → Form
-moved form word from = record { number = form.number +ℤ (pos word -ℤ pos from); part = form.part }
+moved form word from = record form { number = form.number +ℤ (pos word -ℤ pos from) }
 
 -- the LOC in force in a block: the latest one that no ORG of the block has ended
 abbrev pub counting_in : List ℕ → List Settled → Option Counting

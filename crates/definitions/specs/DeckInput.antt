@@ -58,7 +58,7 @@ begun number name card decks =
 abbrev pub continued : ℕ → Card → List Deck → Input
 continued number card [] = Faulty (BadName number)
 continued number card (deck ∷ decks) =
-    if nat_le most_cards (length deck.cards) then Faulty DeckFull else Decks (record { name = deck.name; cards = card ∷ deck.cards } ∷ decks)
+    if nat_le most_cards (length deck.cards) then Faulty DeckFull else Decks (record deck { cards = card ∷ deck.cards } ∷ decks)
 
 -- the decks with a card more: an IDENT, which is known by that card alone, begins a deck
 abbrev pub with_card : ℕ → Card → List Deck → Input
@@ -86,7 +86,7 @@ input_of (line ∷ earlier) = with_line (length earlier + 1) line (input_of earl
 
 -- a deck with its cards oldest first
 abbrev pub in_card_order : Deck → Deck
-in_card_order deck = record { name = deck.name; cards = reverse deck.cards }
+in_card_order deck = record deck { cards = reverse deck.cards }
 
 -- decks in the order of the input, with their cards in order
 abbrev pub in_input_order : List Deck → List Deck

@@ -134,8 +134,8 @@ pub record Grouped : Type 0 where
 
 -- behind a star or slash an element is a factor; behind plus or minus it makes a term with the factors that follow
 abbrev pub onto_grouped : OperatorElement → Operator → Grouped → Grouped
-onto_grouped pair Times rest = record { factors = pair ∷ rest.factors; terms = rest.terms }
-onto_grouped pair Divide rest = record { factors = pair ∷ rest.factors; terms = rest.terms }
+onto_grouped pair Times rest = record rest { factors = pair ∷ rest.factors }
+onto_grouped pair Divide rest = record rest { factors = pair ∷ rest.factors }
 onto_grouped pair Add rest = record { factors = []; terms = record { operator = Add; element = pair.element; factors = rest.factors } ∷ rest.terms }
 onto_grouped pair Subtract rest = record { factors = []; terms = record { operator = Subtract; element = pair.element; factors = rest.factors } ∷ rest.terms }
 

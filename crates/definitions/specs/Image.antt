@@ -1,8 +1,8 @@
 -- The octal image (ours): each deck that has a section, with its stored words in order of address, and then the common blocks.
-use Rattle.std.specs.Prelude.{ℕ, ◌==◌, List, [], ◌∷◌, ◌++◌, Bool, true, false, not, codes, filter, flat_map, nat_lt, if◌then◌else◌}
+use Rattle.std.specs.Prelude.{ℕ, ◌==◌, List, [], ◌∷◌, ◌++◌, Bool, true, false, not, Option, Some, None, unwrap_or, codes, filter, flat_map, map, if◌then◌else◌}
 use Rattle.definitions.specs.Numerals.{octal_of}
 use Rattle.definitions.specs.Kinds.{kind_text}
-use Rattle.definitions.specs.Words.{StoredWord, stored_words}
+use Rattle.definitions.specs.Words.{StoredWord, rising, stored_words}
 use Rattle.definitions.specs.Objects.{Object}
 use Rattle.definitions.specs.Listing.{line}
 use Rattle.definitions.specs.Layout.{Based, Common, Layout, AddressedWord, addressed, object_words, is_beyond}
@@ -35,23 +35,25 @@ section_by kind is_past layout based = section layout based
 abbrev pub image_alone : Object → ℕ → List ℕ
 image_alone object base = section (record { decks = []; commons = [] }) (record { object = object; base = base; is_past = false })
 
--- words in order of offset with one word more, which takes the place of one that stands there
-abbrev pub with_stored : StoredWord → List StoredWord → List StoredWord
-with_stored word [] = word ∷ []
-with_stored word (other ∷ words) =
-    if word.offset == other.offset then word ∷ words
-    else if nat_lt word.offset other.offset then word ∷ other ∷ words else other ∷ with_stored word words
+-- the value that words have at an offset
+abbrev pub stored_at : ℕ → List StoredWord → Option ℕ
+stored_at offset [] = None
+stored_at offset (word ∷ words) = if word.offset == offset then Some word.value else stored_at offset words
 
--- words in order of offset with others over them
-abbrev pub with_all_stored : List StoredWord → List StoredWord → List StoredWord
-with_all_stored [] earlier = earlier
-with_all_stored (word ∷ words) earlier = with_all_stored words (with_stored word earlier)
+-- the value that the last of these lists with a word at an offset has there
+abbrev pub last_at : ℕ → List (List StoredWord) → Option ℕ
+last_at offset [] = None
+last_at offset (words ∷ later) = elim (last_at offset later) [ None ↦ stored_at offset words | Some value ↦ Some value ]
+
+-- lists of words as one, by increasing offset: at each offset that of the last list with a word there
+abbrev pub laid : List (List StoredWord) → List StoredWord
+laid lists =
+    map (λ (offset : ℕ). record { offset = offset; value = unwrap_or (last_at offset lists) 0 })
+    (rising (flat_map (λ (words : List StoredWord). map (λ (word : StoredWord). word.offset) words) lists))
 
 -- the words that decks store in a block of this name: each is that of the last deck that stores it
-abbrev pub common_words : Layout → List ℕ → List Based → List StoredWord → List StoredWord
-common_words layout name [] earlier = earlier
-common_words layout name (based ∷ others) earlier =
-    common_words layout name others (with_all_stored (stored_words based.object.kind (linking_of layout based) name based.object.coded) earlier)
+abbrev pub common_words : Layout → List ℕ → List Based → List StoredWord
+common_words layout name decks = laid (map (λ (based : Based). stored_words based.object.kind (linking_of layout based) name based.object.coded) decks)
 
 -- the section of a common block with these words; one without words has none
 abbrev pub common_section : Common → List StoredWord → List ℕ
@@ -61,7 +63,7 @@ common_section common (word ∷ words) =
 
 -- a common block that passes the end of memory has no section
 abbrev pub common_section_by : Layout → Common → List ℕ
-common_section_by layout common = if common.is_past then [] else common_section common (common_words layout common.name layout.decks [])
+common_section_by layout common = if common.is_past then [] else common_section common (common_words layout common.name layout.decks)
 
 -- the sections of the decks in order, those of the common blocks, and END
 abbrev pub image_text : Layout → List ℕ

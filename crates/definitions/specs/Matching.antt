@@ -36,9 +36,9 @@ is_ijk c = is_among c (codes "ijk")
 -- the digits with the one for this place set
 abbrev pub with_ijk : ℕ → ℕ → RegisterDigits → RegisterDigits
 with_ijk c digit ijk =
-    if c == place_i then record { i = digit; j = ijk.j; k = ijk.k }
-    else if c == place_j then record { i = ijk.i; j = digit; k = ijk.k }
-    else record { i = ijk.i; j = ijk.j; k = digit }
+    if c == place_i then record ijk { i = digit }
+    else if c == place_j then record ijk { j = digit }
+    else record ijk { k = digit }
 
 -- 0 to 7
 abbrev pub is_octal_digit : ℕ → Bool
@@ -171,8 +171,8 @@ is_none_yet text = length text == 0
 -- a term that is one register joins the registers, every other term the others; beside a register these count as written with a sign, so that an item among
 -- them is a number
 abbrev pub onto_sum : Term → Element → List OperatorElement → Sum → Sum
-onto_sum term (ARegister r) [] sum = record { sign = PlusSign; registers = sum.registers ++ (sign_text (is_none_yet sum.registers) term.operator ++ r.letter ∷ (zero_digit + r.digit) ∷ []); others = sum.others }
-onto_sum term element pairs sum = record { sign = sum.sign; registers = sum.registers; others = sum.others ++ term ∷ [] }
+onto_sum term (ARegister r) [] sum = record sum { sign = PlusSign; registers = sum.registers ++ (sign_text (is_none_yet sum.registers) term.operator ++ r.letter ∷ (zero_digit + r.digit) ∷ []) }
+onto_sum term element pairs sum = record sum { others = sum.others ++ term ∷ [] }
 
 -- a sum with further terms taken apart
 abbrev pub sum_of : List Term → Sum → Sum

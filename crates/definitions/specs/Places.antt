@@ -21,15 +21,15 @@ is_bad _ = false
 abbrev pub is_at_word : Operation → Operand → Bool
 is_at_word operation operand = is_reserving operation || (is_data operation && not (is_bad operand))
 
--- a location field that is not lawful counts as empty: here a `-` of VFD outside peripheral decks
-abbrev pub is_no_minus : DeckKind → Operation → Bool
-is_no_minus Periph operation = false
-is_no_minus kind op.Vfd = true
-is_no_minus kind _ = false
+-- whether a `-` in the location field is lawful: that of VFD outside peripheral decks is not, and the field counts as empty
+abbrev pub allows_minus : DeckKind → Operation → Bool
+allows_minus Periph operation = true
+allows_minus kind op.Vfd = false
+allows_minus kind _ = true
 
 -- whether the location field is a `-`, and that is lawful
 abbrev pub has_minus : DeckKind → Operation → List ℕ → Bool
-has_minus kind operation location = same_text location (codes "-") && not (is_no_minus kind operation)
+has_minus kind operation location = same_text location (codes "-") && allows_minus kind operation
 
 -- an instruction is upper where its location field is a symbol or `+`, or where the block asks and the field is not `-`
 abbrev pub is_upper : DeckKind → Operation → List ℕ → Bool → Bool

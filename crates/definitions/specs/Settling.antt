@@ -13,7 +13,7 @@ use Rattle.definitions.specs.DeckKinds.{number_base_after}
 use Rattle.definitions.specs.Operands.{Operand, NamesOperand, UseName, UseRefused}
 use Rattle.definitions.specs.Settled.{ReadStatement, read_of, Settled, Counting, LocationSetting, Ended, Definition, defined, defined_in}
 use Rattle.definitions.specs.Blocks.{changes, open_names, block_in_use, blocks_used, is_accepted, change_of}
-use Rattle.definitions.specs.Places.{Position, position_in, is_bad, is_no_minus, least_place, to_word, asks_after}
+use Rattle.definitions.specs.Places.{Position, position_in, is_bad, allows_minus, least_place, to_word, asks_after}
 use Rattle.definitions.specs.Counters.{Counters, counting_in, counters_at}
 use Rattle.definitions.specs.EarlyValues.{early_names, early_value, equated, outcome_of}
 use Rattle.definitions.specs.declared.deck_kind.DeckKind.{DeckKind}
@@ -69,7 +69,7 @@ letter_where b fault = if b then fault ∷ [] else []
 -- nothing, `+`, or a `-` where that is lawful
 abbrev pub is_plain_location : DeckKind → Operation → List ℕ → Bool
 is_plain_location kind operation location =
-    (length location == 0) || same_text location (codes "+") || (same_text location (codes "-") && not (is_no_minus kind operation))
+    (length location == 0) || same_text location (codes "+") || (same_text location (codes "-") && allows_minus kind operation)
 
 -- the letters of a location field, whose symbol may be defined before
 abbrev pub location_letters : DeckKind → Operation → List ℕ → Option Form → List Letter

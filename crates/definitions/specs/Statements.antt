@@ -25,7 +25,7 @@ continues earlier card = is_comma_card card && has_owner earlier && nat_le (comm
 -- the latest statement with a card more
 abbrev pub onto_latest : Card → List Statement → List Statement
 onto_latest card [] = []
-onto_latest card (latest ∷ earlier) = record { before = latest.before; cards = latest.cards ++ card ∷ [] } ∷ earlier
+onto_latest card (latest ∷ earlier) = record latest { cards = latest.cards ++ card ∷ [] } ∷ earlier
 
 -- the statements of a deck's cards
 abbrev pub statements_of : List Card → List Statement

@@ -1,5 +1,5 @@
 -- Words: what the items of a block leave in each word (COMPASS 60492600, ORG; that the latest run counts alone is ours).
-use Rattle.std.specs.Prelude.{ℕ, zero, suc, ◌+◌, ◌-◌, ◌*◌, ◌/◌, ◌%◌, ◌^◌, ◌==◌, List, [], ◌∷◌, ◌++◌, Bool, true, false, nat_lt, filter, if◌then◌else◌}
+use Rattle.std.specs.Prelude.{ℕ, zero, suc, ◌+◌, ◌-◌, ◌*◌, ◌/◌, ◌%◌, ◌^◌, ◌==◌, List, [], ◌∷◌, ◌++◌, Bool, true, false, nat_lt, filter, flat_map, map, if◌then◌else◌}
 use Rattle.std.specs.List.{list_any, range_with_len, sum_by}
 use Rattle.definitions.specs.Characters.{same_text}
 use Rattle.definitions.specs.Forms.{Form}
@@ -115,15 +115,14 @@ abbrev pub with_number : ℕ → List ℕ → List ℕ
 with_number n [] = n ∷ []
 with_number n (m ∷ ms) = if n == m then m ∷ ms else if nat_lt n m then n ∷ m ∷ ms else m ∷ with_number n ms
 
--- the words in which a run has parcels, among those of other runs
-abbrev pub words_in_run : DeckKind → List Parcel → List ℕ → List ℕ
-words_in_run kind [] words = words
-words_in_run kind (unit ∷ parcels) words = with_number (unit.place / units kind) (words_in_run kind parcels words)
+-- numbers in increasing order, each once
+abbrev pub rising : List ℕ → List ℕ
+rising [] = []
+rising (n ∷ ns) = with_number n (rising ns)
 
--- the words in which the runs of a block have parcels, in increasing order
+-- the words in which the runs of a block have parcels
 abbrev pub words_in : DeckKind → List (List Parcel) → List ℕ
-words_in kind [] = []
-words_in kind (run ∷ runs) = words_in_run kind run (words_in kind runs)
+words_in kind runs = rising (map (λ (parcel : Parcel). parcel.place / units kind) (flat_map (λ (run : List Parcel). run) runs))
 
 -- a stored word with its offset in the block
 pub record StoredWord : Type 0 where

@@ -13,11 +13,11 @@ pub data Change : Type 0 where
 
 -- a deck, with these edits where it has this name
 abbrev pub edited_if_named : List ℕ → List Edit → Deck → Deck
-edited_if_named name edits deck = if same_text name deck.name then record { name = deck.name; cards = edited_by edits deck.cards } else deck
+edited_if_named name edits deck = if same_text name deck.name then record deck { cards = edited_by edits deck.cards } else deck
 
 -- a deck, with the cards of the one that is put where it has the name of that
 abbrev pub put_over : Deck → Deck → Deck
-put_over new deck = if same_text new.name deck.name then record { name = deck.name; cards = new.cards } else deck
+put_over new deck = if same_text new.name deck.name then record deck { cards = new.cards } else deck
 
 -- the decks after a change
 abbrev pub changed : List Deck → Change → List Deck

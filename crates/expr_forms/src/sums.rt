@@ -128,7 +128,7 @@ fn with_lone(parts: Parts, operator: Operator, register: Register) -> Parts
 /// A sum with one term more that is more than one register, or none.
 fn with_other(parts: Parts) -> Parts
     ensures { (sum : matching.Sum) (term : Term) → HasParts parts sum →
-        HasParts result (record { sign = sum.sign; registers = sum.registers; others = sum.others ++ term ∷ [] }) }
+        HasParts result (record sum { others = sum.others ++ term ∷ [] }) }
 {
     Parts {
         sign: parts.sign,

@@ -22,7 +22,7 @@ ends ending = record { records = []; ending = ending }
 
 -- a record in front of a journal
 abbrev pub in_front : Record → Journal → Journal
-in_front first journal = record { records = first ∷ journal.records; ending = journal.ending }
+in_front first journal = record journal { records = first ∷ journal.records }
 
 -- the record that begins here is the last, and cut or damaged
 abbrev pub cut_at : Place → Ending

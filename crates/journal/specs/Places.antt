@@ -16,4 +16,4 @@ advanced count place = record place { bytes = capped (place.bytes + count) }
 
 -- the bytes that were read end a record
 abbrev pub behind_record : Place → Place
-behind_record place = record { records = capped (place.records + 1); begin = place.bytes; bytes = place.bytes }
+behind_record place = record place { records = capped (place.records + 1); begin = place.bytes }

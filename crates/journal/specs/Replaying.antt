@@ -114,7 +114,7 @@ pub record IsReplayed (records : List Record) (desk : Desk) : Type 0 where
 
 -- records in front of a journal
 abbrev pub fronted : List Record → Journal → Journal
-fronted records journal = record { records = records ++ journal.records; ending = journal.ending }
+fronted records journal = record journal { records = records ++ journal.records }
 
 -- the bytes that were taken are the first records of the journal, whatever follows
 abbrev pub TellsFirst : List Record → List ℕ → Type 0

@@ -21,7 +21,7 @@ use Rattle.journal.specs.Begun.{opened}
 
 -- a deck with a card more, if it is one
 abbrev pub deck_with_card : Deck → CardRead → Option Deck
-deck_with_card deck (IsCard card) = Some (record { name = deck.name; cards = deck.cards ++ card ∷ [] })
+deck_with_card deck (IsCard card) = Some (record deck { cards = deck.cards ++ card ∷ [] })
 deck_with_card deck TooWide = None
 deck_with_card deck (BadCharacter column) = None
 
@@ -49,11 +49,7 @@ entry_with (entry.Made change) text = option_map entry.Made (change_with change 
 
 -- an open record that shows this, with one line more
 abbrev pub open_behind : Open → List ℕ → Entry → Open
-open_behind current line told = record {
-  so_far = record current.so_far { entry = told };
-  lines = current.lines;
-  sum = sum_over current.sum (ended line);
-}
+open_behind current line told = record current { so_far = record current.so_far { entry = told }; sum = sum_over current.sum (ended line) }
 
 -- a line behind a blank
 abbrev pub inner_step : Open → List ℕ → Option Entry → Step

@@ -7,7 +7,7 @@ ghost use Rattle.definitions.specs.Settling.{letter_where, is_plain_location, lo
 ghost use Rattle.operations.specs.Joins.OperationsAs.{operation_as};
 ghost use Rattle.statement_coder.specs.Joins.LettersAs.{letters_as};
 
-use crate::placing::is_no_minus;
+use crate::placing::allows_minus;
 use definitions::{DeckKind, Letter, is_same_text};
 use expr_forms::is_symbol;
 use operations::Operation;
@@ -18,7 +18,7 @@ fn is_plain_location(kind: DeckKind, operation: Operation, location: &[u8]) -> b
 {
     location.is_empty()
         || is_same_text(location, b"+")
-        || is_same_text(location, b"-") && !is_no_minus(kind, operation)
+        || is_same_text(location, b"-") && allows_minus(kind, operation)
 }
 
 /// The letter, where it applies.

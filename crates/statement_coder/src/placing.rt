@@ -5,7 +5,7 @@ ghost use Rattle.definitions.specs.Characters.{same_text};
 ghost use Rattle.definitions.specs.Kinds.{units};
 ghost use Rattle.definitions.specs.Operands as operands;
 ghost use Rattle.definitions.specs.Pieces.{pieces_of, subfields_of};
-ghost use Rattle.definitions.specs.Places.{is_bad, is_long, is_no_minus, has_minus, is_upper, to_word, past_last_parcel, is_at_word, least_place, asks_upper, asks_after};
+ghost use Rattle.definitions.specs.Places.{is_bad, is_long, allows_minus, has_minus, is_upper, to_word, past_last_parcel, is_at_word, least_place, asks_upper, asks_after};
 ghost use Rattle.definitions.specs.Settling.{place_of};
 ghost use Rattle.definitions.specs.Sizes.{size_of};
 ghost use Rattle.operations.specs.Joins.OperationsAs.{operation_as};
@@ -27,13 +27,13 @@ struct OperandClass {
     is_long: bool,
 }
 
-/// Whether a `-` in the location field counts as nothing: that of VFD outside peripheral decks.
-pub(crate) fn is_no_minus(kind: DeckKind, operation: Operation) -> bool
-    ensures { result ≡ is_no_minus kind (operation_as operation) }
+/// Whether a `-` in the location field is lawful: that of VFD outside peripheral decks is not.
+pub(crate) fn allows_minus(kind: DeckKind, operation: Operation) -> bool
+    ensures { result ≡ allows_minus kind (operation_as operation) }
 {
     match kind {
-        DeckKind::Periph => false,
-        DeckKind::Rel | DeckKind::Abs => matches!(operation, Operation::Vfd),
+        DeckKind::Periph => true,
+        DeckKind::Rel | DeckKind::Abs => !matches!(operation, Operation::Vfd),
     }
 }
 
@@ -41,7 +41,7 @@ pub(crate) fn is_no_minus(kind: DeckKind, operation: Operation) -> bool
 fn has_minus(kind: DeckKind, operation: Operation, location: &[u8]) -> bool
     ensures { result ≡ has_minus kind (operation_as operation) location.now }
 {
-    is_same_text(location, b"-") && !is_no_minus(kind, operation)
+    is_same_text(location, b"-") && allows_minus(kind, operation)
 }
 
 /// Whether an instruction is upper, where its block asks for it or not.

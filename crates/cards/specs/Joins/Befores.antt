@@ -15,5 +15,5 @@ is_continued_by before card = is_comma_card card && before.has_owner && nat_le b
 -- what stands before the next card
 abbrev pub with_card : Card → Before → Before
 with_card card before =
-    if is_comma_card card then record { comma_cards = before.comma_cards + 1; has_owner = before.has_owner }
+    if is_comma_card card then record before { comma_cards = before.comma_cards + 1 }
     else record { comma_cards = 0; has_owner = not (is_comment card) }

@@ -15,7 +15,7 @@ is_full (latest ∷ earlier) = not (nat_lt (length latest.statements) most_state
 
 -- a piece with one statement more
 abbrev pub with_pushed : SizedStatement → DeckPiece → DeckPiece
-with_pushed sized piece = record { state = piece.state; statements = piece.statements ++ sized ∷ [] }
+with_pushed sized piece = record piece { statements = piece.statements ++ sized ∷ [] }
 
 -- one statement more in the latest piece
 abbrev pub onto_latest : SizedStatement → List DeckPiece → List DeckPiece

@@ -1,13 +1,14 @@
 -- The words of the common blocks of a link, as the code gathers them: a list for each, in their order.
-use Rattle.std.specs.Prelude.{ℕ, ◌≡◌, ◌^◌, List, [], Option, Some, Bool, Vec, length, slice_get, if◌then◌else◌}
+use Rattle.std.specs.Prelude.{ℕ, ◌≡◌, ◌^◌, List, [], Option, Some, Bool, Vec, length, map, slice_get, if◌then◌else◌}
 use Rattle.std.specs.List.{list_any, position_from}
 use Rattle.std.specs.Option.{is_some}
 use Rattle.definitions.specs.Characters.{same_text}
-use Rattle.definitions.specs.Image.{common_words, with_all_stored}
+use Rattle.definitions.specs.Image.{common_words}
 use Rattle.definitions.specs.Lengths.{BlockRow}
 use Rattle.definitions.specs.Layout.{Based, Common, Layout}
 use Rattle.definitions.specs.LinkValues.{linking_of}
 use Rattle.definitions.specs.Words.{StoredWord, stored_words}
+use Rattle.deck_listing.specs.Joins.Laying.{with_all_stored, over_all}
 use Rattle.deck_listing.specs.Joins.Filling.{DoSpansRise, as_stored}
 use Rattle.deck_listing.specs.declared.packing.word_spans.WordSpan.{WordSpan}
 use Rattle.deck_linker.specs.Joins.Placing.{names_of_commons}
@@ -35,6 +36,10 @@ over_rows layout based rows name earlier = if has_row name rows then with_all_st
 -- words with those that a deck stores in its block of a name over them
 abbrev pub over_deck : Layout → Based → List ℕ → List StoredWord → List StoredWord
 over_deck layout based name earlier = with_all_stored (deck_words layout based name) earlier
+
+-- words with those over them that decks store in their blocks of a name, one deck after the other
+abbrev pub over_decks : Layout → List ℕ → List Based → List StoredWord → List StoredWord
+over_decks layout name decks earlier = over_all (map (λ (based : Based). deck_words layout based name) decks) earlier
 
 -- words with others over them, where a row has the name
 abbrev pub over_row : BlockRow → List StoredWord → List ℕ → List StoredWord → List StoredWord
@@ -69,4 +74,4 @@ pub record AreCommonWords {Z : Type 0} (layout : Layout) (lists : List (Vec Word
   pub same : length lists ≡ length layout.commons
   pub rise : DoListsRise lists
   pub each : (name : List ℕ) (i : ℕ) (spans : Vec WordSpan Z) → common_place name layout.commons ≡ Some i → slice_get lists i ≡ Some spans →
-      as_stored spans.items ≡ common_words layout name layout.decks []
+      as_stored spans.items ≡ common_words layout name layout.decks

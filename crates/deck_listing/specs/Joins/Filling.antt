@@ -97,7 +97,7 @@ abbrev pub part_of : WordSpan → ℕ → ℕ → List WordSpan
 part_of span from to =
     let begin = max span.offset from in
     let end = min (span.offset + span.count) to in
-    if nat_lt begin end then record { offset = begin; count = end - begin; value = span.value } ∷ [] else []
+    if nat_lt begin end then record span { offset = begin; count = end - begin } ∷ [] else []
 
 -- the words of older spans from one offset up to another stand behind others; those that reach further are left
 pub record IsBetween (older : List WordSpan) (from to : ℕ) (old new left : List WordSpan) : Type 0 where

@@ -33,7 +33,7 @@ abbrev pub put_bit : ℕ → Bool → ℕ → OpenRun → OpenRun
 put_bit size instruction bit run =
     if run.filled + 1 == size
     then record { parcels = run.parcels ++ parcel_at instruction run.place (2 * run.bits + bit) ∷ []; place = run.place + 1; filled = 0; bits = 0 }
-    else record { parcels = run.parcels; place = run.place; filled = run.filled + 1; bits = 2 * run.bits + bit }
+    else record run { filled = run.filled + 1; bits = 2 * run.bits + bit }
 
 -- the bits of a number, so many, first bit first: all but the last, and then that
 abbrev pub put_bits : ℕ → Bool → ℕ → ℕ → OpenRun → OpenRun
@@ -42,7 +42,7 @@ put_bits size instruction (suc width) number run = put_bit size instruction (num
 
 -- the next bit is put at this place, counted in bits of the block; within a parcel it has its place already
 abbrev pub moved : ℕ → ℕ → OpenRun → OpenRun
-moved size at_bit run = if run.filled == 0 then record { parcels = run.parcels; place = at_bit / size; filled = 0; bits = run.bits } else run
+moved size at_bit run = if run.filled == 0 then record run { place = at_bit / size; filled = 0 } else run
 
 -- the place behind the last bit of a run, in bits of the block
 abbrev pub end_bit : ℕ → OpenRun → ℕ

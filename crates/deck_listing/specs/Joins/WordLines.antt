@@ -37,7 +37,7 @@ lines_ahead kind next width bits = word_lines kind next.word (cut (word_bits kin
 
 -- a word with the bits of a field behind its own
 abbrev pub with_bits : OpenWord → ℕ → ℕ → OpenWord
-with_bits next width bits = record { word = next.word; width = next.width + width; bits = next.bits * 2 ^ width + bits }
+with_bits next width bits = record next { width = next.width + width; bits = next.bits * 2 ^ width + bits }
 
 -- the word behind one that is full, with the bits that had no room there
 abbrev pub behind_full : DeckKind → OpenWord → OpenWord

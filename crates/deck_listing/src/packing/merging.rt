@@ -1,6 +1,6 @@
 //! Words over other words: where both are, it is the newer ones.
 ghost use Rattle.std.specs.Prelude.{◌≡◌, ◌+◌, ◌^◌, ◌≤◌, ◌++◌, IfOk, OnOk, drop, length};
-ghost use Rattle.definitions.specs.Image.{with_all_stored};
+ghost use Rattle.deck_listing.specs.Joins.Laying.{with_all_stored};
 ghost use Rattle.deck_listing.specs.Joins.Filling.{IsFilled, DoSpansRise, IsBetween, as_stored, found, or_else, part_of};
 
 use crate::packing::word_spans::WordSpan;

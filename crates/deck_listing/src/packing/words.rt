@@ -67,7 +67,7 @@ impl Words {
     /// found, all is as before.
     pub fn begin_run(&mut self) -> Result<(), AllocError>
         requires { self.old.run.filled ≡ 0 }
-        ensures begun { OnOk result (self.new ≡ record { kind = self.old.kind; run = empty_run; earlier = self.old.run.parcels ∷ self.old.earlier }) }
+        ensures begun { OnOk result (self.new ≡ record self.old { run = empty_run; earlier = self.old.run.parcels ∷ self.old.earlier }) }
         ensures unchanged { OnErr result (self.new ≡ self.old) }
     {
         let alloc = *self.run.allocator();
@@ -98,10 +98,8 @@ impl Words {
         requires some { 0 < field.width }
         requires begins { MayBegin (unit_bits self.old.kind) self.old.run at }
         requires within { at + field.width ≤ most_bits self.old.kind }
-        ensures put { OnOk result (self.new ≡ record {
-          kind = self.old.kind;
+        ensures put { OnOk result (self.new ≡ record self.old {
           run = put_bits (unit_bits self.old.kind) field.is_instruction field.width field.bits (moved (unit_bits self.old.kind) at self.old.run);
-          earlier = self.old.earlier;
         }) }
         ensures unchanged { OnErr result (self.new ≡ self.old) }
         ensures whole { OnErr result (unit_bits self.old.kind ≤ self.old.run.filled + field.width) }
@@ -118,10 +116,8 @@ impl Words {
         requires whole { self.old.run.filled ≡ 0 }
         requires begins { self.old.run.place ≤ units self.old.kind * word }
         requires within { word + count ≤ most_words self.old.kind }
-        ensures put { OnOk result (self.new ≡ record {
-          kind = self.old.kind;
+        ensures put { OnOk result (self.new ≡ record self.old {
           run = put_bits (unit_bits self.old.kind) false (word_bits self.old.kind * count) 0 (moved (unit_bits self.old.kind) (word_bits self.old.kind * word) self.old.run);
-          earlier = self.old.earlier;
         }) }
         ensures unchanged { OnErr result (self.new ≡ self.old) }
     {

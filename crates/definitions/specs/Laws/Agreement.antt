@@ -52,25 +52,11 @@ Agree first second names = AllByRecursion (λ name. first name ≡ second name) 
 
 -- a statement whose number of cards before it counts as 0
 abbrev pub unnumbered_statement : Statement → Statement
-unnumbered_statement statement = record { before = 0; cards = statement.cards }
+unnumbered_statement statement = record statement { before = 0 }
 
 -- a settled statement without the number of cards before it; all but the numbers in the listing is made of this
 abbrev pub unnumbered : Settled → Settled
-unnumbered settled = record {
-  read = record { statement = unnumbered_statement settled.read.statement; fields = settled.read.fields; operation = settled.read.operation; operand = settled.read.operand };
-  block = settled.block;
-  change = settled.change;
-  is_placed = settled.is_placed;
-  place = settled.place;
-  end = settled.end;
-  asks = settled.asks;
-  begins_run = settled.begins_run;
-  setting = settled.setting;
-  location = settled.location;
-  origin = settled.origin;
-  definitions = settled.definitions;
-  letters = settled.letters;
-}
+unnumbered settled = record settled { read = record settled.read { statement = unnumbered_statement settled.read.statement } }
 
 -- the statements of a tail, newest first, settled behind those before it
 abbrev pub settled_tail : DeckKind → List Settled → List Statement → List Settled

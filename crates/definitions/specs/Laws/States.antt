@@ -103,7 +103,7 @@ counting_behind Ended before = None
 abbrev pub block_behind : List ℕ → Effect → UsedBlock → UsedBlock
 block_behind name effect block =
     if same_text name block.name
-    then record { name = block.name; position = or_position effect.position block.position; counting = counting_behind effect.setting block.counting }
+    then record block { position = or_position effect.position block.position; counting = counting_behind effect.setting block.counting }
     else block
 
 -- the blocks, and the one that a USE opens where it is new
@@ -128,7 +128,7 @@ advanced effect state = record {
 
 -- the length of a block behind an effect on the block of this name
 abbrev pub length_behind : List ℕ → Effect → BlockLength → BlockLength
-length_behind name effect block = record { name = block.name; words = max (if same_text name block.name then effect.reached else 0) block.words }
+length_behind name effect block = record block { words = max (if same_text name block.name then effect.reached else 0) block.words }
 
 -- the lengths with that of the block that a USE opens where it is new
 abbrev pub lengths_behind : BlockChange → List BlockLength → List BlockLength

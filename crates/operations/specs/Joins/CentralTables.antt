@@ -22,10 +22,10 @@ sum_row row = record { operation = row.name; registers = registers_text row.form
 
 -- a row of the definitions with a name of three characters
 abbrev pub padded_row : table.Row → table.Row
-padded_row row = record { operation = padded row.operation; operand = row.operand; code = row.code }
+padded_row row = record row { operation = padded row.operation }
 
 abbrev pub padded_sum_row : SumRow → SumRow
-padded_sum_row row = record { operation = padded row.operation; registers = row.registers; with_K = row.with_K; alone = row.alone }
+padded_sum_row row = record row { operation = padded row.operation }
 
 -- the rows of an operation in each of the definitions' tables
 abbrev pub ignoring_rows_of : List ℕ → List table.Row

@@ -10,7 +10,7 @@ pub record FaultyPort : Type 0 where
 
 -- the port after one call that left these bytes
 abbrev pub after_call : FaultyPort → List ℕ → FaultyPort
-after_call port bytes = record { bytes = bytes; piece = port.piece; fails_in = port.fails_in - 1 }
+after_call port bytes = record port { bytes = bytes; fails_in = port.fails_in - 1 }
 
 -- what a reader has left after one call
 abbrev pub left_after : {E : Type 0} → Result ℕ E → List ℕ → List ℕ

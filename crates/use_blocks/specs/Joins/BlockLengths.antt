@@ -25,4 +25,4 @@ opened_by Closes = None
 
 -- a block, which reaches so many words where it has this name
 abbrev pub reaching : List ℕ → ℕ → BlockLength → BlockLength
-reaching name words block = record { name = block.name; words = max (if same_text name block.name then words else 0) block.words }
+reaching name words block = record block { words = max (if same_text name block.name then words else 0) block.words }

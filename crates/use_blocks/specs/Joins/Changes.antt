@@ -23,8 +23,7 @@ IsAccepted Closes state = ⊤
 
 -- an effect on the block of this name, but for what becomes of the stack
 abbrev pub written : List ℕ → Effect → BlockState → BlockState
-written name effect state = record {
-  open_names = state.open_names;
+written name effect state = record state {
   blocks = map (block_behind name effect) state.blocks;
   number_base = or_number_base effect.number_base state.number_base;
   neutral = effect.neutral && state.neutral;
@@ -32,9 +31,4 @@ written name effect state = record {
 
 -- the stack and the blocks behind a change
 abbrev pub changed : BlockChange → BlockState → BlockState
-changed change state = record {
-  open_names = names_behind change state.open_names;
-  blocks = blocks_behind change state.blocks;
-  number_base = state.number_base;
-  neutral = state.neutral;
-}
+changed change state = record state { open_names = names_behind change state.open_names; blocks = blocks_behind change state.blocks }

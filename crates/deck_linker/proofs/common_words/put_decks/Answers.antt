@@ -1,7 +1,6 @@
 use Rattle.std.proofs.Common.{◌+◌, ◌<◌, length, subst, take, arith}
 use Rattle.std.proofs.lemmas.List.{take_all}
-use Rattle.definitions.specs.Image.{common_words}
-use Rattle.deck_linker.specs.Joins.CommonWords.{AreMade, over_deck}
+use Rattle.deck_linker.specs.Joins.CommonWords.{AreMade, over_deck, over_decks}
 use Rattle.deck_linker.proofs.CommonSteps.{decks-more, made-both, made-none, made-same}
 use Rattle.deck_linker.proofs.common_words.put_decks.Goals as goal
 
@@ -15,14 +14,14 @@ loop-based-preserved c =
     let i = c.loop-based.based-index in
     let based = c.based-item.result in
     let inside : i < length decks = omega arith in
-    made-same layout.commons (λ name earlier. over_deck layout based name (common_words layout name (take i decks) earlier)) (λ name words. common_words layout name (take (i + 1) decks) words)
+    made-same layout.commons (λ name earlier. over_deck layout based name (over_decks layout name (take i decks) earlier)) (λ name words. over_decks layout name (take (i + 1) decks) words)
     c.args.lists.now.items c.put_deck.new.lists.items
     (λ name k earlier p. decks-more layout decks i based inside c.based-item.is name earlier)
-    (made-both layout.commons (λ name words. common_words layout name (take i decks) words) (over_deck layout based) c.args.lists.now.items c.loop-based.lists.items c.put_deck.new.lists.items
+    (made-both layout.commons (λ name words. over_decks layout name (take i decks) words) (over_deck layout based) c.args.lists.now.items c.loop-based.lists.items c.put_deck.new.lists.items
     c.loop-based.invariant c.in_ok-put_deck.ensures)
 
 pub returns : goal.returns
 returns c =
     let layout = c.args.layout.now in
-    subst (λ decks. AreMade layout.commons (λ name words. common_words layout name decks words) c.args.lists.now.items c.loop-based.lists.items)
+    subst (λ decks. AreMade layout.commons (λ name words. over_decks layout name decks words) c.args.lists.now.items c.loop-based.lists.items)
     (take_all c.loop-based.based-index c.args.decks.now (omega arith)) c.loop-based.invariant

@@ -1,7 +1,6 @@
 use Rattle.std.proofs.Common.{◌∙◌, ap, length, subst}
 use Rattle.deck_linker.proofs.CommonSteps.{all-made, none-rise}
-use Rattle.definitions.specs.Image.{common_words}
-use Rattle.deck_linker.specs.Joins.CommonWords.{AreMade}
+use Rattle.deck_linker.specs.Joins.CommonWords.{AreMade, over_decks}
 use Rattle.deck_linker.proofs.common_words.words_of_commons.Goals as goal
 
 pub put_decks-requires-clause-lists : goal.put_decks-requires-clause-lists
@@ -14,4 +13,4 @@ pub returns : goal.returns
 returns c =
     let layout = c.args.layout.now in
     all-made layout (length c.commons-commons.result.now) c.in_ok-lists.lists.items c.put_decks.new.lists.items c.in_ok-lists.ensures (ap length c.commons-commons.ensures)
-    (subst (λ decks. AreMade layout.commons (λ name words. common_words layout name decks words) c.in_ok-lists.lists.items c.put_decks.new.lists.items) c.decks.ensures c.in_ok-put_decks.ensures)
+    (subst (λ decks. AreMade layout.commons (λ name words. over_decks layout name decks words) c.in_ok-lists.lists.items c.put_decks.new.lists.items) c.decks.ensures c.in_ok-put_decks.ensures)
