@@ -7,7 +7,7 @@ use Rattle.definitions.specs.Settling.{settle, settled_all}
 use Rattle.definitions.specs.StatementItems.{Context}
 use Rattle.definitions.specs.Statements.{Statement}
 use Rattle.definitions.specs.declared.deck_kind.DeckKind.{DeckKind}
-use Rattle.statement_coder.specs.Joins.Meters.{RisesBy}
+use Rattle.statement_coder.specs.Meters.{RisesBy}
 use Rattle.deck_assembler.specs.Joins.DeckParts.{sized_in}
 use Rattle.deck_assembler.specs.Joins.DueCodes.{one_where, IsWalkedAnew, RisesRebound}
 use Rattle.deck_assembler.specs.Joins.FormerLines.{IsNextInFront, IsNextInTail, IsNextLine}

@@ -16,6 +16,8 @@ pub mod OldDecks
 -- Where an old deck and an edited one are found to agree.
 pub mod Meetings
 pub mod FirstStatements
+-- What taking these makes, and counts.
+pub mod Takings
 -- What stays in a deck of another kind.
 pub mod Heads
 -- The fields of a statement, as a line keeps them.
@@ -37,3 +39,5 @@ pub mod Formers
 pub mod DeckSteps
 -- How many statements of an edited deck are coded.
 pub mod DueCodes
+-- What a walk makes and counts, whatever deck it is.
+pub mod Puttings

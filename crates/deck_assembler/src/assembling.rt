@@ -2,7 +2,7 @@
 ghost use Rattle.std.specs.Prelude.{◌≡◌, ◌≤◌, ◌+◌, length, reverse, IfOk, OnOk};
 ghost use Rattle.definitions.specs.DeckKinds.{up_to_end};
 ghost use Rattle.definitions.specs.Statements.{statements_of};
-ghost use Rattle.statement_coder.specs.Joins.Meters.{RisesBy};
+ghost use Rattle.statement_coder.specs.Meters.{RisesBy};
 ghost use Rattle.deck_assembler.specs.Joins.SizedDecks.{IsSizedDeck};
 
 use crate::object_part_list::object_parts;

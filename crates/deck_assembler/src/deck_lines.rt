@@ -1,18 +1,16 @@
 //! The lines of the statements of a deck, one behind the other.
-ghost use Rattle.std.specs.Prelude.{ℕ, ◌≡◌, ◌+◌, ◌-◌, ◌^◌, ◌≤◌, ◌∷◌, ◌++◌, [], List, IfOk, None, Some, OnOk, true, false, length, take, drop, min};
+ghost use Rattle.std.specs.Prelude.{◌≡◌, ◌+◌, ◌-◌, ◌^◌, ◌≤◌, ◌∷◌, ◌++◌, [], List, IfOk, None, OnOk, true, length, take, drop, min};
 ghost use Rattle.definitions.specs.Objects.{Shown, coded_of, only_listed, shown_of};
 ghost use Rattle.definitions.specs.Lengths.{BlockRow};
-ghost use Rattle.definitions.specs.Laws.Rebound.{is_rebound};
 ghost use Rattle.definitions.specs.Settling.{settle, settled_all};
-ghost use Rattle.definitions.specs.StatementItems.{Context};
 ghost use Rattle.definitions.specs.Statements as statements;
 ghost use Rattle.statement_coder.specs.Joins.ReadOperands.{IsReadOperand};
-ghost use Rattle.statement_coder.specs.Joins.Meters.{RisesBy};
+ghost use Rattle.statement_coder.specs.Meters.{RisesBy};
 ghost use Rattle.deck_objects.specs.Joins.CodedLines.{IsCoded};
-ghost use Rattle.deck_assembler.specs.Joins.FormerLines.{MeanAsViewed, WasLine, WasLineIfAny};
-ghost use Rattle.deck_assembler.specs.Joins.Rebindings.{AreBindings};
+ghost use Rattle.deck_assembler.specs.Joins.FormerLines.{MeanAsViewed, WasLine};
 ghost use Rattle.deck_assembler.specs.Joins.SizedDecks.{IsListedStatement, IsSizedStatement};
 ghost use Rattle.deck_assembler.specs.Joins.Walks.{AreLined, AreLinedAs, IsWhole, Whole, context_in, has_row, whole_of};
+ghost use Rattle.deck_assembler.specs.Joins.Puttings.{CopiesSame, CountsRebound, PutsLine};
 
 use crate::SizedStatement;
 use crate::block_index::block_index;
@@ -152,26 +150,13 @@ impl DeckLines {
         found: Option<FormerLine<'_>>,
         meter: &mut Meter,
     ) -> Result<(), AllocError>
-        ensures lined { OnOk result ((known others earlier : List statements.Statement) (given : statements.Statement) →
-            let whole = whole_of view.now known others in
-            let before = settled_all whole.deck.kind earlier in
-            IsWhole whole → read.now.kind ≡ whole.deck.kind → IsReadOperand read.now (settle whole.deck.kind before given) → IsSizedStatement whole.deck.kind earlier self.old.stood (drop self.old.stood whole.cards) sized.now given →
-            has_row (settle whole.deck.kind before given).block whole.rows ≡ true → WasLineIfAny whole.deck.kind found.entry (settle whole.deck.kind before given) →
-            AreLined whole earlier self.old → AreLined whole (given ∷ earlier) self.new) }
+        ensures lined { OnOk result (PutsLine view.now read.now sized.now found.entry self.old self.new) }
         ensures stood { OnOk result (self.new.stood ≡ min (self.old.stood + sized.now.cards) (2 ^ 64 - 1)) }
         ensures coded { meter.new.coded ≤ meter.old.coded + 1 }
         ensures rises { meter.old.coded ≤ meter.new.coded }
         ensures all { found.entry ≡ None → OnOk result (RisesBy 1 meter.old.coded meter.new.coded) }
-        ensures kept { (known others earlier : List statements.Statement) (given : statements.Statement) (old : Context) (one : FormerLine) →
-            let whole = whole_of view.now known others in
-            let settled = settle whole.deck.kind (settled_all whole.deck.kind earlier) given in
-            IsWhole whole → IsReadOperand read.now settled → IsSizedStatement whole.deck.kind earlier self.old.stood (drop self.old.stood whole.cards) sized.now given → found.entry ≡ Some one → AreBindings one.bindings old →
-            is_rebound old (context_in whole) settled ≡ false → meter.new.coded ≡ meter.old.coded }
-        ensures anew { OnOk result ((known others earlier : List statements.Statement) (given : statements.Statement) (old : Context) (one : FormerLine) →
-            let whole = whole_of view.now known others in
-            let settled = settle whole.deck.kind (settled_all whole.deck.kind earlier) given in
-            IsWhole whole → IsReadOperand read.now settled → IsSizedStatement whole.deck.kind earlier self.old.stood (drop self.old.stood whole.cards) sized.now given → found.entry ≡ Some one → AreBindings one.bindings old →
-            is_rebound old (context_in whole) settled ≡ true → meter.new.coded ≡ min (meter.old.coded + 1) (2 ^ 64 - 1)) }
+        ensures kept { CopiesSame view.now read.now sized.now found.entry self.old.stood meter.old.coded meter.new.coded }
+        ensures anew { OnOk result (CountsRebound view.now read.now sized.now found.entry self.old.stood meter.old.coded meter.new.coded) }
         ensures sized { meter.new.sized ≡ meter.old.sized }
     {
         match found {

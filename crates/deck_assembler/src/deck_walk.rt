@@ -1,16 +1,13 @@
 //! All statements of a deck, one after the other: their lines, and the names that they enter.
-ghost use Rattle.std.specs.Prelude.{ℕ, ◌≡◌, ◌≤◌, ◌+◌, ◌-◌, ◌^◌, ◌++◌, [], List, IfOk, IfSome, None, Some, OnOk, true, length, min, reverse};
-ghost use Rattle.definitions.specs.StatementItems.{Context};
+ghost use Rattle.std.specs.Prelude.{◌≡◌, ◌≤◌, ◌+◌, ◌-◌, ◌^◌, [], List, IfOk, IfSome, None, OnOk, true, length, min, reverse};
 ghost use Rattle.definitions.specs.Statements as statements;
-ghost use Rattle.statement_coder.specs.Joins.Meters.{RisesBy};
+ghost use Rattle.statement_coder.specs.Meters.{RisesBy};
 ghost use Rattle.deck_assembler.specs.Joins.DeckParts.{sized_in};
-ghost use Rattle.deck_assembler.specs.declared.sized_statement.SizedStatement as code;
-ghost use Rattle.deck_assembler.specs.Joins.DueCodes.{CodePlan, IsDueBeside, IsPlanned, IsWalkedAnew, IsWalkedDue, RisesRebound, code_due_in};
-ghost use Rattle.deck_assembler.specs.Joins.Rebindings.{AreBindings};
 ghost use Rattle.deck_assembler.specs.Joins.DeckSteps.{GoesPast, IsCountedAnew, IsUncounted};
 ghost use Rattle.deck_assembler.specs.Joins.Walks.{IsWhole, Whole, whole_of};
-ghost use Rattle.deck_assembler.specs.Joins.DeckWalks.{IsDone, IsListing};
+ghost use Rattle.deck_assembler.specs.Joins.DeckWalks.{IsListing};
 ghost use Rattle.deck_assembler.specs.Joins.FormerLines.{IsBare, IsBeside, IsWalkedBeside, MeanAsViewed};
+ghost use Rattle.deck_assembler.specs.Joins.Puttings.{CountsAllAnew, CountsAllDue, CountsDueIn, CountsWalkAnew, CountsWalkDue, WalksAll, WalksOn, WalksOnAnew, WalksOnDue, WalksToEnd};
 
 use crate::deck_lines::{DeckLines, next_cards};
 use crate::deck_names::{enter, enters};
@@ -180,19 +177,15 @@ impl Making {
         meter: &mut Meter,
     ) -> Result<(), AllocError>
         requires { same ≡ true → MeanAsViewed former.old.bindings view.now }
-        ensures walked { OnOk result ((known others : List statements.Statement) (left : List code.SizedStatement) → let whole = whole_of view.now known others in
-            IsWhole whole → IsWalkedBeside whole (piece.now ++ left) self.old former.old → IsWalkedBeside whole left self.new former.new) }
+        ensures walked { OnOk result (WalksOn view.now piece.now self.old self.new former.old former.new) }
         ensures coded { meter.new.coded ≤ meter.old.coded + length piece.now }
         ensures rises { meter.old.coded ≤ meter.new.coded }
         ensures ended { IsBare former.old → IsBare former.new }
         ensures bindings { former.new.bindings ≡ former.old.bindings }
         ensures all { OnOk result (IsBare former.old → RisesBy (length piece.now) meter.old.coded meter.new.coded) }
-        ensures due_on { OnOk result ((known others : List statements.Statement) (left : List code.SizedStatement) (plan : CodePlan) (base : ℕ) → let whole = whole_of view.now known others in
-            IsWhole whole → IsPlanned known plan → IsWalkedDue whole plan base (piece.now ++ left) self.old.lines.stood former.old meter.old.coded → IsWalkedDue whole plan base left self.new.lines.stood former.new meter.new.coded) }
-        ensures due { (known others : List statements.Statement) (left : List code.SizedStatement) (plan : CodePlan) (base : ℕ) → let whole = whole_of view.now known others in
-            IsWhole whole → IsPlanned known plan → IsWalkedDue whole plan base (piece.now ++ left) self.old.lines.stood former.old meter.old.coded → meter.new.coded ≤ base + code_due_in whole plan known }
-        ensures anew { OnOk result ((known others : List statements.Statement) (left : List code.SizedStatement) (old : Context) (base : ℕ) → let whole = whole_of view.now known others in
-            IsWhole whole → AreBindings former.old.bindings old → IsWalkedAnew whole old base (piece.now ++ left) self.old.lines.stood meter.old.coded → IsWalkedAnew whole old base left self.new.lines.stood meter.new.coded) }
+        ensures due_on { OnOk result (WalksOnDue view.now piece.now self.old self.new former.old former.new meter.old meter.new) }
+        ensures due { CountsDueIn view.now piece.now self.old former.old meter.old meter.new }
+        ensures anew { OnOk result (WalksOnAnew view.now piece.now self.old self.new former.old meter.old meter.new) }
         ensures sized { meter.new.sized ≡ meter.old.sized }
     {
         for sized in piece {
@@ -213,15 +206,12 @@ impl Making {
         meter: &mut Meter,
     ) -> Result<(), AllocError>
         requires { same ≡ true → MeanAsViewed former.old.bindings view.now }
-        ensures walked { OnOk result ((known others : List statements.Statement) → let whole = whole_of view.now known others in
-            IsWhole whole → IsWalkedBeside whole (sized_in pieces.now) self.old former.old → IsWalkedBeside whole [] self.new former.new) }
+        ensures walked { OnOk result (WalksAll view.now (sized_in pieces.now) self.old self.new former.old former.new) }
         ensures coded { meter.new.coded ≤ meter.old.coded + length (sized_in pieces.now) }
         ensures rises { meter.old.coded ≤ meter.new.coded }
         ensures all { OnOk result (IsBare former.old → RisesBy (length (sized_in pieces.now)) meter.old.coded meter.new.coded) }
-        ensures due { (known others : List statements.Statement) (plan : CodePlan) (base : ℕ) → let whole = whole_of view.now known others in
-            IsWhole whole → IsPlanned known plan → IsWalkedDue whole plan base (sized_in pieces.now) self.old.lines.stood former.old meter.old.coded → meter.new.coded ≤ base + code_due_in whole plan known }
-        ensures anew { OnOk result ((known others : List statements.Statement) (old : Context) (base : ℕ) → let whole = whole_of view.now known others in
-            IsWhole whole → AreBindings former.old.bindings old → IsWalkedAnew whole old base (sized_in pieces.now) self.old.lines.stood meter.old.coded → RisesRebound whole old base known meter.new.coded) }
+        ensures due { CountsAllDue view.now (sized_in pieces.now) self.old former.old meter.old meter.new }
+        ensures anew { OnOk result (CountsAllAnew view.now (sized_in pieces.now) self.old former.old meter.old meter.new) }
         ensures sized { meter.new.sized ≡ meter.old.sized }
     {
         for piece in pieces {
@@ -253,15 +243,12 @@ pub(crate) fn walk(
     meter: &mut Meter,
 ) -> Result<Making, AllocError>
     requires { same ≡ true → MeanAsViewed former.bindings view.now }
-    ensures done { IfOk result (λ made. (known others : List statements.Statement) → let whole = whole_of view.now known others in
-        IsWhole whole → IsBeside whole.deck.kind whole.cards [] (reverse known) 0 former.entry → IsDone whole made) }
+    ensures done { IfOk result (λ made. WalksToEnd view.now former.entry made) }
     ensures coded { meter.new.coded ≤ meter.old.coded + length (sized_in view.now.deck.now.pieces) }
     ensures rises { meter.old.coded ≤ meter.new.coded }
     ensures all { OnOk result (IsBare former.entry → RisesBy (length (sized_in view.now.deck.now.pieces)) meter.old.coded meter.new.coded) }
-    ensures due { (known others : List statements.Statement) (plan : CodePlan) → let whole = whole_of view.now known others in
-        IsWhole whole → IsPlanned known plan → IsDueBeside whole.deck.kind whole.cards plan [] (reverse known) 0 former.entry → meter.new.coded ≤ meter.old.coded + code_due_in whole plan known }
-    ensures anew { OnOk result ((known others : List statements.Statement) (old : Context) → let whole = whole_of view.now known others in
-        IsWhole whole → AreBindings former.entry.bindings old → RisesRebound whole old meter.old.coded known meter.new.coded) }
+    ensures due { CountsWalkDue view.now former.entry meter.old meter.new }
+    ensures anew { OnOk result (CountsWalkAnew view.now former.entry meter.old meter.new) }
     ensures sized { meter.new.sized ≡ meter.old.sized }
 {
     let mut made = Making::new(alloc, keys, view, former.items.len())?;

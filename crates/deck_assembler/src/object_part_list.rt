@@ -1,19 +1,17 @@
 //! The parts of the object of a deck whose statements are sized.
-ghost use Rattle.std.specs.Prelude.{ℕ, ◌≡◌, ◌≤◌, ◌+◌, [], List, IfOk, IfSome, None, Some, OnOk, true, false, length, reverse};
-ghost use Rattle.definitions.specs.Cards as deck_cards;
+ghost use Rattle.std.specs.Prelude.{ℕ, ◌≡◌, ◌≤◌, ◌+◌, [], List, IfOk, IfSome, None, OnOk, true, false, length, reverse};
 ghost use Rattle.definitions.specs.DeckInput.{Deck};
 ghost use Rattle.definitions.specs.DeckKinds.{kind_of_statements, up_to_end};
 ghost use Rattle.definitions.specs.Objects.{object_of};
-ghost use Rattle.definitions.specs.Laws.Rebound.{context_from};
 ghost use Rattle.definitions.specs.Statements.{statements_of};
-ghost use Rattle.statement_coder.specs.Joins.Meters.{RisesBy};
+ghost use Rattle.statement_coder.specs.Meters.{RisesBy};
 ghost use Rattle.deck_objects.specs.Joins.PartsOf.{ArePartsOf};
-ghost use Rattle.deck_assembler.specs.Joins.DueCodes.{CodePlan, IsDueBeside, IsPlanned, IsPlanOf, RisesReboundOf, code_due_of};
+ghost use Rattle.deck_assembler.specs.Joins.DueCodes.{CodePlan, IsPlanOf, RisesReboundOf, code_due_of};
 ghost use Rattle.deck_assembler.specs.Joins.FormerLines.{IsBare, IsBeside, MeanAsViewed};
 ghost use Rattle.deck_assembler.specs.Joins.Formers.{IsFormerOf, known_in};
-ghost use Rattle.deck_assembler.specs.Joins.Rebindings.{AreBindings};
 ghost use Rattle.deck_assembler.specs.Joins.SizedDecks.{IsSizedDeck};
 ghost use Rattle.deck_assembler.specs.Joins.Tails.{IsEditedOf};
+ghost use Rattle.deck_assembler.specs.Joins.Puttings.{ArePartsOfCards, CountsPartsAnew, CountsPartsDue};
 
 use crate::SizedDeck;
 use crate::deck_view::DeckView;
@@ -62,12 +60,11 @@ fn parts_beside<'a>(
     requires deck { IsSizedDeck cards.now deck.now }
     requires few { length cards.now ≤ 20000 }
     requires beside { IfSome former (λ lines. IsBeside deck.now.kind cards.now [] (reverse (known_in cards.now)) 0 lines) }
-    ensures parts { IfOk result (λ parts. (name : List ℕ) → let given : Deck = record { name = name; cards = cards.now } in ArePartsOf cards.now parts (object_of given)) }
+    ensures parts { IfOk result (λ parts. ArePartsOfCards cards.now parts) }
     ensures coded { meter.new.coded ≤ meter.old.coded + length (up_to_end (statements_of (reverse cards.now))) }
     ensures rises { meter.old.coded ≤ meter.new.coded }
-    ensures due { (lines : FormerLines) (plan : CodePlan) → former.entry ≡ Some lines → IsPlanned (known_in cards.now) plan → IsDueBeside deck.now.kind cards.now plan [] (reverse (known_in cards.now)) 0 lines →
-        meter.new.coded ≤ meter.old.coded + code_due_of cards.now plan }
-    ensures anew { OnOk result ((lines : FormerLines) (old : List deck_cards.Card) → former.entry ≡ Some lines → AreBindings lines.bindings (context_from (known_in old)) → RisesReboundOf old cards.now meter.old.coded meter.new.coded) }
+    ensures due { CountsPartsDue deck.now.kind cards.now former.entry meter.old meter.new }
+    ensures anew { OnOk result (CountsPartsAnew cards.now former.entry meter.old meter.new) }
     ensures all { former.entry ≡ None → OnOk result (RisesBy (length (up_to_end (statements_of (reverse cards.now)))) meter.old.coded meter.new.coded) }
     ensures sized { meter.new.sized ≡ meter.old.sized }
 {

@@ -1,22 +1,17 @@
 //! All of a deck: its statements up to END, sized one behind the other.
-ghost use Rattle.std.specs.Prelude.{ℕ, ◌≡◌, ◌<◌, ◌≤◌, ◌+◌, ◌⊎◌, List, [], All, length, take, reverse, IfOk, OnOk};
+ghost use Rattle.std.specs.Prelude.{◌≡◌, ◌<◌, ◌≤◌, ◌+◌, ◌⊎◌, List, [], All, length, take, reverse, IfOk, OnOk};
 ghost use Rattle.cards.specs.Joins.Spans.{IsSpan, statements_at};
 ghost use Rattle.definitions.specs.Cards as deck_cards;
 ghost use Rattle.definitions.specs.DeckKinds.{up_to_end, kind_of_statements};
-ghost use Rattle.definitions.specs.Laws.Edits.{DoAgree, Edited, IsUntouched, Split};
-ghost use Rattle.definitions.specs.Statements as deck_statements;
 ghost use Rattle.definitions.specs.Statements.{statements_of};
-ghost use Rattle.statement_coder.specs.Joins.Meters.{RisesBy};
+ghost use Rattle.statement_coder.specs.Meters.{RisesBy};
 ghost use Rattle.deck_assembler.specs.Joins.Agreements.{HaveSameEnd};
 ghost use Rattle.deck_assembler.specs.Joins.DeckParts.{sized_in};
 ghost use Rattle.deck_assembler.specs.Joins.Formers.{IsFormerOf, known_in};
 ghost use Rattle.deck_assembler.specs.Joins.Heads.{BeginsBeside, IsHeadDeck, IsOldDeck, IsWholeDeck};
-ghost use Rattle.deck_assembler.specs.Joins.Meetings.{StandApart, WillAgree};
-ghost use Rattle.deck_assembler.specs.Joins.OldDecks.{IsKeptOn, StandsInFront};
+ghost use Rattle.deck_assembler.specs.Joins.OldDecks.{IsKeptOn};
 ghost use Rattle.deck_assembler.specs.Joins.SizedDecks.{IsSizedDeck};
-ghost use Rattle.deck_assembler.specs.Joins.Tails.{HasTailIfAny, HasTailWithin};
-ghost use Rattle.deck_assembler.specs.Stays.{RisesAnew};
-ghost use Rattle.deck_assembler.specs.declared.old_deck.Stage.TheVariants as stages;
+ghost use Rattle.deck_assembler.specs.Joins.Takings.{CountsEdited, CountsMade, CountsMaking, HasOld, IsFormerDeck, IsMade, RisesAnewOf};
 
 use crate::former::{EditedDeck, Former};
 use crate::head_deck::head_deck;
@@ -100,21 +95,9 @@ impl SizedDeck {
         requires before { take old.before old.cards.now ≡ take old.before cards.now }
         requires behind { HaveSameEnd old.behind old.cards.now cards.now }
         ensures deck { IfOk result (λ edited. IsSizedDeck cards.now edited.deck) }
-        ensures former { IfOk result (λ edited. IsFormerOf old.entry.cards.now edited.former) }
-        ensures before { IfOk result (λ edited. edited.former.before ≡ old.entry.before) }
-        ensures kinds { IfOk result (λ edited. (edited.former.kind ≡ kind_of_statements (known_in cards.now)) ⊎ (edited.former.tail ≡ 0)) }
-        ensures tail { IfOk result (λ edited. HasTailIfAny (kind_of_statements (known_in cards.now)) old.entry.cards.now cards.now edited.former.tail (known_in cards.now)) }
-        ensures sized { meter.new.sized ≤ meter.old.sized + length (up_to_end (statements_of (reverse cards.now))) }
-        ensures front { (decks : Edited) (front : List deck_statements.Statement) → decks.old ≡ known_in old.entry.cards.now → decks.new ≡ known_in cards.now → decks.before ≤ old.entry.before →
-            IsUntouched decks front → length front + meter.new.sized ≤ length decks.new + meter.old.sized }
-        ensures due { (decks : Edited) (front : List deck_statements.Statement) (split : Split) → StandApart old.entry.cards.now cards.now old.entry.before old.entry.behind decks → decks.before ≤ old.entry.before →
-            IsUntouched decks front → DoAgree decks split → length front + meter.new.sized ≤ (length split.new_front + 128) + meter.old.sized }
-        ensures within { IfOk result (λ edited. (decks : Edited) (front : List deck_statements.Statement) (split : Split) → StandApart old.entry.cards.now cards.now old.entry.before old.entry.behind decks → decks.before ≤ old.entry.before →
-            IsUntouched decks front → DoAgree decks split → length split.new_front + 128 < length (known_in cards.now) →
-            HasTailWithin (kind_of_statements (known_in cards.now)) old.entry.cards.now cards.now edited.former.tail (known_in cards.now) (length split.new_front + 128)) }
-        ensures anew { OnOk result (RisesAnew (kind_of_statements (known_in cards.now)) (known_in old.entry.cards.now) (known_in cards.now) meter.old.sized meter.new.sized) }
-        ensures rises { meter.old.sized ≤ meter.new.sized }
-        ensures coded { meter.new.coded ≡ meter.old.coded }
+        ensures former { IfOk result (λ edited. IsFormerDeck old.entry.cards.now cards.now old.entry.before old.entry.behind edited.former) }
+        ensures counts { CountsEdited old.entry.cards.now cards.now old.entry.before old.entry.behind meter.old meter.new }
+        ensures anew { OnOk result (RisesAnewOf old.entry.cards.now cards.now meter.old.sized meter.new.sized) }
     {
         let list = statements(alloc, cards)?;
         let kind = kind_of(cards, list.as_slice());
@@ -257,20 +240,10 @@ fn made(
     requires statements { statements_at cards.now spans.now ≡ reverse (statements_of (reverse cards.now)) }
     requires spans { All (IsSpan (length cards.now)) spans.now }
     requires kind { kind ≡ kind_of_statements (up_to_end (statements_of (reverse cards.now))) }
-    requires old_deck { (of : List deck_cards.Card) × IsKeptOn kind of cards.now [] old_deck }
-    ensures deck { IfOk result (λ made. IsSizedDeck cards.now made.deck) }
-    ensures tail { IfOk result (λ made. (of : List deck_cards.Card) → IsKeptOn kind of cards.now [] old_deck.entry → HasTailIfAny kind of cards.now made.tail (known_in cards.now)) }
-    ensures sized { meter.new.sized ≤ meter.old.sized + length (up_to_end (statements_of (reverse cards.now))) }
-    ensures front { (of : List deck_cards.Card) (front : List deck_statements.Statement) → IsKeptOn kind of cards.now [] old_deck.entry → StandsInFront of (known_in cards.now) front old_deck.entry →
-        length front + meter.new.sized ≤ length (known_in cards.now) + meter.old.sized }
-    ensures due { (of : List deck_cards.Card) (front : List deck_statements.Statement) (limit : ℕ) → IsKeptOn kind of cards.now [] old_deck.entry → StandsInFront of (known_in cards.now) front old_deck.entry →
-        length front ≤ limit → limit < length (known_in cards.now) → WillAgree kind of cards.now limit [] old_deck.entry → length front + meter.new.sized ≤ limit + meter.old.sized }
-    ensures within { IfOk result (λ made. (of : List deck_cards.Card) (front : List deck_statements.Statement) (limit : ℕ) → IsKeptOn kind of cards.now [] old_deck.entry → StandsInFront of (known_in cards.now) front old_deck.entry →
-        length front ≤ limit → limit < length (known_in cards.now) → WillAgree kind of cards.now limit [] old_deck.entry → HasTailWithin kind of cards.now made.tail (known_in cards.now) limit) }
-    ensures rises { meter.old.sized ≤ meter.new.sized }
-    ensures anew { OnOk result ((of : List deck_cards.Card) → IsKeptOn kind of cards.now [] old_deck.entry → RisesAnew kind (known_in of) (known_in cards.now) meter.old.sized meter.new.sized) }
-    ensures all { OnOk result (old_deck.entry.stage ≡ stages.Over → RisesBy (length (up_to_end (statements_of (reverse cards.now)))) meter.old.sized meter.new.sized) }
-    ensures coded { meter.new.coded ≡ meter.old.coded }
+    requires old_deck { HasOld kind cards.now old_deck }
+    ensures made { IfOk result (λ made. IsMade kind cards.now old_deck.entry made.deck made.tail) }
+    ensures counts { CountsMaking kind cards.now old_deck.entry meter.old meter.new }
+    ensures counted { OnOk result (CountsMade kind cards.now old_deck.entry meter.old meter.new) }
 {
     let mut sizer = Sizer::new(alloc, keys)?;
     let taken = sizer.take_up_to_end(alloc, kind, cards, spans, old_deck, meter)?;

@@ -1,5 +1,5 @@
 //! The statements of a deck up to END, one after the other (COMPASS 60492600, END, ABS, PERIPH).
-ghost use Rattle.std.specs.Prelude.{ℕ, ◌≡◌, ◌≤◌, ◌<◌, ◌⊎◌, ◌+◌, ◌-◌, ◌^◌, ◌∷◌, [], List, All, IfOk, OnOk, length, map, min};
+ghost use Rattle.std.specs.Prelude.{ℕ, ◌≡◌, ◌≤◌, ◌<◌, ◌+◌, ◌-◌, ◌^◌, ◌∷◌, [], List, All, IfOk, OnOk, length, map, min};
 ghost use Rattle.cards.specs.Joins.Spans.{IsSpan, statement_at};
 ghost use Rattle.cards.specs.declared.statement_list.Span.{Span};
 ghost use Rattle.definitions.specs.Cards as deck_cards;
@@ -11,18 +11,14 @@ ghost use Rattle.definitions.specs.Statements.{AreNumbered};
 ghost use Rattle.definitions.specs.Laws.States.{names_of_blocks};
 ghost use Rattle.operations.specs.Joins.KindsFound.{kind_found};
 ghost use Rattle.operations.specs.Joins.OperationsAs.{operation_as};
-ghost use Rattle.statement_coder.specs.Joins.Meters.{RisesBy};
 ghost use Rattle.use_blocks.specs.Joins.BlockLengths.{block_names};
 ghost use Rattle.use_blocks.specs.Joins.Changes.{IsAccepted};
 ghost use Rattle.use_blocks.specs.Joins.EffectsAs.{change_as};
-ghost use Rattle.deck_assembler.specs.Joins.FirstStatements.{all_statements, first_statements, IsEnding};
-ghost use Rattle.deck_assembler.specs.Joins.Formers.{known_in};
-ghost use Rattle.deck_assembler.specs.Joins.Meetings.{IsBounded, IsNextKnown, WillAgree};
-ghost use Rattle.deck_assembler.specs.Joins.OldDecks.{GoesOn, IsKeptOn, IsOnSpan, StandsInFront};
+ghost use Rattle.deck_assembler.specs.Joins.FirstStatements.{all_statements};
+ghost use Rattle.deck_assembler.specs.Joins.OldDecks.{IsOnSpan};
 ghost use Rattle.deck_assembler.specs.Joins.SizedDecks.{IsSizedStatement};
 ghost use Rattle.deck_assembler.specs.Joins.Sizers.{stood, ahead, IsNext, IsSizer};
-ghost use Rattle.deck_assembler.specs.Joins.Tails.{HasTailIfAny, HasTailWithin};
-ghost use Rattle.deck_assembler.specs.Stays.{IsCountedOrStays, RisesAnew};
+ghost use Rattle.deck_assembler.specs.Joins.Takings.{AreTaken, CountsOne, CountsOneTaken, CountsTaken, CountsTaking, HasOld, TakesOne};
 ghost use Rattle.deck_assembler.specs.declared.old_deck.Stage.TheVariants as stages;
 
 use crate::old_deck::{OldDeck, Stage};
@@ -134,24 +130,10 @@ impl Sizer {
         requires span { IsSpan (length cards.now) span }
         requires ready { (of : List deck_cards.Card) × (earlier : List statements.Statement) × IsOnSpan kind of cards.now earlier span self.old old_deck.old }
         ensures end { IfOk result (λ ended. ended ≡ is_end (fields_of (statement_at cards.now span).cards)) }
-        ensures taken { OnOk result ((of : List deck_cards.Card) (earlier : List statements.Statement) → IsOnSpan kind of cards.now earlier span self.old old_deck.old →
-            let now = statement_at cards.now span ∷ earlier in
-            IsSizer kind cards.now now self.new × IsKeptOn kind of cards.now now old_deck.new) }
+        ensures taken { OnOk result (TakesOne kind cards.now span self.old old_deck.old self.new old_deck.new) }
         ensures over { old_deck.old.stage ≡ stages.Over → old_deck.new.stage ≡ stages.Over }
-        ensures front { OnOk result ((of : List deck_cards.Card) (earlier : List statements.Statement) → IsOnSpan kind of cards.now earlier span self.old old_deck.old → GoesOn of cards.now earlier span old_deck.old →
-            (old_deck.new.stage ≡ stages.Front) × (old_deck.new.before ≡ old_deck.old.before)) }
-        ensures kept { (of : List deck_cards.Card) (earlier : List statements.Statement) → IsOnSpan kind of cards.now earlier span self.old old_deck.old → GoesOn of cards.now earlier span old_deck.old →
-            meter.new.sized ≡ meter.old.sized }
-        ensures due { OnOk result ((of : List deck_cards.Card) (earlier : List statements.Statement) (limit : ℕ) → IsOnSpan kind of cards.now earlier span self.old old_deck.old → IsNextKnown cards.now earlier span limit →
-            WillAgree kind of cards.now limit earlier old_deck.old → WillAgree kind of cards.now limit (statement_at cards.now span ∷ earlier) old_deck.new) }
-        ensures in_time { (of : List deck_cards.Card) (earlier : List statements.Statement) (limit : ℕ) → IsOnSpan kind of cards.now earlier span self.old old_deck.old → IsNextKnown cards.now earlier span limit →
-            WillAgree kind of cards.now limit earlier old_deck.old → (meter.new.sized ≡ meter.old.sized) ⊎ (length earlier < limit) }
-        ensures sized { meter.new.sized ≤ meter.old.sized + 1 }
-        ensures rises { meter.old.sized ≤ meter.new.sized }
-        ensures anew { OnOk result ((of : List deck_cards.Card) (earlier : List statements.Statement) → IsOnSpan kind of cards.now earlier span self.old old_deck.old →
-            IsCountedOrStays kind (known_in of) earlier (statement_at cards.now span) meter.old.sized meter.new.sized) }
-        ensures all { OnOk result (old_deck.old.stage ≡ stages.Over → meter.new.sized ≡ min (meter.old.sized + 1) (2 ^ 64 - 1)) }
-        ensures coded { meter.new.coded ≡ meter.old.coded }
+        ensures counts { CountsOne kind cards.now span self.old old_deck.old meter.old meter.new }
+        ensures counted { OnOk result (CountsOneTaken kind cards.now span self.old old_deck.old meter.old meter.new) }
     {
         if let Stage::Over = old_deck.stage {
             return self.take_span(alloc, kind, cards, span, room, meter);
@@ -178,21 +160,10 @@ impl Sizer {
         requires none { IsSizer kind cards.now [] self.old }
         requires spans { All (IsSpan (length cards.now)) spans.now }
         requires numbered { AreNumbered (all_statements cards.now spans.now) }
-        requires old_deck { (of : List deck_cards.Card) × IsKeptOn kind of cards.now [] old_deck }
-        ensures ended { IfOk result (λ taken. IsEnding cards.now spans.now taken.count) }
-        ensures taken { IfOk result (λ taken. IsSizer kind cards.now (first_statements cards.now spans.now taken.count) self.new) }
-        ensures tail { IfOk result (λ taken. (of : List deck_cards.Card) → IsKeptOn kind of cards.now [] old_deck.entry → HasTailIfAny kind of cards.now taken.tail (first_statements cards.now spans.now taken.count)) }
-        ensures sized { meter.new.sized ≤ meter.old.sized + length (up_to_end (all_statements cards.now spans.now)) }
-        ensures front { (of : List deck_cards.Card) (front : List statements.Statement) → IsKeptOn kind of cards.now [] old_deck.entry → StandsInFront of (up_to_end (all_statements cards.now spans.now)) front old_deck.entry →
-            length front + meter.new.sized ≤ length (up_to_end (all_statements cards.now spans.now)) + meter.old.sized }
-        ensures due { (of : List deck_cards.Card) (front : List statements.Statement) (limit : ℕ) → IsKeptOn kind of cards.now [] old_deck.entry → StandsInFront of (up_to_end (all_statements cards.now spans.now)) front old_deck.entry →
-            IsBounded cards.now spans.now front limit → WillAgree kind of cards.now limit [] old_deck.entry → length front + meter.new.sized ≤ limit + meter.old.sized }
-        ensures within { IfOk result (λ taken. (of : List deck_cards.Card) (front : List statements.Statement) (limit : ℕ) → IsKeptOn kind of cards.now [] old_deck.entry → StandsInFront of (up_to_end (all_statements cards.now spans.now)) front old_deck.entry →
-            IsBounded cards.now spans.now front limit → WillAgree kind of cards.now limit [] old_deck.entry → HasTailWithin kind of cards.now taken.tail (first_statements cards.now spans.now taken.count) limit) }
-        ensures rises { meter.old.sized ≤ meter.new.sized }
-        ensures anew { IfOk result (λ taken. (of : List deck_cards.Card) → IsKeptOn kind of cards.now [] old_deck.entry → RisesAnew kind (known_in of) (first_statements cards.now spans.now taken.count) meter.old.sized meter.new.sized) }
-        ensures all { OnOk result (old_deck.entry.stage ≡ stages.Over → RisesBy (length (up_to_end (all_statements cards.now spans.now))) meter.old.sized meter.new.sized) }
-        ensures coded { meter.new.coded ≡ meter.old.coded }
+        requires old_deck { HasOld kind cards.now old_deck }
+        ensures taken { IfOk result (λ taken. AreTaken kind cards.now spans.now old_deck.entry self.new taken.count taken.tail) }
+        ensures counts { CountsTaking kind cards.now spans.now old_deck.entry meter.old meter.new }
+        ensures counted { IfOk result (λ taken. CountsTaken kind cards.now spans.now old_deck.entry taken.count meter.old meter.new) }
     {
         let mut kept = old_deck;
         let mut room = StatementRoom::new();

@@ -8,7 +8,7 @@ ghost use Rattle.definitions.specs.Map.{map_text};
 ghost use Rattle.definitions.specs.Objects.{object_of};
 ghost use Rattle.text_ports.specs.Joins.Sending.{Sends, count_after_sending};
 ghost use Rattle.deck_linker.specs.Joins.CommonWords.{AreCommonWords};
-ghost use Rattle.deck_linker.specs.Joins.InPieces.{AreDeckWords, DoFit, deck_text, end_text};
+ghost use Rattle.deck_linker.specs.Joins.InPieces.{AreDeckWords, AreFew, DoFit, DoSectionsFit, deck_text, end_text};
 ghost use Rattle.deck_linker.specs.Publishing.{listings, map_of};
 ghost use Rattle.deck_linker.specs.Joins.Sections.{deck_section};
 
@@ -217,10 +217,10 @@ fn measured_texts(
     ensures all { IfOk result (λ texts. texts.front.all ≡ length (listings objects.now)) }
     ensures listings_fit { IfOk result (λ texts. DoFit deck_text texts.front.most objects.now) }
     ensures most { IfOk result (λ texts. texts.front.most ≤ texts.most) }
-    ensures sections_fit { IfOk result (λ texts. DoFit (deck_section layout.now) texts.most layout.now.decks) }
+    ensures sections_fit { IfOk result (λ texts. DoSectionsFit layout.now texts.most) }
     ensures end_fits { IfOk result (λ texts. length (end_text layout.now) ≤ texts.most) }
     ensures sheet { IfOk result (λ texts. texts.sheet ≡ texts.most ∷ []) }
-    ensures few { IfOk result (λ texts. texts.front.all + (length (flat_map (deck_section layout.now) layout.now.decks) + (length (end_text layout.now) + length texts.map)) < 2 ^ 63) }
+    ensures few { IfOk result (λ texts. AreFew layout.now texts.front.all texts.map) }
 {
     let errors = errors_in(objects)?;
     let front = measure_listings(alloc, objects, Measure { all: 0, most: 0 })?;

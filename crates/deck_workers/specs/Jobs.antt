@@ -1,6 +1,6 @@
 -- What a job gives (ours): a function of the job, and one free choice.
 use Rattle.std.specs.Prelude.{◌≡◌, ◌⊎◌, ℕ, ◌+◌, ◌^◌, ◌<◌, ◌≤◌, Bool, true, false, List, Option, Some, None}
-use Rattle.statement_coder.specs.Joins.Meters.{CountsAtMost}
+use Rattle.statement_coder.specs.Meters.{CountsAtMost}
 use Rattle.work_meter.specs.Counts.{Counts}
 use Rattle.deck_workers.specs.Joins.Language.{Card, Edit, statement_count, statements_sum, CountsInOrder, edits_fault, RecordFault, OutOfMemory, DeckWork, LinkWork, Start, FromRecord, FromCards}
 pub use Rattle.desk_core.specs.Making.{start_deck, start_cards, deck_edited, begun_deck, done_of}

@@ -1,6 +1,6 @@
 //! A deck assembled from what a job begins with, and objects published.
 ghost use Rattle.std.specs.Prelude.{◌≡◌, ◌+◌, ◌≤◌, ◌⊎◌, false, None, Some, length, IfOk, IfErr, OnOk};
-ghost use Rattle.statement_coder.specs.Joins.Meters.{CountsAtMost, RisesBy};
+ghost use Rattle.statement_coder.specs.Meters.{CountsAtMost, RisesBy};
 ghost use Rattle.deck_workers.specs.Joins.Language.{edits_fault, statement_count, statements_sum};
 ghost use Rattle.deck_workers.specs.Jobs.{start_deck, start_cards, start_bound, deck_edited, CountsDue, CountsWithin};
 

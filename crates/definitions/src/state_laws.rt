@@ -1,12 +1,12 @@
 //! What holds of the state between statements, each as the contract of a function that does nothing.
-ghost use Rattle.std.specs.Prelude.{◌≡◌, ◌∷◌, ◌++◌, ℕ, List, map};
+ghost use Rattle.std.specs.Prelude.{◌≡◌, ◌∷◌, ◌++◌, List};
 ghost use Rattle.definitions.specs.Statements.{Statement};
 ghost use Rattle.definitions.specs.Settled.{read_of, defined};
 ghost use Rattle.definitions.specs.Settling.{View, settle, settled_from, settled_all};
 ghost use Rattle.definitions.specs.Literals.{literal_words};
 ghost use Rattle.definitions.specs.Lengths.{lengths_of, rows_of, block_rows};
 ghost use Rattle.definitions.specs.Laws.States.{BlockState, state_after, seen_from, effect_of, advanced, lengths_advanced};
-ghost use Rattle.definitions.specs.Laws.Agreement.{early_symbols, Agree, unnumbered, settled_tail, HaveSameCards, AgreeOnTail};
+ghost use Rattle.definitions.specs.Laws.Agreement.{early_symbols, Agree, settled_tail, HaveSameCards, AgreeOnTail, SettleAlike};
 ghost use Rattle.definitions.specs.declared.deck_kind.DeckKind.{DeckKind};
 
 /// The state behind one statement more is the step of its effect.
@@ -36,8 +36,7 @@ pub fn tails_agree()
         settled_all kind (tail ++ front) ≡ settled_tail kind (settled_all kind front) tail ++ settled_all kind front }
     ensures statements { (kind : DeckKind) (front other_front tail other_tail : List Statement) →
         state_after (settled_all kind front) ≡ state_after (settled_all kind other_front) → HaveSameCards tail other_tail →
-        AgreeOnTail kind (settled_all kind front) (settled_all kind other_front) tail →
-        map unnumbered (settled_tail kind (settled_all kind front) tail) ≡ map unnumbered (settled_tail kind (settled_all kind other_front) other_tail) }
+        AgreeOnTail kind (settled_all kind front) (settled_all kind other_front) tail → SettleAlike kind front other_front tail other_tail }
     ensures states { (kind : DeckKind) (front other_front tail other_tail : List Statement) →
         state_after (settled_all kind front) ≡ state_after (settled_all kind other_front) → HaveSameCards tail other_tail →
         AgreeOnTail kind (settled_all kind front) (settled_all kind other_front) tail →

@@ -17,7 +17,7 @@ use Rattle.desk_core.specs.Answers.{Answer}
 use Rattle.desk_core.specs.Earlier.{against_since, edits_behind, changes_of, cards_at_of}
 use Rattle.desk_core.specs.Carrying.{cards_of}
 use Rattle.desk_core.specs.Steps.{Steps}
-use Rattle.desk_core.specs.Runs.{History, Runs, changes_in, decks_at, cards_named}
+use Rattle.desk_core.specs.Runs.{History, LedSince, Runs, changes_in, decks_at, cards_named}
 use Rattle.desk_core.proofs.AnswerLaws.{unrefused, no-reason, head-clear}
 use Rattle.desk_core.proofs.Outcomes.{Outcome, by_staying, by_changing, by_publishing}
 use Rattle.desk_core.proofs.Publishing.{step_comes}
@@ -151,10 +151,7 @@ module _ (begun : ℕ) (history : History) (desk next : Desk) (name : List ℕ) 
   shown_then told cards backs (inl gave) = shown-of told cards backs (deck_named name desk) refl gave.0
   shown_then told cards backs (inr starved) = let e : CardsBefore told cards backs ≡ Refused OutOfMemory = starved.1 in cc
 
-  abbrev LedToNow : List KeptEdit → Type 0
-  LedToNow edits = (was : List Card) × (now : List Card) × (cards_named name (decks_at begun version history) ≡ Some was) × (cards_named name (decks_of desk) ≡ Some now) × HaveLed was edits now
-
-  told-of : (last : ℕ) (edits : List KeptEdit) (found : Option DeskDeck) → deck_named name desk ≡ found → ChangesAre last edits ≡ (changes_of version desk found).reply → LedToNow edits
+  told-of : (last : ℕ) (edits : List KeptEdit) (found : Option DeskDeck) → deck_named name desk ≡ found → ChangesAre last edits ≡ (changes_of version desk found).reply → LedSince begun history name version edits desk
   told-of last edits None none gave = absurd (let e : ChangesAre last edits ≡ Refused NoDeck = gave in cc)
   told-of last edits (Some deck) found gave =
       let clear = unrefused (against_since version deck) desk _ (ChangesAre last edits) (λ refusal e. cc) gave in
@@ -168,6 +165,6 @@ module _ (begun : ℕ) (history : History) (desk next : Desk) (name : List ℕ) 
       )
 
   -- the changes that are stated of a deck led from the cards that it had to those of now
-  pub told_then : (last : ℕ) (edits : List KeptEdit) → Steps desk (Changes name version) (ChangesAre last edits) next → LedToNow edits
+  pub told_then : (last : ℕ) (edits : List KeptEdit) → Steps desk (Changes name version) (ChangesAre last edits) next → LedSince begun history name version edits desk
   told_then last edits (inl gave) = told-of last edits (deck_named name desk) refl gave.0
   told_then last edits (inr starved) = absurd (let e : ChangesAre last edits ≡ Refused OutOfMemory = starved.1 in cc)

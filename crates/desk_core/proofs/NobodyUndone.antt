@@ -2,7 +2,7 @@
 use Rattle.std.proofs.Common.{◌≡◌, ℕ, List, [], ◌∷◌, inl, inr, Option, Some, None, option_map, Ok, refl, ap, ◌∙◌}
 use Rattle.cards.specs.declared.carrying.MadeEdit.{MadeEdit}
 use Rattle.cards.specs.Carrying.{seen_before}
-use Rattle.cards.specs.Converging.{edits_in, Converge}
+use Rattle.cards.specs.Converging.{edits_in}
 use Rattle.cards.proofs.FaultLaws.{have-places}
 use Rattle.cards.proofs.Batches.{seen-tells, converges}
 use Rattle.desk_core.specs.Joins.Language.{Card}
@@ -16,7 +16,7 @@ use Rattle.desk_core.specs.Earlier.{edits_behind}
 use Rattle.desk_core.specs.Carrying.{made_in, cards_of, carried_since, against_carry, accept_carried, batch_since_of, edit_since_of, alone}
 use Rattle.desk_core.specs.Undoing.{backs_at, against_change, undo_where}
 use Rattle.desk_core.specs.Steps.{Steps}
-use Rattle.desk_core.specs.Runs.{History, Runs}
+use Rattle.desk_core.specs.Runs.{History, LosesNothing, Runs}
 use Rattle.desk_core.proofs.AnswerLaws.{unrefused, map-clear}
 use Rattle.desk_core.proofs.CarryDone.{carry-clear}
 use Rattle.desk_core.proofs.PastLaws.{fault-later}
@@ -28,12 +28,8 @@ led-apply : (before : List Card) (kept : List KeptEdit) (now : List Card) → Ha
 led-apply before [] now led = refl
 led-apply before (one ∷ kept) now led = fault-later (fault_of one.edit before) (first_fault (edits_in (made_in kept)) (edited before one.edit)) led.0 (led-apply (edited before one.edit) kept now led.2)
 
--- what is promised of edits by who has seen a version, as they were made
-abbrev UndoNothing : ℕ → List Edit → List Edit → DeskDeck → Type 0
-UndoNothing seen edits moved deck = Converge (cards_of seen deck) (edits_in (made_in (edits_behind seen deck))) edits moved
-
 -- nothing spoke against the edits, and they were carried
-of-carried : (seen : ℕ) (edits moved : List Edit) (desk : Desk) (deck : DeskDeck) → HasPast desk.version deck.cards deck.past → against_carry seen edits desk deck ≡ None → carried_since seen edits deck ≡ Ok moved → UndoNothing seen edits moved deck
+of-carried : (seen : ℕ) (edits moved : List Edit) (desk : Desk) (deck : DeskDeck) → HasPast desk.version deck.cards deck.past → against_carry seen edits desk deck ≡ None → carried_since seen edits deck ≡ Ok moved → LosesNothing seen deck edits moved
 of-carried seen edits moved desk deck has clear carried =
     let apply = (carry-clear seen edits moved desk deck clear carried).apply in
     let made : List MadeEdit = made_in (edits_behind seen deck) in
@@ -46,27 +42,27 @@ module _ (begun : ℕ) (history : History) (desk next : Desk) (name who : List �
 
   -- by an answer that was to be unless something speaks against it
   by-answer : (edits : List Edit) (against : Option Refusal) → (against ≡ None → against_carry seen edits desk deck ≡ None) →
-      Carried version before moved ≡ (unless against desk (accept_carried name who desk deck (carried_since seen edits deck))).reply → UndoNothing seen edits moved deck
+      Carried version before moved ≡ (unless against desk (accept_carried name who desk deck (carried_since seen edits deck))).reply → LosesNothing seen deck edits moved
   by-answer edits against clears told =
       let both = unrefused against desk (accept_carried name who desk deck (carried_since seen edits deck)) (Carried version before moved) (λ refusal e. cc) told in
       let made = accepts-made name who desk deck (carried_since seen edits deck) version before moved (told ∙ ap (λ (a : Answer). a.reply) both.1) in
       of-carried seen edits moved desk deck has (clears both.0) made.0
 
-  by-batch : (edits : List Edit) → Carried version before moved ≡ (batch_since_of name seen edits who desk (Some deck)).reply → UndoNothing seen edits moved deck
+  by-batch : (edits : List Edit) → Carried version before moved ≡ (batch_since_of name seen edits who desk (Some deck)).reply → LosesNothing seen deck edits moved
   by-batch edits told = by-answer edits (against_carry seen edits desk deck) (λ none. none) told
 
   -- of a batch, of one edit, and of what takes a change back
-  pub batch_undoes_nothing : (edits : List Edit) → Steps desk (BatchSince name seen edits who) (Carried version before moved) next → UndoNothing seen edits moved deck
+  pub batch_undoes_nothing : (edits : List Edit) → Steps desk (BatchSince name seen edits who) (Carried version before moved) next → LosesNothing seen deck edits moved
   batch_undoes_nothing edits (inl gave) = by-batch edits (gave.0 ∙ ap (λ (d : Option DeskDeck). (batch_since_of name seen edits who desk d).reply) found)
   batch_undoes_nothing edits (inr starved) = absurd (let e : Carried version before moved ≡ Refused OutOfMemory = starved.1 in cc)
 
-  pub edit_undoes_nothing : (edit : Edit) → Steps desk (EditSince name seen edit who) (Carried version before moved) next → UndoNothing seen (edit ∷ []) moved deck
+  pub edit_undoes_nothing : (edit : Edit) → Steps desk (EditSince name seen edit who) (Carried version before moved) next → LosesNothing seen deck (edit ∷ []) moved
   edit_undoes_nothing edit (inl gave) =
       by-answer (edit ∷ []) (option_map alone (against_carry seen (edit ∷ []) desk deck)) (λ none. map-clear alone (against_carry seen (edit ∷ []) desk deck) none)
       (gave.0 ∙ ap (λ (d : Option DeskDeck). (edit_since_of name seen edit who desk d).reply) found)
   edit_undoes_nothing edit (inr starved) = absurd (let e : Carried version before moved ≡ Refused OutOfMemory = starved.1 in cc)
 
-  pub undo_undoes_nothing : Steps desk (Undo name seen who) (Carried version before moved) next → UndoNothing seen (backs_at seen deck) moved deck
+  pub undo_undoes_nothing : Steps desk (Undo name seen who) (Carried version before moved) next → LosesNothing seen deck (backs_at seen deck) moved
   undo_undoes_nothing (inl gave) =
       let told : Carried version before moved ≡ (undo_where name seen who desk (Some deck)).reply = gave.0 ∙ ap (λ (d : Option DeskDeck). (undo_where name seen who desk d).reply) found in
       let both = unrefused (against_change seen deck) desk (batch_since_of name seen (backs_at seen deck) who desk (Some deck)) (Carried version before moved) (λ refusal e. cc) told in

@@ -1,12 +1,17 @@
 -- Runs of a desk: legal histories from a new one, the changes that they accepted, and what is promised of them (ours).
 use Rattle.std.specs.Prelude.{◌≡◌, ℕ, ◌+◌, ◌-◌, ◌≤◌, Bool, true, false, List, [], ◌∷◌, take, length, filter_map, Option, Some, None, option_map, if◌then◌else◌}
+use Rattle.cards.specs.Converging.{edits_in, Converge}
 use Rattle.turn_office.specs.declared.history.Entry.{Entry}
 use Rattle.turn_office.specs.Histories.{Leads}
 use Rattle.desk_core.specs.Joins.Language.{Card, Deck, same_text, listing_of, image_of}
 use Rattle.desk_core.specs.Joins.Edits.{Edit}
 use Rattle.desk_core.specs.Changes.{Change, Added, Dropped, Edited, Put, decks_after}
-use Rattle.desk_core.specs.Desks.{Desk, Publication, new_desk_at, decks_of}
+use Rattle.desk_core.specs.Past.{KeptEdit}
+use Rattle.desk_core.specs.Led.{HaveLed}
+use Rattle.desk_core.specs.Desks.{Desk, DeskDeck, Publication, new_desk_at, decks_of, deck_named}
 use Rattle.desk_core.specs.Joins.Calls.{Call, AddDeck, PutDeck, DropDeck, EditDeck, Batch, EditSince, BatchSince, Undo, Reply, Changed, Carried}
+use Rattle.desk_core.specs.Earlier.{edits_behind}
+use Rattle.desk_core.specs.Carrying.{made_in, cards_of}
 use Rattle.desk_core.specs.Steps.{Steps}
 
 -- calls with their replies, oldest first
@@ -87,3 +92,24 @@ pub record IsPublishedFrom (version : ℕ) (desk : Desk) : Type 0 where
   pub publication : Publication
   pub shown : desk.publication ≡ Some publication
   pub not_before : version ≤ publication.version
+
+-- in each run from a new desk to a desk
+abbrev pub InEachRun : (ℕ → History → Desk → Type 0) → Type 0
+InEachRun Holds = (begun : ℕ) (history : History) (desk : Desk) → Runs begun history desk → Holds begun history desk
+
+-- a deck had these cards at a version
+abbrev pub HadCards : ℕ → History → List ℕ → ℕ → List Card → Type 0
+HadCards begun history name version cards = cards_named name (decks_at begun version history) ≡ Some cards
+
+-- edits led from the cards of a version to those of now
+abbrev pub LedSince : ℕ → History → List ℕ → ℕ → List KeptEdit → Desk → Type 0
+LedSince begun history name version edits desk =
+    (was : List Card) × (now : List Card) × (cards_named name (decks_at begun version history) ≡ Some was) × (cards_named name (decks_of desk) ≡ Some now) × HaveLed was edits now
+
+-- what was made of these edits converges with what others did to the deck behind a version
+abbrev pub LosesNothing : ℕ → DeskDeck → List Edit → List Edit → Type 0
+LosesNothing seen deck edits moved = Converge (cards_of seen deck) (edits_in (made_in (edits_behind seen deck))) edits moved
+
+-- the deck of a name has these cards
+abbrev pub HasCards : List ℕ → List Card → Desk → Type 0
+HasCards name cards desk = (deck : DeskDeck) × (deck_named name desk ≡ Some deck) × (deck.cards ≡ cards)

@@ -1,6 +1,5 @@
 //! What holds in every run of a desk, each law as the contract of a function that does nothing.
 ghost use Rattle.std.specs.Prelude.{◌≡◌, ℕ, ◌+◌, ◌-◌, ◌≤◌, true, false, List, [], ◌∷◌, Some, reverse};
-ghost use Rattle.cards.specs.Converging.{edits_in, Converge};
 ghost use Rattle.turn_office.specs.declared.history.Entry.{Entry};
 ghost use Rattle.turn_office.specs.Histories.{Leads};
 ghost use Rattle.desk_core.specs.Joins.Language.{Card};
@@ -8,14 +7,14 @@ ghost use Rattle.desk_core.specs.Changes.{Edited};
 ghost use Rattle.desk_core.specs.Joins.Edits.{Edit, edited_by};
 ghost use Rattle.desk_core.specs.Past.{KeptEdit};
 ghost use Rattle.desk_core.specs.Led.{HaveLed};
-ghost use Rattle.desk_core.specs.Desks.{Desk, DeskDeck, Publication, decks_of, deck_named, greatest_number};
+ghost use Rattle.desk_core.specs.Desks.{Desk, DeskDeck, Publication, deck_named, greatest_number};
 ghost use Rattle.desk_core.specs.Joins.Calls.{Call, Refusal, Reply, Show, Shown, Claim, Idle, DeliverLink, Publish, DeckJob, DeckWork, Refused, EditSince, BatchSince, Undo, Carried, Changes, ChangesAre, CardsAt, CardsBefore};
 ghost use Rattle.desk_core.specs.Delivering.{own_publication};
 ghost use Rattle.desk_core.specs.Steps.{answer, Steps};
-ghost use Rattle.desk_core.specs.Runs.{History, Runs, change_in, decks_at, cards_named, IsBuildOf, IsUnchanged, IsOfItsChanges, IsPublishedAt, IsPublishedFrom};
+ghost use Rattle.desk_core.specs.Runs.{History, Runs, HadCards, HasCards, InEachRun, LedSince, LosesNothing, change_in, IsBuildOf, IsUnchanged, IsOfItsChanges, IsPublishedAt, IsPublishedFrom};
 ghost use Rattle.desk_core.specs.Jobs.{IsDue, IsPartOf, accepted_edits, handed_edits};
 ghost use Rattle.desk_core.specs.Earlier.{edits_behind};
-ghost use Rattle.desk_core.specs.Carrying.{made_in, cards_of};
+ghost use Rattle.desk_core.specs.Carrying.{cards_of};
 ghost use Rattle.desk_core.specs.Undoing.{backs_at};
 ghost use Rattle.desk_core.specs.Rounds.{after_rounds, most_rounds};
 ghost use Rattle.desk_core.specs.Progress.{has_leases, has_work, hands_a_deck, hands_a_link};
@@ -85,11 +84,10 @@ pub fn published_is_delivered()
 pub fn undo_takes_back()
     ensures back { (version : ℕ) (deck : DeskDeck) → edited_by (backs_at version deck) (cards_of version deck) ≡ cards_of (version - 1) deck }
     ensures latest { (desk next : Desk) (name who : List ℕ) (version : ℕ) (deck : DeskDeck) (made before : ℕ) (edits : List Edit) →
-        deck_named name desk ≡ Some deck → edits_behind version deck ≡ [] → Steps desk (Undo name version who) (Carried made before edits) next →
-        (after : DeskDeck) × (deck_named name next ≡ Some after) × (after.cards ≡ cards_of (version - 1) deck) }
+        deck_named name desk ≡ Some deck → edits_behind version deck ≡ [] → Steps desk (Undo name version who) (Carried made before edits) next → HasCards name (cards_of (version - 1) deck) next }
     ensures undone { (begun : ℕ) (history : History) (desk next last : Desk) (made : Entry Call Reply) (name who : List ℕ) (deck : DeskDeck) (edits moved : List Edit) (version before : ℕ) →
         Runs begun history desk → deck_named name desk ≡ Some deck → Steps desk made.call made.reply next → change_in made ≡ Some (Edited name edits) →
-        Steps next (Undo name next.version who) (Carried version before moved) last → (after : DeskDeck) × (deck_named name last ≡ Some after) × (after.cards ≡ deck.cards) }
+        Steps next (Undo name next.version who) (Carried version before moved) last → HasCards name deck.cards last }
 {}
 
 /// What is kept of a deck's changes is what happened, in every run: from the version on behind which all is
@@ -98,30 +96,24 @@ pub fn undo_takes_back()
 /// the cards that a desk shows of a version, those of now with the edits beside them made, are those that the
 /// deck had, and the changes that it shows led from there to the cards of now.
 pub fn kept_changes()
-    ensures cards { (begun : ℕ) (history : History) (desk : Desk) (name : List ℕ) (deck : DeskDeck) (version : ℕ) →
-        Runs begun history desk → deck_named name desk ≡ Some deck → deck.past.since ≤ version →
-        cards_named name (decks_at begun version history) ≡ Some (cards_of version deck) }
-    ensures led { (begun : ℕ) (history : History) (desk : Desk) (name : List ℕ) (deck : DeskDeck) (version : ℕ) →
-        Runs begun history desk → deck_named name desk ≡ Some deck → HaveLed (cards_of version deck) (edits_behind version deck) deck.cards }
-    ensures shown { (begun : ℕ) (history : History) (desk next : Desk) (name : List ℕ) (version told : ℕ) (cards : List Card) (backs : List Edit) →
-        Runs begun history desk → Steps desk (CardsAt name version) (CardsBefore told cards backs) next →
-        cards_named name (decks_at begun version history) ≡ Some (edited_by backs cards) }
-    ensures told { (begun : ℕ) (history : History) (desk next : Desk) (name : List ℕ) (version last : ℕ) (edits : List KeptEdit) →
-        Runs begun history desk → Steps desk (Changes name version) (ChangesAre last edits) next →
-        (was : List Card) × (now : List Card) × (cards_named name (decks_at begun version history) ≡ Some was) × (cards_named name (decks_of desk) ≡ Some now) × HaveLed was edits now }
+    ensures cards { InEachRun (λ begun history desk. (name : List ℕ) (deck : DeskDeck) (version : ℕ) →
+        deck_named name desk ≡ Some deck → deck.past.since ≤ version → HadCards begun history name version (cards_of version deck)) }
+    ensures led { InEachRun (λ begun history desk. (name : List ℕ) (deck : DeskDeck) (version : ℕ) →
+        deck_named name desk ≡ Some deck → HaveLed (cards_of version deck) (edits_behind version deck) deck.cards) }
+    ensures shown { InEachRun (λ begun history desk. (next : Desk) (name : List ℕ) (version told : ℕ) (cards : List Card) (backs : List Edit) →
+        Steps desk (CardsAt name version) (CardsBefore told cards backs) next → HadCards begun history name version (edited_by backs cards)) }
+    ensures told { InEachRun (λ begun history desk. (next : Desk) (name : List ℕ) (version last : ℕ) (edits : List KeptEdit) →
+        Steps desk (Changes name version) (ChangesAre last edits) next → LedSince begun history name version edits desk) }
 {}
 
 /// Who edits by a version that he saw, or takes a change back, undoes nothing of others: in every run the edits
 /// that are made converge with those that others made behind that version. They do to the cards of now what they
 /// would have done to those of that version, and every edit of others is still made.
 pub fn nobody_is_undone()
-    ensures edit { (begun : ℕ) (history : History) (desk next : Desk) (name who : List ℕ) (deck : DeskDeck) (edit : Edit) (moved : List Edit) (seen version before : ℕ) →
-        Runs begun history desk → deck_named name desk ≡ Some deck → Steps desk (EditSince name seen edit who) (Carried version before moved) next →
-        Converge (cards_of seen deck) (edits_in (made_in (edits_behind seen deck))) (edit ∷ []) moved }
-    ensures batch { (begun : ℕ) (history : History) (desk next : Desk) (name who : List ℕ) (deck : DeskDeck) (edits moved : List Edit) (seen version before : ℕ) →
-        Runs begun history desk → deck_named name desk ≡ Some deck → Steps desk (BatchSince name seen edits who) (Carried version before moved) next →
-        Converge (cards_of seen deck) (edits_in (made_in (edits_behind seen deck))) edits moved }
-    ensures undo { (begun : ℕ) (history : History) (desk next : Desk) (name who : List ℕ) (deck : DeskDeck) (moved : List Edit) (seen version before : ℕ) →
-        Runs begun history desk → deck_named name desk ≡ Some deck → Steps desk (Undo name seen who) (Carried version before moved) next →
-        Converge (cards_of seen deck) (edits_in (made_in (edits_behind seen deck))) (backs_at seen deck) moved }
+    ensures edit { InEachRun (λ begun history desk. (next : Desk) (name who : List ℕ) (deck : DeskDeck) (edit : Edit) (moved : List Edit) (seen version before : ℕ) →
+        deck_named name desk ≡ Some deck → Steps desk (EditSince name seen edit who) (Carried version before moved) next → LosesNothing seen deck (edit ∷ []) moved) }
+    ensures batch { InEachRun (λ begun history desk. (next : Desk) (name who : List ℕ) (deck : DeskDeck) (edits moved : List Edit) (seen version before : ℕ) →
+        deck_named name desk ≡ Some deck → Steps desk (BatchSince name seen edits who) (Carried version before moved) next → LosesNothing seen deck edits moved) }
+    ensures undo { InEachRun (λ begun history desk. (next : Desk) (name who : List ℕ) (deck : DeskDeck) (moved : List Edit) (seen version before : ℕ) →
+        deck_named name desk ≡ Some deck → Steps desk (Undo name seen who) (Carried version before moved) next → LosesNothing seen deck (backs_at seen deck) moved) }
 {}

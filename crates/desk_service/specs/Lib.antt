@@ -7,4 +7,4 @@ pub mod Services
 pub mod Versions
 pub mod Connections
 pub mod PageLines
-pub mod PageThreads
+pub mod Seating

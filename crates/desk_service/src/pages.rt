@@ -5,9 +5,8 @@
 //! A browser that says nothing holds no thread, and goes after a second, or when too many come; one that does
 //! not finish its request, or does not take its answer, holds a thread for some seconds.
 ghost use Rattle.std.specs.Prelude.{◌≡◌, ◌+◌, ◌-◌, ◌≤◌, All, length, map, IfOk, IfSome, OnOk};
-ghost use Rattle.std.specs.List.{range_with_len};
 ghost use Rattle.turn_office.specs.Seats.{AreOf};
-ghost use Rattle.desk_service.specs.PageThreads.{page_threads};
+ghost use Rattle.desk_service.specs.Seating.{page_threads, session_count, AreForPage, IsPlaceOf};
 
 use crate::journals::Journal;
 use crate::lobby::{Guest, Heard, Lobby, Speak};
@@ -238,15 +237,13 @@ pub(crate) fn page_places<'a, R, F: RecordsFile>(
 ) -> Result<Vec<PagePlace<'a, R, F>>, AllocError>
     requires own { AreOf office.now.id seats.old.items }
     requires enough { page_threads door ≤ length seats.old.items }
-    requires few { settings.now.sessions + settings.now.readers ≤ 32 }
-    requires kept { IfSome journal (λ journal. settings.now.sessions + settings.now.readers + page_threads door ≤ journal.now) }
+    requires few { session_count settings.now ≤ 32 }
+    requires kept { IfSome journal (λ journal. session_count settings.now + page_threads door ≤ journal.now) }
     ensures own { OnOk result (AreOf office.now.id seats.new.items) }
     ensures left { OnOk result (length seats.new.items ≡ length seats.old.items - page_threads door.entry) }
     ensures all { IfOk result (λ places. length places.items ≡ page_threads door.entry) }
-    ensures number { IfOk result (λ places. map (λ place. place.page.1.1.number) places.items ≡ range_with_len (settings.now.sessions + settings.now.readers) (page_threads door.entry)) }
-    ensures ends { IfOk result (λ places. map (λ place. place.page.1.0.1.session) places.items ≡ range_with_len (settings.now.sessions + settings.now.readers) (page_threads door.entry)) }
-    ensures folder { IfOk result (λ places. All (λ place. place.page.1.1.folder ≡ settings.now.root.now) places.items) }
-    ensures office { IfOk result (λ places. All (λ place. place.page.1.0.0.seat.office ≡ office.now.id) places.items) }
+    ensures numbers { IfOk result (λ places. AreForPage settings.now door.entry (map (λ place. place.page.1.1.number) places.items) (map (λ place. place.page.1.0.1.session) places.items)) }
+    ensures served { IfOk result (λ places. All (λ place. IsPlaceOf settings.now office.now.id place.page.1.1.folder place.page.1.0.0.seat.office) places.items) }
     ensures port { IfSome door.entry (λ door. IfOk result (λ places. All (λ place. place.page.0 ≡ door.port) places.items)) }
 {
     let mut places = Vec::new(alloc);

@@ -1,8 +1,7 @@
 //! The places of a service's threads: what each works with, made before any thread starts.
-ghost use Rattle.std.specs.Prelude.{◌≡◌, ◌+◌, ◌-◌, ◌<◌, ◌≤◌, All, length, map, IfOk, IfSome, OnOk};
-ghost use Rattle.std.specs.List.{range_with_len};
-ghost use Rattle.desk_service.specs.Company.{rights_at};
+ghost use Rattle.std.specs.Prelude.{◌≡◌, ◌-◌, ◌<◌, ◌≤◌, All, length, map, IfOk, IfSome, OnOk};
 ghost use Rattle.desk_service.specs.Connections.{rights_of};
+ghost use Rattle.desk_service.specs.Seating.{session_count, AreForSessions, IsServedFor};
 ghost use Rattle.turn_office.specs.Seats.{AreOf};
 
 use crate::clients::{Clients, ToEdit, ToRead, clients_for};
@@ -196,17 +195,13 @@ pub(crate) fn session_places<'a, R, F: RecordsFile>(
     journal: Option<&'a Journal<F>>,
 ) -> Result<Vec<SessionPlace<'a, R, F>>, AllocError>
     requires own { AreOf office.now.id seats.old.items }
-    requires enough { settings.now.sessions + settings.now.readers ≤ length seats.old.items }
-    requires few { settings.now.sessions + settings.now.readers ≤ 32 }
-    requires kept { IfSome journal (λ journal. settings.now.sessions + settings.now.readers ≤ journal.now) }
-    ensures all { IfOk result (λ places. length places.items ≡ settings.now.sessions + settings.now.readers) }
-    ensures number { IfOk result (λ places. map (λ place. place.shelf.number) places.items ≡ range_with_len 0 (settings.now.sessions + settings.now.readers)) }
-    ensures session { IfOk result (λ places. map (λ place. place.serving.session) places.items ≡ range_with_len 0 (settings.now.sessions + settings.now.readers)) }
-    ensures ends { IfOk result (λ places. map (λ place. place.desk.1.session) places.items ≡ range_with_len 0 (settings.now.sessions + settings.now.readers)) }
-    ensures rights { IfOk result (λ places. All (λ place. place.serving.rights ≡ rights_at settings.now.sessions place.serving.session) places.items) }
+    requires enough { session_count settings.now ≤ length seats.old.items }
+    requires few { session_count settings.now ≤ 32 }
+    requires kept { IfSome journal (λ journal. session_count settings.now ≤ journal.now) }
+    ensures all { IfOk result (λ places. length places.items ≡ session_count settings.now) }
+    ensures numbers { IfOk result (λ places. AreForSessions (session_count settings.now) (map (λ place. place.shelf.number) places.items) (map (λ place. place.serving.session) places.items) (map (λ place. place.desk.1.session) places.items)) }
+    ensures served { IfOk result (λ places. All (λ place. IsServedFor settings.now place.serving.session place.serving.rights place.serving.once place.shelf.folder) places.items) }
     ensures clients { IfOk result (λ places. All (λ place. rights_of place.clients ≡ place.serving.rights) places.items) }
-    ensures folder { IfOk result (λ places. All (λ place. place.shelf.folder ≡ settings.now.root.now) places.items) }
-    ensures once { IfOk result (λ places. All (λ place. place.serving.once ≡ settings.now.once) places.items) }
     ensures office { IfOk result (λ places. All (λ place. place.desk.0.seat.office ≡ office.now.id) places.items) }
 {
     let mut places = Vec::new(alloc);

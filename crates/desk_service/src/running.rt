@@ -1,6 +1,6 @@
 //! The service: its threads start, and end.
 ghost use Rattle.std.specs.Prelude.{◌≡◌, ◌+◌, ◌≤◌, IfOk, IfSome};
-ghost use Rattle.desk_service.specs.PageThreads.{page_threads};
+ghost use Rattle.desk_service.specs.Seating.{page_threads};
 ghost use Rattle.desk_service.specs.Services.{AreInRange, IsLocal};
 
 use crate::arrivals::{Arrivals, receive_clients};

@@ -1,6 +1,6 @@
 //! The places of all threads of a service, and the channels that they talk by.
 ghost use Rattle.std.specs.Prelude.{◌≡◌, ◌≤◌, ◌+◌, length, IfOk, IfSome};
-ghost use Rattle.desk_service.specs.PageThreads.{page_threads};
+ghost use Rattle.desk_service.specs.Seating.{page_threads};
 ghost use Rattle.turn_office.specs.Seats.{AreOf};
 
 use crate::arrivals::Arrivals;

@@ -6,12 +6,12 @@ use Rattle.cards.specs.Edits.{edited, edited_by, first_fault}
 use Rattle.cards.specs.declared.edits.Edit.{Edit}
 use Rattle.cards.specs.declared.edits.EditFault.{EditFault}
 use Rattle.cards.proofs.FaultLaws.{applies-in}
-use Rattle.statement_coder.specs.Joins.Meters.{Counts}
+use Rattle.statement_coder.specs.Meters.{Counts}
 use Rattle.edit_core.specs.Edited.{edits_bound, IsRecordOf, RisesToAnew, RisesToRebound}
 use Rattle.edit_core.specs.Faults.{against_all, record_fault}
 use Rattle.edit_core.specs.Joins.Groups.{IsFirstMade}
 use Rattle.edit_core.specs.Records.{Record}
-use Rattle.edit_core.specs.Sums.{DueForEach, fronts_sum, ends_sum, cards_between, edits_in, statements_sum, CountsInOrder, RisesByGroups, RisesInGroups, RisesWithinSum, RisesWithinSumCode}
+use Rattle.edit_core.specs.Sums.{DueForEach, fronts_sum, ends_sum, cards_between, edits_in, statements_sum, CountsInOrder, RisesByGroups, RisesInGroups, RisesWithinSum, RisesWithinSumCode, CountsAnewInGroups}
 use Rattle.edit_core.proofs.NearLaws.{sum-append, sum-append-code, apply-split}
 use Rattle.edit_core.proofs.SumLaws.{single, applies-all}
 use Rattle.std.specs.Prelude.{option_map}
@@ -206,13 +206,9 @@ pub on-way-counts : (edits : List Edit) (old now : Record) (before behind : Coun
 on-way-counts edits old now before behind so_far =
     subst (λ (l : List Edit). CountsInOrder l old.cards before behind) (sym (so_far.all ∙ append-nil so_far.done)) so_far.counts
 
-pub on-way-anew : (edits : List Edit) (old now : Record) (before behind : Counts) → IsOnWay edits [] old now before behind → RisesInGroups RisesToAnew edits old.cards before.sized behind.sized
+pub on-way-anew : (edits : List Edit) (old now : Record) (before behind : Counts) → IsOnWay edits [] old now before behind → CountsAnewInGroups edits old.cards before behind
 on-way-anew edits old now before behind so_far =
-    subst (λ (l : List Edit). RisesInGroups RisesToAnew l old.cards before.sized behind.sized) (sym (so_far.all ∙ append-nil so_far.done)) so_far.anew
-
-pub on-way-rebound : (edits : List Edit) (old now : Record) (before behind : Counts) → IsOnWay edits [] old now before behind → RisesInGroups RisesToRebound edits old.cards before.coded behind.coded
-on-way-rebound edits old now before behind so_far =
-    subst (λ (l : List Edit). RisesInGroups RisesToRebound l old.cards before.coded behind.coded) (sym (so_far.all ∙ append-nil so_far.done)) so_far.rebound
+    subst (λ (l : List Edit). CountsAnewInGroups l old.cards before behind) (sym (so_far.all ∙ append-nil so_far.done)) (record { sized = so_far.anew; coded = so_far.rebound })
 
 -- memory ran out
 pub on-way-lost : (edits left : List Edit) (old now : Record) (before mid behind : Counts) → IsOnWay edits left old now before mid → CountsInOrder left now.cards mid behind → CountsInOrder edits old.cards before behind

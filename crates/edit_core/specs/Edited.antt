@@ -1,6 +1,7 @@
 -- What edits leave of a record (ours).
-use Rattle.std.specs.Prelude.{◌≡◌, ℕ, ⊤, ◌+◌, ◌-◌, ◌^◌, ◌<◌, ◌≤◌, All, false, List, [], ◌∷◌, length, reverse}
+use Rattle.std.specs.Prelude.{◌≡◌, ℕ, ⊤, ◌+◌, ◌-◌, ◌^◌, ◌<◌, ◌≤◌, All, true, false, List, [], ◌∷◌, length, reverse, Option, None, Result, Err, IfOk, IfErr}
 use Rattle.std.specs.List.{count_by}
+use Rattle.std.specs.Option.{ForSome}
 use Rattle.definitions.specs.Cards.{Card}
 use Rattle.definitions.specs.DeckKinds.{kind_of_statements, up_to_end}
 use Rattle.definitions.specs.Laws.Edits.{Edited, IsUntouched, IsWithinDue}
@@ -11,7 +12,10 @@ use Rattle.cards.specs.declared.edits.Edit.{Edit}
 use Rattle.cards.specs.declared.edits.Edit.TheVariants.{Insert, Replace, Remove}
 use Rattle.cards.specs.Counts.{count_after}
 use Rattle.cards.specs.Edits.{edited_by}
+use Rattle.statement_coder.specs.Meters.{Counts}
 use Rattle.deck_assembler.specs.Stays.{RisesAnew}
+use Rattle.edit_core.specs.declared.faults.RecordFault.{RecordFault}
+use Rattle.edit_core.specs.declared.faults.RecordFault.TheVariants.{OutOfMemory}
 use Rattle.edit_core.specs.Records.{Record, ArePieces}
 
 -- how many statements these cards have up to END
@@ -46,6 +50,13 @@ pub record IsRecordOf (name : List ℕ) (cards : List Card) (made : Record) : Ty
   pub cards_are : made.cards ≡ cards
   pub unspent : made.is_spent ≡ false
   pub pieces_are : ArePieces (statement_count cards) made.pieces
+
+-- how edits of a record end: where something speaks against them, with that fault, and nothing changes; else memory alone may lack, and then the record is spent
+pub record EndsAs {T : Type 0} (against : Option RecordFault) (cards : List Card) (old new : Record) (counted counts : Counts) (result : Result T RecordFault) : Type 0 where
+  pub refused : ForSome against (λ fault. (result ≡ Err fault) × (new ≡ old) × (counts ≡ counted))
+  pub accepted : against ≡ None → IfErr result (λ fault. fault ≡ OutOfMemory)
+  pub made : IfOk result (λ _. IsRecordOf old.name cards new)
+  pub lost : result ≡ Err OutOfMemory → new.is_spent ≡ true
 
 -- a deck with these cards before edits and after them; so many cards stand before each one that an edit is of
 pub record AreDecksOf (edits : List Edit) (cards : List Card) (decks : Edited) : Type 0 where
@@ -95,3 +106,26 @@ RisesToRebound edits cards count now =
     let old = up_to_end (statements_of (reverse cards)) in
     let new = up_to_end (statements_of (reverse (edited_by edits cards))) in
     count + length new < 2 ^ 64 → count + count_by (is_rebound (context_from old) (context_from new)) (settled_all (kind_of_statements new) new) ≤ now
+
+-- what edits made at once count at most, whether they are made or not
+pub record CountsAtOnce (edits : List Edit) (cards : List Card) (old new : Counts) : Type 0 where
+  pub sized : new.sized ≤ old.sized + edits_bound edits cards
+  pub sized_front : RisesBehindFront edits cards old.sized new.sized
+  pub sized_rises : old.sized ≤ new.sized
+  pub coded : new.coded ≤ old.coded + edits_bound edits cards
+  pub coded_rises : old.coded ≤ new.coded
+
+-- at least, once they are made
+pub record CountsAnew (edits : List Edit) (cards : List Card) (old new : Counts) : Type 0 where
+  pub sized : RisesToAnew edits cards old.sized new.sized
+  pub coded : RisesToRebound edits cards old.coded new.coded
+
+-- at most what is due, where there are edits
+pub record CountsToDue (edits : List Edit) (cards : List Card) (old new : Counts) : Type 0 where
+  pub sized : RisesToDue edits cards old.sized new.sized
+  pub coded : RisesToDueCode edits cards old.coded new.coded
+
+-- and nothing without an edit
+pub record CountsWithinDue (edits : List Edit) (cards : List Card) (old new : Counts) : Type 0 where
+  pub sized : RisesWithinDue edits cards old.sized new.sized
+  pub coded : RisesWithinDueCode edits cards old.coded new.coded

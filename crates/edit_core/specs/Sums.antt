@@ -7,8 +7,8 @@ use Rattle.definitions.specs.Statements.{Statement}
 use Rattle.cards.specs.Counts.{count_after}
 use Rattle.cards.specs.Edits.{edited, edited_by}
 use Rattle.cards.specs.declared.edits.Edit.{Edit}
-use Rattle.statement_coder.specs.Joins.Meters.{Counts}
-use Rattle.edit_core.specs.Edited.{front_of, count_behind, statement_count, AreDecksOf, StandUnchanged}
+use Rattle.statement_coder.specs.Meters.{Counts}
+use Rattle.edit_core.specs.Edited.{front_of, count_behind, statement_count, AreDecksOf, RisesToAnew, RisesToRebound, StandUnchanged}
 
 -- where that ends what is due for an edit: with the deck, or where both decks agree
 pub data Ends (decks : Edited) : Type 0 where
@@ -80,6 +80,11 @@ abbrev pub RisesWithinSumCode : ℕ → List Edit → List Card → ℕ → ℕ 
 RisesWithinSumCode more edits cards count now =
     (each : DueForEach edits cards) → fronts_sum edits cards each + now ≤ ends_sum edits cards each + rebound_sum edits cards each + more + count
 
+-- both, of edits made at once: as is due for each, with the 128 of a piece once and the cards between them
+pub record CountsWithinSums (edits : List Edit) (cards : List Card) (old new : Counts) : Type 0 where
+  pub sized : RisesWithinSum (128 + cards_between edits (length cards)) edits cards old.sized new.sized
+  pub coded : RisesWithinSumCode (128 + cards_between edits (length cards)) edits cards old.coded new.coded
+
 -- how many statements have all the decks that edits leave one after the other, each up to END
 abbrev pub statements_sum : List Edit → List Card → ℕ
 statements_sum [] cards = 0
@@ -109,3 +114,8 @@ pub record RisesInGroups (Rises : List Edit → List Card → ℕ → ℕ → Ty
   pub groups : List (List Edit)
   pub all : edits_in groups ≡ edits
   pub rises : RisesByGroups Rises groups cards count now
+
+-- what edits in groups count at least: in each group as edits made at once
+pub record CountsAnewInGroups (edits : List Edit) (cards : List Card) (old new : Counts) : Type 0 where
+  pub sized : RisesInGroups RisesToAnew edits cards old.sized new.sized
+  pub coded : RisesInGroups RisesToRebound edits cards old.coded new.coded

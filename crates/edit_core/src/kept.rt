@@ -1,16 +1,15 @@
 //! What is kept of a deck from one edit to the next.
 ghost use Rattle.std.specs.Prelude.{◌≡◌, ◌≤◌, ◌<◌, ◌==◌, ◌∷◌, [], ◌+◌, ◌-◌, ◌*◌, true, false, All, length, reverse, take, None, Err, IfOk, IfErr, OnOk, ◌↔◌};
 ghost use Rattle.std.specs.List.{sum};
-ghost use Rattle.std.specs.Option.{ForSome};
 ghost use Rattle.definitions.specs.DeckKinds.{up_to_end};
 ghost use Rattle.definitions.specs.Statements.{statements_of};
 ghost use Rattle.cards.specs.Edits.{edited, edited_by, first_fault};
-ghost use Rattle.statement_coder.specs.Joins.Meters.{RisesBy};
+ghost use Rattle.statement_coder.specs.Meters.{CountsAtMost, RisesBy};
 ghost use Rattle.deck_assembler.specs.Joins.SizedDecks.{IsSizedDeck};
-ghost use Rattle.edit_core.specs.Edited.{edits_bound, statement_count, IsRecordOf, RisesBehindFront, RisesToAnew, RisesToDue, RisesToDueCode, RisesToRebound, RisesWithinDue, RisesWithinDueCode};
+ghost use Rattle.edit_core.specs.Edited.{statement_count, CountsAnew, CountsAtOnce, CountsToDue, CountsWithinDue, EndsAs, IsRecordOf, RisesBehindFront};
 ghost use Rattle.edit_core.specs.Faults.{against, against_all};
 ghost use Rattle.edit_core.specs.Records.{ArePieces};
-ghost use Rattle.edit_core.specs.Sums.{cards_between, statements_sum, CountsInOrder, RisesInGroups, RisesWithinSum, RisesWithinSumCode};
+ghost use Rattle.edit_core.specs.Sums.{cards_between, statements_sum, CountsAnewInGroups, CountsInOrder, CountsWithinSums};
 ghost use Rattle.edit_core.specs.Joins.Groups.{IsFirstMade};
 
 use crate::edited_object::edited_object;
@@ -122,19 +121,10 @@ impl Kept {
         edit: &Edit,
         meter: &mut Meter,
     ) -> Result<(), RecordFault>
-        ensures refused { ForSome (against edit.now self.old.is_spent self.old.cards) (λ fault. (result ≡ Err fault) × (self.new ≡ self.old) × (meter.new ≡ meter.old)) }
-        ensures accepted { against edit.now self.old.is_spent self.old.cards ≡ None → IfErr result (λ fault. fault ≡ RecordFault.OutOfMemory) }
-        ensures made { IfOk result (λ _. IsRecordOf self.old.name (edited self.old.cards edit.now) self.new) }
-        ensures lost { result ≡ Err RecordFault.OutOfMemory → self.new.is_spent ≡ true }
-        ensures sized { meter.new.sized ≤ meter.old.sized + statement_count (edited self.old.cards edit.now) }
-        ensures sized_front { RisesBehindFront (edit.now ∷ []) self.old.cards meter.old.sized meter.new.sized }
-        ensures sized_anew { OnOk result (RisesToAnew (edit.now ∷ []) self.old.cards meter.old.sized meter.new.sized) }
-        ensures coded_anew { OnOk result (RisesToRebound (edit.now ∷ []) self.old.cards meter.old.coded meter.new.coded) }
-        ensures sized_due { against edit.now self.old.is_spent self.old.cards ≡ None → RisesWithinDue (edit.now ∷ []) self.old.cards meter.old.sized meter.new.sized }
-        ensures coded_due { against edit.now self.old.is_spent self.old.cards ≡ None → RisesWithinDueCode (edit.now ∷ []) self.old.cards meter.old.coded meter.new.coded }
-        ensures sized_rises { meter.old.sized ≤ meter.new.sized }
-        ensures coded { meter.new.coded ≤ meter.old.coded + statement_count (edited self.old.cards edit.now) }
-        ensures coded_rises { meter.old.coded ≤ meter.new.coded }
+        ensures ends { EndsAs (against edit.now self.old.is_spent self.old.cards) (edited self.old.cards edit.now) self.old self.new meter.old meter.new result }
+        ensures counts { CountsAtOnce (edit.now ∷ []) self.old.cards meter.old meter.new }
+        ensures anew { OnOk result (CountsAnew (edit.now ∷ []) self.old.cards meter.old meter.new) }
+        ensures due { against edit.now self.old.is_spent self.old.cards ≡ None → CountsWithinDue (edit.now ∷ []) self.old.cards meter.old meter.new }
     {
         self.edit_all(alloc, keys, slice::from_ref(edit), meter)
     }
@@ -156,21 +146,11 @@ impl Kept {
         edits: &[Edit],
         meter: &mut Meter,
     ) -> Result<(), RecordFault>
-        ensures refused { ForSome (against_all edits.now self.old.is_spent self.old.cards) (λ fault. (result ≡ Err fault) × (self.new ≡ self.old) × (meter.new ≡ meter.old)) }
-        ensures accepted { against_all edits.now self.old.is_spent self.old.cards ≡ None → IfErr result (λ fault. fault ≡ RecordFault.OutOfMemory) }
-        ensures made { IfOk result (λ _. IsRecordOf self.old.name (edited_by edits.now self.old.cards) self.new) }
-        ensures lost { result ≡ Err RecordFault.OutOfMemory → self.new.is_spent ≡ true }
-        ensures sized { meter.new.sized ≤ meter.old.sized + edits_bound edits.now self.old.cards }
-        ensures sized_front { RisesBehindFront edits.now self.old.cards meter.old.sized meter.new.sized }
-        ensures sized_anew { OnOk result (RisesToAnew edits.now self.old.cards meter.old.sized meter.new.sized) }
-        ensures coded_anew { OnOk result (RisesToRebound edits.now self.old.cards meter.old.coded meter.new.coded) }
-        ensures sized_due { against_all edits.now self.old.is_spent self.old.cards ≡ None → RisesWithinDue edits.now self.old.cards meter.old.sized meter.new.sized }
-        ensures coded_due { against_all edits.now self.old.is_spent self.old.cards ≡ None → RisesWithinDueCode edits.now self.old.cards meter.old.coded meter.new.coded }
-        ensures sized_sum { against_all edits.now self.old.is_spent self.old.cards ≡ None → RisesWithinSum (128 + cards_between edits.now (length self.old.cards)) edits.now self.old.cards meter.old.sized meter.new.sized }
-        ensures coded_sum { against_all edits.now self.old.is_spent self.old.cards ≡ None → RisesWithinSumCode (128 + cards_between edits.now (length self.old.cards)) edits.now self.old.cards meter.old.coded meter.new.coded }
-        ensures sized_rises { meter.old.sized ≤ meter.new.sized }
-        ensures coded { meter.new.coded ≤ meter.old.coded + edits_bound edits.now self.old.cards }
-        ensures coded_rises { meter.old.coded ≤ meter.new.coded }
+        ensures ends { EndsAs (against_all edits.now self.old.is_spent self.old.cards) (edited_by edits.now self.old.cards) self.old self.new meter.old meter.new result }
+        ensures counts { CountsAtOnce edits.now self.old.cards meter.old meter.new }
+        ensures anew { OnOk result (CountsAnew edits.now self.old.cards meter.old meter.new) }
+        ensures due { against_all edits.now self.old.is_spent self.old.cards ≡ None → CountsWithinDue edits.now self.old.cards meter.old meter.new }
+        ensures sums { against_all edits.now self.old.is_spent self.old.cards ≡ None → CountsWithinSums edits.now self.old.cards meter.old meter.new }
     {
         match self.fault_against(edits) {
             Some(fault) => Err(fault),
@@ -192,17 +172,10 @@ impl Kept {
         edits: &[Edit],
         meter: &mut Meter,
     ) -> Result<(), RecordFault>
-        ensures refused { ForSome (against_all edits.now self.old.is_spent self.old.cards) (λ fault. (result ≡ Err fault) × (self.new ≡ self.old) × (meter.new ≡ meter.old)) }
-        ensures accepted { against_all edits.now self.old.is_spent self.old.cards ≡ None → IfErr result (λ fault. fault ≡ RecordFault.OutOfMemory) }
-        ensures made { IfOk result (λ _. IsRecordOf self.old.name (edited_by edits.now self.old.cards) self.new) }
-        ensures lost { result ≡ Err RecordFault.OutOfMemory → self.new.is_spent ≡ true }
+        ensures ends { EndsAs (against_all edits.now self.old.is_spent self.old.cards) (edited_by edits.now self.old.cards) self.old self.new meter.old meter.new result }
         ensures counts { against_all edits.now self.old.is_spent self.old.cards ≡ None → CountsInOrder edits.now self.old.cards meter.old meter.new }
-        ensures sized_anew { OnOk result (RisesInGroups RisesToAnew edits.now self.old.cards meter.old.sized meter.new.sized) }
-        ensures coded_anew { OnOk result (RisesInGroups RisesToRebound edits.now self.old.cards meter.old.coded meter.new.coded) }
-        ensures sized { meter.new.sized ≤ meter.old.sized + statements_sum edits.now self.old.cards }
-        ensures sized_rises { meter.old.sized ≤ meter.new.sized }
-        ensures coded { meter.new.coded ≤ meter.old.coded + statements_sum edits.now self.old.cards }
-        ensures coded_rises { meter.old.coded ≤ meter.new.coded }
+        ensures few { CountsAtMost (statements_sum edits.now self.old.cards) meter.old meter.new }
+        ensures anew { OnOk result (CountsAnewInGroups edits.now self.old.cards meter.old meter.new) }
     {
         match self.fault_against(edits) {
             Some(fault) => Err(fault),
@@ -224,8 +197,7 @@ impl Kept {
         ensures made { IfOk result (λ _. IsRecordOf self.old.name (edited_by edits.now self.old.cards) self.new) }
         ensures lost { IfErr result (λ _. self.new.is_spent ≡ true) }
         ensures counts { CountsInOrder edits.now self.old.cards meter.old meter.new }
-        ensures sized_anew { OnOk result (RisesInGroups RisesToAnew edits.now self.old.cards meter.old.sized meter.new.sized) }
-        ensures coded_anew { OnOk result (RisesInGroups RisesToRebound edits.now self.old.cards meter.old.coded meter.new.coded) }
+        ensures anew { OnOk result (CountsAnewInGroups edits.now self.old.cards meter.old meter.new) }
     {
         self.is_whole();
         let mut left = edits;
@@ -272,18 +244,10 @@ impl Kept {
         meter: &mut Meter,
     ) -> Result<(), RecordFault>
         requires { against_all edits.now self.old.is_spent self.old.cards ≡ None }
-        ensures fault { IfErr result (λ fault. fault ≡ RecordFault.OutOfMemory) }
-        ensures made { IfOk result (λ _. IsRecordOf self.old.name (edited_by edits.now self.old.cards) self.new) }
-        ensures lost { result ≡ Err RecordFault.OutOfMemory → self.new.is_spent ≡ true }
-        ensures sized { meter.new.sized ≤ meter.old.sized + edits_bound edits.now self.old.cards }
-        ensures sized_front { RisesBehindFront edits.now self.old.cards meter.old.sized meter.new.sized }
-        ensures sized_anew { OnOk result (RisesToAnew edits.now self.old.cards meter.old.sized meter.new.sized) }
-        ensures coded_anew { OnOk result (RisesToRebound edits.now self.old.cards meter.old.coded meter.new.coded) }
-        ensures sized_due { RisesWithinDue edits.now self.old.cards meter.old.sized meter.new.sized }
-        ensures coded_due { RisesWithinDueCode edits.now self.old.cards meter.old.coded meter.new.coded }
-        ensures sized_rises { meter.old.sized ≤ meter.new.sized }
-        ensures coded { meter.new.coded ≤ meter.old.coded + edits_bound edits.now self.old.cards }
-        ensures coded_rises { meter.old.coded ≤ meter.new.coded }
+        ensures ends { EndsAs None (edited_by edits.now self.old.cards) self.old self.new meter.old meter.new result }
+        ensures counts { CountsAtOnce edits.now self.old.cards meter.old meter.new }
+        ensures anew { OnOk result (CountsAnew edits.now self.old.cards meter.old meter.new) }
+        ensures due { CountsWithinDue edits.now self.old.cards meter.old meter.new }
     {
         if edits.is_empty() {
             self.is_whole();
@@ -334,15 +298,10 @@ impl Kept {
         requires apply { first_fault edits.now self.now.cards ≡ None }
         requires deck { IsSizedDeck self.now.cards sized }
         ensures made { IfOk result (IsRecordOf self.now.name (edited_by edits.now self.now.cards)) }
-        ensures sized { meter.new.sized ≤ meter.old.sized + statement_count (edited_by edits.now self.now.cards) }
+        ensures few { CountsAtMost (statement_count (edited_by edits.now self.now.cards)) meter.old meter.new }
         ensures sized_front { RisesBehindFront edits.now self.now.cards meter.old.sized meter.new.sized }
-        ensures sized_anew { OnOk result (RisesToAnew edits.now self.now.cards meter.old.sized meter.new.sized) }
-        ensures coded_anew { OnOk result (RisesToRebound edits.now self.now.cards meter.old.coded meter.new.coded) }
-        ensures sized_due { RisesToDue edits.now self.now.cards meter.old.sized meter.new.sized }
-        ensures coded_due { RisesToDueCode edits.now self.now.cards meter.old.coded meter.new.coded }
-        ensures sized_rises { meter.old.sized ≤ meter.new.sized }
-        ensures coded { meter.new.coded ≤ meter.old.coded + statement_count (edited_by edits.now self.now.cards) }
-        ensures coded_rises { meter.old.coded ≤ meter.new.coded }
+        ensures anew { OnOk result (CountsAnew edits.now self.now.cards meter.old meter.new) }
+        ensures due { CountsToDue edits.now self.now.cards meter.old meter.new }
     {
         let own = self.cards();
         let old = OldCards {

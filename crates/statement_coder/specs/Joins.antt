@@ -16,4 +16,3 @@ pub mod FieldLetters
 pub mod Items
 pub mod Numbers
 pub mod FieldItems
-pub mod Meters

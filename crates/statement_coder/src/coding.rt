@@ -1,23 +1,18 @@
 //! What a sized statement is once all names have their values: its fields, and all its letters.
-ghost use Rattle.std.specs.Prelude.{◌≡◌, ◌≤◌, ◌+◌, ◌-◌, ◌^◌, [], List, ℕ, IfOk, OnErr, true, false, min, nat_le, if◌then◌else◌};
+ghost use Rattle.std.specs.Prelude.{◌≡◌, ◌≤◌, ◌+◌, ◌-◌, ◌^◌, [], List, IfOk, OnErr, true, false, min, nat_le, if◌then◌else◌};
 ghost use Rattle.definitions.specs.Operands as operands;
-ghost use Rattle.definitions.specs.Letters.{in_order, letters_of};
-ghost use Rattle.definitions.specs.Literals.{literal_form};
 ghost use Rattle.definitions.specs.Operations.{is_data};
-ghost use Rattle.definitions.specs.Settled.{Settled, defined, read_of};
+ghost use Rattle.definitions.specs.Settled.{Settled};
 ghost use Rattle.definitions.specs.Settling.{View};
 ghost use Rattle.definitions.specs.StatementItems as definitions;
 ghost use Rattle.definitions.specs.StatementItems.{items_of, operand_items};
-ghost use Rattle.definitions.specs.Statements as statements;
 ghost use Rattle.definitions.specs.declared.deck_kind.DeckKind as kinds;
-ghost use Rattle.statement_coder.specs.Joins.Items.{deck_with};
 ghost use Rattle.statement_coder.specs.declared.items.Item as fields;
 ghost use Rattle.operations.specs.Joins.OperationsAs.{operation_as};
 ghost use Rattle.statement_coder.specs.Joins.CodedItems.{AreTold, is_zeros, stores_zeros};
-ghost use Rattle.statement_coder.specs.Joins.CodedReads.{AreCodedItems, AreCodedLetters};
+ghost use Rattle.statement_coder.specs.Joins.CodedReads.{AreCodedItems, AreCodedLetters, HasLetters, ListsItems};
 ghost use Rattle.statement_coder.specs.Joins.Readings.{is_listed};
 ghost use Rattle.statement_coder.specs.Joins.Sizings.{IsSizing};
-ghost use Rattle.statement_coder.specs.Joins.StatementsRead.{IsRead};
 ghost use Rattle.statement_coder.specs.declared.sizing.Sizing as sizings;
 
 use crate::coded::{Coded, CodedItems};
@@ -138,15 +133,8 @@ pub fn code<S: FinalSymbols, B: BlockBases>(
     list: &mut Vec<Item>,
     meter: &mut Meter,
 ) -> Result<Coded, AllocError>
-    ensures items { IfOk result (λ coded. (kind : kinds.DeckKind) (given : statements.Statement) (view : View) (settled : Settled) (all : List Settled) (literals : List ℕ) →
-        IsRead kind given.cards statement.now → settled.read ≡ read_of kind sizing.now.number_base given → IsSizing view settled sizing.now →
-        S.symbols symbols.now ≡ (λ name. defined name all) → S.literals symbols.now ≡ (λ literal. literal_form literals literal) →
-        AreTold kind settled.read.operand sizing.now coded.items list.old.items list.new.items
-        (items_of (deck_with kind (B.rows bases.now) all literals) settled settled.read.operation)) }
-    ensures letters { IfOk result (λ coded. (kind : kinds.DeckKind) (given : statements.Statement) (view : View) (settled : Settled) (all : List Settled) (literals : List ℕ) →
-        IsRead kind given.cards statement.now → settled.read ≡ read_of kind sizing.now.number_base given → IsSizing view settled sizing.now →
-        S.symbols symbols.now ≡ (λ name. defined name all) → S.literals symbols.now ≡ (λ literal. literal_form literals literal) →
-        coded.letters ≡ in_order (letters_of (deck_with kind (B.rows bases.now) all literals) settled)) }
+    ensures items { IfOk result (λ coded. ListsItems statement.now sizing.now (S.symbols symbols.now) (S.literals symbols.now) (B.rows bases.now) coded list.old.items list.new.items) }
+    ensures letters { IfOk result (HasLetters statement.now sizing.now (S.symbols symbols.now) (S.literals symbols.now) (B.rows bases.now)) }
     ensures zeros { IfOk result (λ coded. is_zeros coded.items ≡ stores_zeros (operation_as statement.now.operation)) }
     ensures unchanged { OnErr result (list.new.items ≡ list.old.items) }
     ensures listed { OnErr result (is_data (operation_as statement.now.operation) ≡ true) }

@@ -1,5 +1,5 @@
 -- Decks whose texts are made part by part, each when it is written (ours).
-use Rattle.std.specs.Prelude.{ℕ, ◌≡◌, ◌<◌, ◌≤◌, ◌^◌, ⊤, List, [], ◌∷◌, ◌++◌, Vec, codes, flat_map, length, map}
+use Rattle.std.specs.Prelude.{ℕ, ◌≡◌, ◌<◌, ◌≤◌, ◌+◌, ◌^◌, ⊤, List, [], ◌∷◌, ◌++◌, Vec, codes, flat_map, length, map}
 use Rattle.std.specs.List.{AllZip}
 use Rattle.definitions.specs.Build.{build_of}
 use Rattle.definitions.specs.DeckInput.{Deck}
@@ -31,6 +31,14 @@ AreDeckWords layout based blocks = AreBlockWords (linking_of layout based) based
 abbrev pub DoFit : {A : Type 0} → (A → List ℕ) → ℕ → List A → Type 0
 DoFit text room [] = ⊤
 DoFit text room (x ∷ xs) = (length (text x) ≤ room) × DoFit text room xs
+
+-- the sections of the decks need no more
+abbrev pub DoSectionsFit : Layout → ℕ → Type 0
+DoSectionsFit layout room = DoFit (deck_section layout) room layout.decks
+
+-- how many bytes all texts have together, the listings so many of them, can be written
+abbrev pub AreFew : Layout → ℕ → List ℕ → Type 0
+AreFew layout listed map = listed + (length (flat_map (deck_section layout) layout.decks) + (length (end_text layout) + length map)) < 2 ^ 63
 
 -- all is there that the texts of decks are made of, and the sheet on which they are made has room for the longest part;
 -- how many bytes they have together can be written

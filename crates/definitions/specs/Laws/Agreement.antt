@@ -1,6 +1,6 @@
 -- When tails of the same cards are settled alike behind different statements: equal states, and equal values of the names that the tail defines or reads early (ours).
 -- `src/edit_laws.rt` and `src/state_laws.rt` have what comes of it.
-use Rattle.std.specs.Prelude.{ℕ, ◌≡◌, ⊤, List, [], ◌∷◌, ◌++◌, Option, Some, None, Bool, true, ◌&&◌, flat_map, if◌then◌else◌}
+use Rattle.std.specs.Prelude.{ℕ, ◌≡◌, ⊤, List, [], ◌∷◌, ◌++◌, Option, Some, None, Bool, true, ◌&&◌, flat_map, map, if◌then◌else◌}
 use Rattle.std.specs.List.{AllByRecursion}
 use Rattle.definitions.specs.Statements.{Statement}
 use Rattle.definitions.specs.Symbols.{is_symbol}
@@ -9,7 +9,7 @@ use Rattle.definitions.specs.Operations as op
 use Rattle.definitions.specs.Operations.{Operation, is_labelled}
 use Rattle.definitions.specs.Operands.{Operand, NamesOperand, ValueOperand}
 use Rattle.definitions.specs.Settled.{ReadStatement, Settled, defined}
-use Rattle.definitions.specs.Settling.{View, settle}
+use Rattle.definitions.specs.Settling.{View, settle, settled_all}
 use Rattle.definitions.specs.declared.deck_kind.DeckKind.{DeckKind}
 
 -- the symbols that an element is
@@ -74,3 +74,8 @@ HaveSameCards _ _ = ⊥
 abbrev pub AgreeOnTail : DeckKind → List Settled → List Settled → List Statement → Type 0
 AgreeOnTail kind earlier before tail =
     AllByRecursion (λ (settled : Settled). Agree (λ name. defined name earlier) (λ name. defined name before) (early_symbols settled.read)) (settled_tail kind earlier tail)
+
+-- two tails are settled alike behind their fronts, but for the numbers of cards before them
+abbrev pub SettleAlike : DeckKind → List Statement → List Statement → List Statement → List Statement → Type 0
+SettleAlike kind front other_front tail other_tail =
+    map unnumbered (settled_tail kind (settled_all kind front) tail) ≡ map unnumbered (settled_tail kind (settled_all kind other_front) other_tail)

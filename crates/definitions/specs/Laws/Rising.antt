@@ -1,9 +1,13 @@
 -- How far the statements of a block have come, and that each begins behind those before it.
 -- Lists of statements are read newest first.
-use Rattle.std.specs.Prelude.{ℕ, ◌≡◌, ◌*◌, ◌%◌, ◌<◌, ◌≤◌, ⊤, List, [], ◌∷◌, Bool, true, false}
+use Rattle.std.specs.Prelude.{ℕ, ◌≡◌, ◌*◌, ◌%◌, ◌<◌, ◌≤◌, ⊤, List, [], ◌∷◌, Bool, true, false, map}
 use Rattle.definitions.specs.Characters.{same_text}
 use Rattle.definitions.specs.Kinds.{units, word_bits, most_words}
-use Rattle.definitions.specs.StatementItems.{Item}
+use Rattle.definitions.specs.Objects.{coded_of}
+use Rattle.definitions.specs.Operations as op
+use Rattle.definitions.specs.Places.{position_in}
+use Rattle.definitions.specs.Settled.{Settled}
+use Rattle.definitions.specs.StatementItems.{Context, Item, items_of}
 use Rattle.definitions.specs.Words.{Coded}
 use Rattle.definitions.specs.declared.deck_kind.DeckKind.{DeckKind}
 use Rattle.definitions.specs.Laws.Filling.{DoFill, DoFit, AreLongWhole}
@@ -45,3 +49,29 @@ pub record IsLaidOut (kind : DeckKind) (coded : Coded) (earlier : List Coded) : 
 abbrev pub AreLaidOut : DeckKind → List Coded → Type 0
 AreLaidOut kind [] = ⊤
 AreLaidOut kind (coded ∷ earlier) = IsLaidOut kind coded earlier × AreLaidOut kind earlier
+
+-- a statement stands at or behind the end of its block
+abbrev pub StandsBehind : List Settled → Settled → Type 0
+StandsBehind earlier settled = (position_in settled.block earlier).end ≤ settled.place
+
+-- it ends at or behind its place, unless it begins a run
+abbrev pub EndsBehind : Settled → Type 0
+EndsBehind settled = settled.begins_run ≡ false → settled.place ≤ settled.end
+
+-- one that begins a run is an ORG, which goes to a word of the block and has no fields
+abbrev pub IsOrigin : DeckKind → Context → Settled → Type 0
+IsOrigin kind context settled = settled.begins_run ≡ true →
+    (settled.read.operation ≡ op.Org) × (settled.end % units kind ≡ 0) × (settled.end < units kind * most_words kind)
+    × (items_of context settled settled.read.operation ≡ [])
+
+-- its place is within the block
+abbrev pub StandsWithin : DeckKind → Settled → Type 0
+StandsWithin kind settled = settled.place ≤ units kind * most_words kind
+
+-- and so is its end
+abbrev pub EndsWithin : DeckKind → Settled → Type 0
+EndsWithin kind settled = settled.end ≤ units kind * most_words kind
+
+-- the fields of a run end within what its block has come to
+abbrev pub RunsEndWithin : Context → List ℕ → List Settled → Type 0
+RunsEndWithin context block settled = run_end block (map (coded_of context) settled) ≤ (position_in block settled).end

@@ -2,7 +2,7 @@
 use Rattle.std.specs.Prelude.{ℕ, ◌≡◌, None, List, drop, take}
 use Rattle.cards.specs.declared.edits.Edit.{Edit}
 use Rattle.cards.specs.Edits.{edited_by}
-use Rattle.statement_coder.specs.Joins.Meters.{Counts}
+use Rattle.statement_coder.specs.Meters.{Counts}
 use Rattle.edit_core.specs.Edited.{IsRecordOf, RisesToAnew, RisesToRebound}
 use Rattle.edit_core.specs.Faults.{against_all}
 use Rattle.edit_core.specs.Records.{Record}

@@ -1,9 +1,11 @@
 -- What an operand gives while it is matched, in the words of the definitions.
-use Rattle.std.specs.Prelude.{ℕ, List, Option, Some, None}
+use Rattle.std.specs.Prelude.{ℕ, ◌≡◌, List, Option, Some, None}
 use Rattle.definitions.specs.Pieces.{Piece}
-use Rattle.definitions.specs.Matching.{Field, NoField, OfK, OfN, Match, Instruction, instruction_of, subfield_matched}
+use Rattle.definitions.specs.Matching.{Field, NoField, OfK, OfN, Match, Instruction, central_of, instruction_of, subfield_matched}
 use Rattle.definitions.specs.declared.number_base.NumberBase.{NumberBase}
+use Rattle.expr_forms.specs.Joins.Operands.{IsOperand}
 use Rattle.expr_forms.specs.Joins.Shapes.{instruction_as}
+use Rattle.expr_forms.specs.declared.operands.Operand.{Operand}
 use Rattle.expr_forms.specs.declared.shapes.Shape.{Shape}
 use Rattle.operations.specs.Joins.RegistersFound.{digits_as}
 use Rattle.operations.specs.declared.central.found.CentralField as fields
@@ -36,3 +38,7 @@ shape_as (Some shape) = instruction_as shape
 abbrev pub fitted_as : Option fitteds.Fitted → Option Instruction
 fitted_as None = None
 fitted_as (Some fitted) = Some (instruction_of (code_text fitted.code) (found_as fitted.found))
+
+-- an operation with this operand, however it is cut, is this instruction, if any
+abbrev pub ReadsAs : List ℕ → Operand → Option Instruction → Type 0
+ReadsAs operation operand found = (base : NumberBase) (subfields : List (List Piece)) → IsOperand base subfields operand → central_of base operation subfields ≡ found

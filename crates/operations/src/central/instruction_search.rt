@@ -11,7 +11,7 @@ ghost use Rattle.expr_forms.specs.Joins.Operands.{IsOperand};
 ghost use Rattle.expr_forms.specs.Joins.Shapes.{instruction_as};
 ghost use Rattle.operations.specs.Joins.CentralTables.{operand_row, sum_row, operand_rows_of, sum_rows_of, is_some_of};
 ghost use Rattle.operations.specs.Joins.LawfulCodes.{has_lawful_code, has_lawful_codes};
-ghost use Rattle.operations.specs.Joins.Found.{shape_as};
+ghost use Rattle.operations.specs.Joins.Found.{ReadsAs, shape_as};
 
 use crate::Row;
 use crate::central::central_fits::central_fit;
@@ -79,10 +79,8 @@ fn fit<'a>(
     requires others { map operand_row others.now ≡ operand_rows_of operation.now }
     requires lawful_sums { IsTrue (list_all has_lawful_codes sums.now) }
     requires lawful_others { IsTrue (list_all has_lawful_code others.now) }
-    ensures found { IfOk result (λ shape. (base : NumberBase) (subfields : List (List Piece)) → IsOperand base subfields operand.now →
-        central_of base operation.now subfields ≡ instruction_as shape) }
-    ensures refused { IfErr result (λ letter. (base : NumberBase) (subfields : List (List Piece)) → IsOperand base subfields operand.now →
-        central_of base operation.now subfields ≡ None) }
+    ensures found { IfOk result (λ shape. ReadsAs operation.now operand.now (instruction_as shape)) }
+    ensures refused { IfErr result (λ letter. ReadsAs operation.now operand.now None) }
     ensures letter { IfErr result (λ letter. letter ≡ (if is_central operation.now then letters.V else letters.O)) }
     ensures central { IfOk result (λ shape. IsTrue (is_some (instruction_as shape))) }
     ensures short { IfOk result (λ shape. shape.digit_count ≤ 10) }

@@ -5,18 +5,22 @@ use Rattle.definitions.specs.Forms.{Form}
 use Rattle.definitions.specs.Lengths.{BlockRow}
 use Rattle.definitions.specs.Letters.{in_order, letters_of}
 use Rattle.definitions.specs.Literals.{literal_form}
-use Rattle.definitions.specs.Settled.{Settled, defined}
+use Rattle.definitions.specs.Settled.{Settled, defined, read_of}
 use Rattle.definitions.specs.Settling.{View}
 use Rattle.definitions.specs.StatementItems.{items_of}
+use Rattle.definitions.specs.Statements as statements
+use Rattle.definitions.specs.declared.deck_kind.DeckKind.{DeckKind}
 use Rattle.definitions.specs.declared.letter.Letter.{Letter}
 use Rattle.statement_coder.specs.Joins.Items.{deck_with}
 use Rattle.statement_coder.specs.Joins.CodedItems.{AreTold}
 use Rattle.statement_coder.specs.Joins.ReadOperands.{IsReadOperand}
 use Rattle.statement_coder.specs.Joins.Sizings.{IsSizing}
+use Rattle.statement_coder.specs.Joins.StatementsRead.{IsRead}
 use Rattle.statement_coder.specs.declared.coded.Coded.{Coded}
 use Rattle.statement_coder.specs.declared.items.Item as code
 use Rattle.statement_coder.specs.declared.read_operands.ReadOperand.{ReadOperand}
 use Rattle.statement_coder.specs.declared.sizing.Sizing.{Sizing}
+use Rattle.statement_coder.specs.declared.statement.Statement.{Statement}
 
 -- the fields that are listed, with the list before and after it, are the definitions' of every settled statement that was so read and sized
 abbrev pub AreCodedItems : ReadOperand → Sizing → View → (Literal → Result Form Letter) → List BlockRow → Coded → List code.Item → List code.Item → Type 0
@@ -31,3 +35,19 @@ AreCodedLetters read sizing symbols literals rows coded =
     (view : View) (settled : Settled) (all : List Settled) (words : List ℕ) → symbols ≡ (λ name. defined name all) → literals ≡ (λ literal. literal_form words literal) →
     IsSizing view settled sizing → IsReadOperand read settled →
     coded.letters ≡ in_order (letters_of (deck_with read.kind rows all words) settled)
+
+-- the fields that are listed, with the list before and after it, are the definitions' of every statement that was so read and sized
+abbrev pub ListsItems : Statement → Sizing → View → (Literal → Result Form Letter) → List BlockRow → Coded → List code.Item → List code.Item → Type 0
+ListsItems statement sizing symbols literals rows coded before after =
+    (kind : DeckKind) (given : statements.Statement) (view : View) (settled : Settled) (all : List Settled) (words : List ℕ) →
+    IsRead kind given.cards statement → settled.read ≡ read_of kind sizing.number_base given → IsSizing view settled sizing →
+    symbols ≡ (λ name. defined name all) → literals ≡ (λ literal. literal_form words literal) →
+    AreTold kind settled.read.operand sizing coded.items before after (items_of (deck_with kind rows all words) settled settled.read.operation)
+
+-- and so are the letters
+abbrev pub HasLetters : Statement → Sizing → View → (Literal → Result Form Letter) → List BlockRow → Coded → Type 0
+HasLetters statement sizing symbols literals rows coded =
+    (kind : DeckKind) (given : statements.Statement) (view : View) (settled : Settled) (all : List Settled) (words : List ℕ) →
+    IsRead kind given.cards statement → settled.read ≡ read_of kind sizing.number_base given → IsSizing view settled sizing →
+    symbols ≡ (λ name. defined name all) → literals ≡ (λ literal. literal_form words literal) →
+    coded.letters ≡ in_order (letters_of (deck_with kind rows all words) settled)

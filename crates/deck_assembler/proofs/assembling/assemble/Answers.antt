@@ -2,7 +2,7 @@ use Rattle.std.proofs.Common.{◌+◌, List, ℕ, length, reverse, OnOk, sym, su
 use Rattle.definitions.specs.Cards.{Card}
 use Rattle.definitions.specs.DeckKinds.{up_to_end}
 use Rattle.definitions.specs.Statements.{statements_of}
-use Rattle.statement_coder.specs.Joins.Meters.{RisesBy}
+use Rattle.statement_coder.specs.Meters.{RisesBy}
 use Rattle.deck_assembler.proofs.ResultLaws.{on_ok_any}
 use Rattle.deck_assembler.proofs.assembling.assemble.Goals as goal
 

@@ -13,10 +13,10 @@ always (Err error) holds = tt
 pub returns-in-Ok-clause-all : goal.returns-in-Ok-clause-all
 returns-in-Ok-clause-all c =
     let begins = c.begun.ensures.meter in
-    let sized = c.edit_in_order.ensures.sized in
-    let sized_rises = c.edit_in_order.ensures.sized_rises in
-    let coded = c.edit_in_order.ensures.coded in
-    let coded_rises = c.edit_in_order.ensures.coded_rises in
+    let sized = c.edit_in_order.ensures.few.sized_few in
+    let sized_rises = c.edit_in_order.ensures.few.sized_rises in
+    let coded = c.edit_in_order.ensures.few.coded_few in
+    let coded_rises = c.edit_in_order.ensures.few.coded_rises in
     let all = c.in_ok-kept.ensures.all in
     let same = ap (statements_sum c.args.edits.now) c.in_ok-kept.ensures.deck.1 in
     always c.finished.result (record {

@@ -1,5 +1,5 @@
 use Rattle.std.proofs.Common.{◌≡◌, ◌+◌, ap, ◌∙◌, arith, length, length-append}
-use Rattle.desk_service.specs.PageThreads.{page_threads}
+use Rattle.desk_service.specs.Seating.{page_threads, IsPlaceOf}
 use Rattle.desk_service.proofs.PlaceSteps.{numbers-more-from, all-more}
 use Rattle.desk_service.proofs.pages.page_places.Goals as goal
 
@@ -15,7 +15,7 @@ loop-turn-preserved g c =
       all = ap length pushed ∙ (length-append c.loop-turn.places.items _ ∙ ap (λ n. n + 1) before.all);
       number = numbers-more-from (c.args.settings.now.sessions + c.args.settings.now.readers) _ _ _ _ _ before.number pushed (ap (λ p. p.1.1.number) page ∙ c.new-shelf.ensures.number);
       ends = numbers-more-from (c.args.settings.now.sessions + c.args.settings.now.readers) _ _ _ _ _ before.ends pushed (ap (λ p. p.1.0.1.session) page ∙ c.session_door-desk.ensures.session);
-      folder = all-more (λ place. place.page.1.1.folder ≡ c.args.settings.now.root.now) _ _ _ before.folder pushed (ap (λ p. p.1.1.folder) page ∙ c.new-shelf.ensures.folder);
-      office = all-more (λ place. place.page.1.0.0.seat.office ≡ c.args.office.now.id) _ _ _ before.office pushed (ap (λ p. p.1.0.0.seat.office) page ∙ c.session_door-desk.ensures.office);
+      served = all-more (λ place. IsPlaceOf c.args.settings.now c.args.office.now.id place.page.1.1.folder place.page.1.0.0.seat.office) _ _ _ before.served pushed
+          (ap (λ p. p.1.1.folder) page ∙ c.new-shelf.ensures.folder, ap (λ p. p.1.0.0.seat.office) page ∙ c.session_door-desk.ensures.office);
       port = all-more (λ place. place.page.0 ≡ c.in-Some.entrance.port) _ _ _ before.port pushed (ap (λ p. p.0) page);
     }

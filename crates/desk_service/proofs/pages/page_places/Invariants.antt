@@ -1,5 +1,6 @@
 use Rattle.std.proofs.Common.{◌≡◌, ◌+◌, All, length, map}
 use Rattle.std.specs.List.{range_with_len}
+use Rattle.desk_service.specs.Seating.{IsPlaceOf}
 use Rattle.turn_office.specs.Seats.{AreOf}
 use Rattle.desk_service.proofs.pages.page_places.Given as goal
 
@@ -11,7 +12,6 @@ invariant-loop-turn g l = record {
   all : length l.places.items ≡ l.turn;
   number : map (λ place. place.page.1.1.number) l.places.items ≡ range_with_len (l.settings.sessions + l.settings.readers) l.turn;
   ends : map (λ place. place.page.1.0.1.session) l.places.items ≡ range_with_len (l.settings.sessions + l.settings.readers) l.turn;
-  folder : All (λ place. place.page.1.1.folder ≡ l.settings.root.now) l.places.items;
-  office : All (λ place. place.page.1.0.0.seat.office ≡ l.office.id) l.places.items;
+  served : All (λ place. IsPlaceOf l.settings l.office.id place.page.1.1.folder place.page.1.0.0.seat.office) l.places.items;
   port : All (λ place. place.page.0 ≡ l.entrance.port) l.places.items;
 }

@@ -1,7 +1,6 @@
 use Rattle.std.proofs.Common.{◌≡◌, ◌+◌, All, length, map}
-use Rattle.std.specs.List.{range_with_len}
-use Rattle.desk_service.specs.Company.{rights_at}
 use Rattle.desk_service.specs.Connections.{rights_of}
+use Rattle.desk_service.specs.Seating.{AreForSessions, IsServedFor}
 use Rattle.turn_office.specs.Seats.{AreOf}
 use Rattle.desk_service.proofs.places.session_places.Given as goal
 
@@ -11,12 +10,8 @@ invariant-loop-number g l = record {
   own : AreOf l.office.id l.seats.items;
   left : length l.seats.items + l.number ≡ length l.fn.seats.items;
   all : length l.places.items ≡ l.number;
-  number : map (λ place. place.shelf.number) l.places.items ≡ range_with_len 0 l.number;
-  session : map (λ place. place.serving.session) l.places.items ≡ range_with_len 0 l.number;
-  ends : map (λ place. place.desk.1.session) l.places.items ≡ range_with_len 0 l.number;
-  rights : All (λ place. place.serving.rights ≡ rights_at l.settings.sessions place.serving.session) l.places.items;
+  numbers : AreForSessions l.number (map (λ place. place.shelf.number) l.places.items) (map (λ place. place.serving.session) l.places.items) (map (λ place. place.desk.1.session) l.places.items);
+  served : All (λ place. IsServedFor l.settings place.serving.session place.serving.rights place.serving.once place.shelf.folder) l.places.items;
   clients : All (λ place. rights_of place.clients ≡ place.serving.rights) l.places.items;
-  folder : All (λ place. place.shelf.folder ≡ l.settings.root.now) l.places.items;
-  once : All (λ place. place.serving.once ≡ l.settings.once) l.places.items;
   office : All (λ place. place.desk.0.seat.office ≡ l.office.id) l.places.items;
 }

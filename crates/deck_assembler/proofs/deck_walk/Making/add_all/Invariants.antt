@@ -1,7 +1,7 @@
 use Rattle.std.proofs.Common.{◌≡◌, ℕ, ◌≤◌, ◌+◌, ◌++◌, List, drop}
 use Rattle.definitions.specs.StatementItems.{Context}
 use Rattle.definitions.specs.Statements.{Statement}
-use Rattle.statement_coder.specs.Joins.Meters.{RisesBy}
+use Rattle.statement_coder.specs.Meters.{RisesBy}
 use Rattle.deck_assembler.specs.declared.sized_statement.SizedStatement as code
 use Rattle.deck_assembler.specs.Joins.Walks.{IsWhole, whole_of}
 use Rattle.deck_assembler.specs.Joins.DueCodes.{CodePlan, IsPlanned, IsWalkedAnew, IsWalkedDue}

@@ -1,5 +1,5 @@
 -- The next statement is one more, kept or sized, and the old deck goes on behind it.
-use Rattle.std.proofs.Common.{ℕ, inl, inr, true≢false, refl, ap, sym, subst, ◌∙◌}
+use Rattle.std.proofs.Common.{ℕ, inl, inr, true≢false, refl, ap, sym, subst, arith, ◌∙◌}
 use Rattle.std.specs.Prelude.{Option, IfSome, is_some}
 use Rattle.deck_assembler.proofs.ResultLaws.{on_ok_any, on_ok_one}
 use Rattle.cards.specs.Joins.Spans.{statement_at}
@@ -30,89 +30,109 @@ keep_span-requires-clause-operation c =
     let both = subst (λ (found : Option SizedStatement). IfSome found (IsThatOf c.args.cards.now c.args.span c.args.self.now c.args.old_deck.now)) c.in-Some.is c.in_ok-kept.ensures.sized c.args.kind r.0 r.1 r.2 in
     sym both.0.operation
 
+pub returns-in_err-kept-clause-counts : goal.returns-in_err-kept-clause-counts
+returns-in_err-kept-clause-counts c = record {
+  kept = λ old earlier on goes. refl;
+  in_time = λ old earlier limit on next will. inl refl;
+  sized = omega arith;
+  rises = omega arith;
+  coded = refl;
+}
+
 pub returns-in-Some-clause-taken : goal.returns-in-Some-clause-taken
 returns-in-Some-clause-taken c =
     let kind = c.args.kind in
     let cards = c.args.cards.now in
-    let span = c.args.span in
-    let found = subst (λ (found : Option SizedStatement). IfSome found (IsThatOf cards span c.args.self.now c.args.old_deck.now)) c.in-Some.is c.in_ok-kept.ensures.sized in
+    let found = subst (λ (found : Option SizedStatement). IfSome found (IsThatOf cards c.args.span c.args.self.now c.args.old_deck.now)) c.in-Some.is c.in_ok-kept.ensures.sized in
     on_ok_one c.keep_span.result _ _ (λ step old earlier on.
     let both = found kind old earlier on in
-    let next = subst (λ (n : ℕ). IsNext cards earlier n (statement_at cards span)) (sym both.1.0) on.next in
-    (step earlier next on.sizer_is both.0, c.in_ok-kept.ensures.kept kind old earlier on)) c.keep_span.ensures.kept
+    let next = subst (λ (n : ℕ). IsNext cards earlier n (statement_at cards c.args.span)) (sym both.1.0) on.next in
+    record {
+      taken = step earlier next on.sizer_is both.0;
+      kept_on = c.in_ok-kept.ensures.kept kind old earlier on;
+      front = λ goes. let front = c.in_ok-kept.ensures.front kind old earlier on goes in (front.stage, front.before);
+      due = λ limit next will. (c.in_ok-kept.ensures.due kind old earlier limit on next will).will;
+    }) c.keep_span.ensures.kept
 
 pub returns-in-None-clause-taken : goal.returns-in-None-clause-taken
 returns-in-None-clause-taken c =
     let kind = c.args.kind in
-    on_ok_one c.take_span-in-None.result _ _ (λ step old earlier on. (step earlier on.next on.sizer_is, c.in_ok-kept.ensures.kept kind old earlier on)) c.take_span-in-None.ensures.taken
+    on_ok_one c.take_span-in-None.result _ _ (λ step old earlier on. record {
+      taken = step earlier on.next on.sizer_is;
+      kept_on = c.in_ok-kept.ensures.kept kind old earlier on;
+      front = λ goes. let front = c.in_ok-kept.ensures.front kind old earlier on goes in (front.stage, front.before);
+      due = λ limit next will. (c.in_ok-kept.ensures.due kind old earlier limit on next will).will;
+    }) c.take_span-in-None.ensures.taken
 
-pub returns-in-Some-clause-front : goal.returns-in-Some-clause-front
-returns-in-Some-clause-front c = on_ok_any c.keep_span.result (λ old earlier on goes.
-    let front = c.in_ok-kept.ensures.front c.args.kind old earlier on goes in
-    (front.stage, front.before))
+pub returns-in-Some-clause-counts : goal.returns-in-Some-clause-counts
+returns-in-Some-clause-counts c = record {
+  kept = λ old earlier on goes. refl;
+  in_time = λ old earlier limit on next will. inl refl;
+  sized = omega arith;
+  rises = omega arith;
+  coded = refl;
+}
 
-pub returns-in-None-clause-front : goal.returns-in-None-clause-front
-returns-in-None-clause-front c = on_ok_any c.take_span-in-None.result (λ old earlier on goes.
-    let front = c.in_ok-kept.ensures.front c.args.kind old earlier on goes in
-    (front.stage, front.before))
-
-pub returns-in-None-clause-kept : goal.returns-in-None-clause-kept
-returns-in-None-clause-kept c = λ old earlier on goes.
-    let front = c.in_ok-kept.ensures.front c.args.kind old earlier on goes in
-    absurd (true≢false (sym front.some ∙ ap is_some c.in-None.is))
-
-pub returns-in-Some-clause-all : goal.returns-in-Some-clause-all
-returns-in-Some-clause-all c = on_ok_any c.keep_span.result (λ over.
-    let none = c.in_ok-kept.ensures.none over in
-    let some = c.in-Some.is in
-    absurd (cc))
-
-pub returns-in-Some-clause-due : goal.returns-in-Some-clause-due
-returns-in-Some-clause-due c = on_ok_any c.keep_span.result (λ old earlier limit on next will. (c.in_ok-kept.ensures.due c.args.kind old earlier limit on next will).will)
-
-pub returns-in-None-clause-due : goal.returns-in-None-clause-due
-returns-in-None-clause-due c = on_ok_any c.take_span-in-None.result (λ old earlier limit on next will. (c.in_ok-kept.ensures.due c.args.kind old earlier limit on next will).will)
-
-pub returns-in-None-clause-in_time : goal.returns-in-None-clause-in_time
-returns-in-None-clause-in_time c = λ old earlier limit on next will. inr ((c.in_ok-kept.ensures.due c.args.kind old earlier limit on next will).sized c.in-None.is)
+pub returns-in-None-clause-counts : goal.returns-in-None-clause-counts
+returns-in-None-clause-counts c =
+    let sized = c.take_span-in-None.ensures.sized in
+    record {
+      kept = λ old earlier on goes.
+          let front = c.in_ok-kept.ensures.front c.args.kind old earlier on goes in
+          absurd (true≢false (sym front.some ∙ ap is_some c.in-None.is));
+      in_time = λ old earlier limit on next will. inr ((c.in_ok-kept.ensures.due c.args.kind old earlier limit on next will).sized c.in-None.is);
+      sized = omega (arith, sized);
+      rises = c.take_span-in-None.ensures.rises;
+      coded = c.take_span-in-None.ensures.coded;
+    }
 
 -- what is kept is settled as one of the old deck, and all else is counted
-pub returns-in-Some-clause-anew : goal.returns-in-Some-clause-anew
-returns-in-Some-clause-anew c =
+pub returns-in-Some-clause-counted : goal.returns-in-Some-clause-counted
+returns-in-Some-clause-counted c =
     let found = subst (λ (found : Option SizedStatement). IfSome found (IsThatOf c.args.cards.now c.args.span c.args.self.now c.args.old_deck.now)) c.in-Some.is c.in_ok-kept.ensures.sized in
-    on_ok_any c.keep_span.result (λ old earlier on. inr (refl, (found c.args.kind old earlier on).1.1))
+    on_ok_any c.keep_span.result (record {
+      anew = λ old earlier on. inr (refl, (found c.args.kind old earlier on).1.1);
+      all = λ over.
+          let none = c.in_ok-kept.ensures.none over in
+          let some = c.in-Some.is in
+          absurd (cc);
+    })
 
-pub returns-in-None-clause-anew : goal.returns-in-None-clause-anew
-returns-in-None-clause-anew c = on_ok_any c.take_span-in-None.result (λ old earlier on. inl c.take_span-in-None.ensures.sized)
+pub returns-in-None-clause-counted : goal.returns-in-None-clause-counted
+returns-in-None-clause-counted c =
+    on_ok_any c.take_span-in-None.result (record { anew = λ old earlier on. inl c.take_span-in-None.ensures.sized; all = λ over. c.take_span-in-None.ensures.sized })
 
 -- where the old deck is over it stays as it is
 pub returns-in-Over-clause-taken : goal.returns-in-Over-clause-taken
 returns-in-Over-clause-taken c =
+    let kind = c.args.kind in
     let cards = c.args.cards.now in
     let deck = c.args.old_deck.now in
-    on_ok_one c.take_span.result _ _ (λ step old earlier on. (
-      step earlier on.next on.sizer_is,
-      goes-on c.args.kind old cards earlier _ c.args.span c.args.self.now deck deck on (record { kind = refl; before = refl; behind = refl })
-          (subst (IsAtStage c.args.kind old cards _ deck) (sym c.in-Over.is) tt),
-    )) c.take_span.ensures.taken
+    on_ok_one c.take_span.result _ _ (λ step old earlier on. record {
+      taken = step earlier on.next on.sizer_is;
+      kept_on = goes-on kind old cards earlier _ c.args.span c.args.self.now deck deck on (record { kind = refl; before = refl; behind = refl })
+          (subst (IsAtStage kind old cards _ deck) (sym c.in-Over.is) tt);
+      front = λ goes.
+          let front = goes.stands.stage in
+          let over = c.in-Over.is in
+          absurd (cc);
+      due = λ limit next will. absurd (subst (WillAgreeAt kind old cards limit earlier deck) c.in-Over.is will);
+    }) c.take_span.ensures.taken
 
-pub returns-in-Over-clause-front : goal.returns-in-Over-clause-front
-returns-in-Over-clause-front c = on_ok_any c.take_span.result (λ old earlier on goes.
-    let front = goes.stands.stage in
-    let over = c.in-Over.is in
-    absurd (cc))
+pub returns-in-Over-clause-counts : goal.returns-in-Over-clause-counts
+returns-in-Over-clause-counts c =
+    let sized = c.take_span.ensures.sized in
+    record {
+      kept = λ old earlier on goes.
+          let front = goes.stands.stage in
+          let over = c.in-Over.is in
+          absurd (cc);
+      in_time = λ old earlier limit on next will. absurd (subst (WillAgreeAt c.args.kind old c.args.cards.now limit earlier c.args.old_deck.now) c.in-Over.is will);
+      sized = omega (arith, sized);
+      rises = c.take_span.ensures.rises;
+      coded = c.take_span.ensures.coded;
+    }
 
-pub returns-in-Over-clause-kept : goal.returns-in-Over-clause-kept
-returns-in-Over-clause-kept c = λ old earlier on goes.
-    let front = goes.stands.stage in
-    let over = c.in-Over.is in
-    absurd (cc)
-
-pub returns-in-Over-clause-due : goal.returns-in-Over-clause-due
-returns-in-Over-clause-due c = on_ok_any c.take_span.result (λ old earlier limit on next will. absurd (subst (WillAgreeAt c.args.kind old c.args.cards.now limit earlier c.args.old_deck.now) c.in-Over.is will))
-
-pub returns-in-Over-clause-in_time : goal.returns-in-Over-clause-in_time
-returns-in-Over-clause-in_time c = λ old earlier limit on next will. absurd (subst (WillAgreeAt c.args.kind old c.args.cards.now limit earlier c.args.old_deck.now) c.in-Over.is will)
-
-pub returns-in-Over-clause-anew : goal.returns-in-Over-clause-anew
-returns-in-Over-clause-anew c = on_ok_any c.take_span.result (λ old earlier on. inl c.take_span.ensures.sized)
+pub returns-in-Over-clause-counted : goal.returns-in-Over-clause-counted
+returns-in-Over-clause-counted c =
+    on_ok_any c.take_span.result (record { anew = λ old earlier on. inl c.take_span.ensures.sized; all = λ over. c.take_span.ensures.sized })

@@ -2,7 +2,7 @@ use Rattle.std.proofs.Common.{ℕ, ◌≡◌, length, ◌+◌, ◌≤◌, List, 
 use Rattle.definitions.specs.Cards.{Card}
 use Rattle.definitions.specs.DeckKinds.{has_end, up_to_end}
 use Rattle.definitions.specs.Statements.{Statement}
-use Rattle.statement_coder.specs.Joins.Meters.{RisesBy}
+use Rattle.statement_coder.specs.Meters.{RisesBy}
 use Rattle.deck_assembler.specs.Joins.FirstStatements.{first_statements, all_statements}
 use Rattle.deck_assembler.specs.Joins.Formers.{known_in}
 use Rattle.deck_assembler.specs.Joins.Meetings.{IsBounded, WillAgree}

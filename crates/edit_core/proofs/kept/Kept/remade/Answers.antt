@@ -1,5 +1,5 @@
 -- The edited cards are few, and those before and behind the edited ones are of the deck before.
-use Rattle.std.proofs.Common.{◌≡◌, ◌≤◌, None, List, length, take, refl, sym, ap, arith, subst, ◌∙◌}
+use Rattle.std.proofs.Common.{◌≡◌, ◌≤◌, None, List, length, take, refl, sym, ap, arith, subst, ◌∙◌, rules}
 use Rattle.cards.specs.Edits.{edited_by, first_fault}
 use Rattle.definitions.specs.Cards.{Card}
 use Rattle.definitions.specs.DeckInput.{Deck}
@@ -43,7 +43,7 @@ pub edited_object-requires-clause-former : goal.edited_object-requires-clause-fo
 edited_object-requires-clause-former c =
     subst (λ (cards : List Card). IsFormerOf cards c.in_ok-edited.edited.former)
     (c.cards-own.ensures.cards ∙ sym (ap (λ (r : Record). r.cards) c.self.view_is) ∙ sym (ap (λ (d : Deck). d.cards) c.object.ensures))
-    c.in_ok-edited.ensures.former
+    c.in_ok-edited.ensures.former.former_is
 
 pub edited_object-requires-clause-edited : goal.edited_object-requires-clause-edited
 edited_object-requires-clause-edited c =
@@ -55,8 +55,8 @@ edited_object-requires-clause-edited c =
     record {
       same = ap (λ (d : Deck). take n d.cards) c.object.ensures
           ∙ ap (λ (r : Record). take n r.cards) c.self.view_is
-          ∙ sym (ap (take n) now ∙ subst (λ m. take m (edited_by c.args.edits.now c.args.self.now.cards) ≡ take m c.args.self.now.cards) (sym c.in_ok-edited.ensures.before) unchanged);
-      tail = subst (λ (both : List Card × List Card). HasTailIfAny (kind_of_statements (known_in both.1)) both.0 both.1 former.tail (known_in both.1)) (λ i. (own i, c.deref.ensures.value i)) c.in_ok-edited.ensures.tail;
+          ∙ sym (ap (take n) now ∙ subst (λ m. take m (edited_by c.args.edits.now c.args.self.now.cards) ≡ take m c.args.self.now.cards) (sym c.in_ok-edited.ensures.former.before_is) unchanged);
+      tail = subst (λ (both : List Card × List Card). HasTailIfAny (kind_of_statements (known_in both.1)) both.0 both.1 former.tail (known_in both.1)) (λ i. (own i, c.deref.ensures.value i)) c.in_ok-edited.ensures.former.tail;
     }
 
 pub of-requires-clause-few : goal.of-requires-clause-few
@@ -67,26 +67,58 @@ of-requires-clause-few c =
     let own = ap (λ (cards : List Card). length cards) now in
     omega (arith, few, made, own)
 
+pub returns-in_err-cards-clause-few : goal.returns-in_err-cards-clause-few
+returns-in_err-cards-clause-few c = record {
+  sized_rises = first_of (search rules, cc);
+  sized_few = first_of (search rules, cc);
+  coded_rises = first_of (search rules, cc);
+  coded_few = first_of (search rules, cc);
+}
+
+pub returns-in_err-edited-clause-few : goal.returns-in_err-edited-clause-few
+returns-in_err-edited-clause-few c = record {
+  sized_rises = first_of (search rules, cc);
+  sized_few = first_of (search rules, cc);
+  coded_rises = first_of (search rules, cc);
+  coded_few = first_of (search rules, cc);
+}
+
+pub returns-in_err-object-clause-few : goal.returns-in_err-object-clause-few
+returns-in_err-object-clause-few c = record {
+  sized_rises = first_of (search rules, cc);
+  sized_few = first_of (search rules, cc);
+  coded_rises = first_of (search rules, cc);
+  coded_few = first_of (search rules, cc);
+}
+
+pub returns-clause-few : goal.returns-clause-few
+returns-clause-few c = record {
+  sized_rises = first_of (search rules, cc);
+  sized_few = first_of (search rules, cc);
+  coded_rises = first_of (search rules, cc);
+  coded_few = first_of (search rules, cc);
+}
+
 pub returns-in_err-cards-clause-sized_front : goal.returns-in_err-cards-clause-sized_front
 returns-in_err-cards-clause-sized_front c = front-still c.args.edits.now c.args.self.now.cards c.args.meter.now.sized
 
 pub returns-in_err-edited-clause-sized_front : goal.returns-in_err-edited-clause-sized_front
 returns-in_err-edited-clause-sized_front c =
     (front-edited c.args.edits.now c.cards-own.result.now c.args.self.now.cards _ c.cards_before_all.result _ _ c.cards-own.ensures.cards (c.deref.ensures.value ∙ c.in_ok-cards.ensures)
-    c.cards_before_all.ensures.most c.cards-own.ensures.few c.edited.ensures.front)
+    c.cards_before_all.ensures.most c.cards-own.ensures.few c.edited.ensures.counts.front)
 
 pub returns-in_err-object-clause-sized_front : goal.returns-in_err-object-clause-sized_front
 returns-in_err-object-clause-sized_front c = subst (RisesBehindFront c.args.edits.now c.args.self.now.cards c.args.meter.now.sized) (sym c.edited_object.ensures.sized)
     (front-edited c.args.edits.now c.cards-own.result.now c.args.self.now.cards _ c.cards_before_all.result _ _ c.cards-own.ensures.cards (c.deref.ensures.value ∙ c.in_ok-cards.ensures)
-    c.cards_before_all.ensures.most c.cards-own.ensures.few c.edited.ensures.front)
+    c.cards_before_all.ensures.most c.cards-own.ensures.few c.edited.ensures.counts.front)
 
 pub returns-clause-sized_front : goal.returns-clause-sized_front
 returns-clause-sized_front c = subst (RisesBehindFront c.args.edits.now c.args.self.now.cards c.args.meter.now.sized) (sym c.edited_object.ensures.sized)
     (front-edited c.args.edits.now c.cards-own.result.now c.args.self.now.cards _ c.cards_before_all.result _ _ c.cards-own.ensures.cards (c.deref.ensures.value ∙ c.in_ok-cards.ensures)
-    c.cards_before_all.ensures.most c.cards-own.ensures.few c.edited.ensures.front)
+    c.cards_before_all.ensures.most c.cards-own.ensures.few c.edited.ensures.counts.front)
 
-pub returns-in_err-edited-clause-sized_due : goal.returns-in_err-edited-clause-sized_due
-returns-in_err-edited-clause-sized_due c =
+pub returns-in_err-cards-clause-due : goal.returns-in_err-cards-clause-due
+returns-in_err-cards-clause-due c =
     let edits = c.args.edits.now in
     let own = c.cards-own.result.now in
     let cards = c.args.self.now.cards in
@@ -94,10 +126,13 @@ returns-in_err-edited-clause-sized_due c =
     let few = c.cards-own.ensures.few in
     let taken = are-taken edits own cards c.cards_before_all.result c.cards_behind_all.result same c.requires.some c.requires.apply few c.cards_before_all.ensures.all c.cards_before_all.ensures.most
     c.cards_behind_all.ensures.most in
-    due-edited edits c.cards-own.result.now c.args.self.now.cards _ c.cards_before_all.result c.cards_behind_all.result _ _ c.cards-own.ensures.cards (c.deref.ensures.value ∙ c.in_ok-cards.ensures) taken c.edited.ensures.rises c.edited.ensures.front c.edited.ensures.due
+    record {
+      sized = due-still edits cards c.cards_before_all.result c.cards_behind_all.result c.args.meter.now.sized taken;
+      coded = due-code-still edits cards c.cards_before_all.result c.cards_behind_all.result c.args.meter.now.coded taken;
+    }
 
-pub returns-in_err-object-clause-sized_due : goal.returns-in_err-object-clause-sized_due
-returns-in_err-object-clause-sized_due c =
+pub returns-in_err-edited-clause-due : goal.returns-in_err-edited-clause-due
+returns-in_err-edited-clause-due c =
     let edits = c.args.edits.now in
     let own = c.cards-own.result.now in
     let cards = c.args.self.now.cards in
@@ -105,11 +140,13 @@ returns-in_err-object-clause-sized_due c =
     let few = c.cards-own.ensures.few in
     let taken = are-taken edits own cards c.cards_before_all.result c.cards_behind_all.result same c.requires.some c.requires.apply few c.cards_before_all.ensures.all c.cards_before_all.ensures.most
     c.cards_behind_all.ensures.most in
-    subst (RisesToDue edits c.args.self.now.cards c.args.meter.now.sized) (sym c.edited_object.ensures.sized)
-    (due-edited edits c.cards-own.result.now c.args.self.now.cards _ c.cards_before_all.result c.cards_behind_all.result _ _ c.cards-own.ensures.cards (c.deref.ensures.value ∙ c.in_ok-cards.ensures) taken c.edited.ensures.rises c.edited.ensures.front c.edited.ensures.due)
+    record {
+      sized = due-edited edits c.cards-own.result.now c.args.self.now.cards _ c.cards_before_all.result c.cards_behind_all.result _ _ c.cards-own.ensures.cards (c.deref.ensures.value ∙ c.in_ok-cards.ensures) taken c.edited.ensures.counts.rises c.edited.ensures.counts.front c.edited.ensures.counts.due;
+      coded = subst (RisesToDueCode edits cards c.args.meter.now.coded) (sym c.edited.ensures.counts.coded) (due-code-still edits cards c.cards_before_all.result c.cards_behind_all.result c.args.meter.now.coded taken);
+    }
 
-pub returns-clause-sized_due : goal.returns-clause-sized_due
-returns-clause-sized_due c =
+pub returns-in_err-object-clause-due : goal.returns-in_err-object-clause-due
+returns-in_err-object-clause-due c =
     let edits = c.args.edits.now in
     let own = c.cards-own.result.now in
     let cards = c.args.self.now.cards in
@@ -117,58 +154,17 @@ returns-clause-sized_due c =
     let few = c.cards-own.ensures.few in
     let taken = are-taken edits own cards c.cards_before_all.result c.cards_behind_all.result same c.requires.some c.requires.apply few c.cards_before_all.ensures.all c.cards_before_all.ensures.most
     c.cards_behind_all.ensures.most in
-    subst (RisesToDue edits c.args.self.now.cards c.args.meter.now.sized) (sym c.edited_object.ensures.sized)
-    (due-edited edits c.cards-own.result.now c.args.self.now.cards _ c.cards_before_all.result c.cards_behind_all.result _ _ c.cards-own.ensures.cards (c.deref.ensures.value ∙ c.in_ok-cards.ensures) taken c.edited.ensures.rises c.edited.ensures.front c.edited.ensures.due)
-
-pub returns-in_err-cards-clause-sized_due : goal.returns-in_err-cards-clause-sized_due
-returns-in_err-cards-clause-sized_due c =
-    let edits = c.args.edits.now in
-    let own = c.cards-own.result.now in
-    let cards = c.args.self.now.cards in
-    let same = c.cards-own.ensures.cards in
-    let few = c.cards-own.ensures.few in
-    let taken = are-taken edits own cards c.cards_before_all.result c.cards_behind_all.result same c.requires.some c.requires.apply few c.cards_before_all.ensures.all c.cards_before_all.ensures.most
-    c.cards_behind_all.ensures.most in
-    due-still edits cards c.cards_before_all.result c.cards_behind_all.result c.args.meter.now.sized taken
-
-pub returns-in_err-cards-clause-coded_due : goal.returns-in_err-cards-clause-coded_due
-returns-in_err-cards-clause-coded_due c =
-    let edits = c.args.edits.now in
-    let own = c.cards-own.result.now in
-    let cards = c.args.self.now.cards in
-    let same = c.cards-own.ensures.cards in
-    let few = c.cards-own.ensures.few in
-    let taken = are-taken edits own cards c.cards_before_all.result c.cards_behind_all.result same c.requires.some c.requires.apply few c.cards_before_all.ensures.all c.cards_before_all.ensures.most
-    c.cards_behind_all.ensures.most in
-    due-code-still edits cards c.cards_before_all.result c.cards_behind_all.result c.args.meter.now.coded taken
-
-pub returns-in_err-edited-clause-coded_due : goal.returns-in_err-edited-clause-coded_due
-returns-in_err-edited-clause-coded_due c =
-    let edits = c.args.edits.now in
-    let own = c.cards-own.result.now in
-    let cards = c.args.self.now.cards in
-    let same = c.cards-own.ensures.cards in
-    let few = c.cards-own.ensures.few in
-    let taken = are-taken edits own cards c.cards_before_all.result c.cards_behind_all.result same c.requires.some c.requires.apply few c.cards_before_all.ensures.all c.cards_before_all.ensures.most
-    c.cards_behind_all.ensures.most in
-    subst (RisesToDueCode edits cards c.args.meter.now.coded) (sym c.edited.ensures.coded) (due-code-still edits cards c.cards_before_all.result c.cards_behind_all.result c.args.meter.now.coded taken)
-
-pub returns-in_err-object-clause-coded_due : goal.returns-in_err-object-clause-coded_due
-returns-in_err-object-clause-coded_due c =
-    let edits = c.args.edits.now in
-    let own = c.cards-own.result.now in
-    let cards = c.args.self.now.cards in
-    let same = c.cards-own.ensures.cards in
-    let few = c.cards-own.ensures.few in
-    let taken = are-taken edits own cards c.cards_before_all.result c.cards_behind_all.result same c.requires.some c.requires.apply few c.cards_before_all.ensures.all c.cards_before_all.ensures.most
-    c.cards_behind_all.ensures.most in
-    let edited = c.in_ok-edited.ensures in
+    let edited = c.in_ok-edited.ensures.former in
     let object = same ∙ sym (ap (λ (r : Record). r.cards) c.self.view_is) ∙ sym (ap (λ (d : Deck). d.cards) c.object.ensures) in
-    due-code-object edits own cards c.deref.result.now _ _ c.cards_before_all.result c.cards_behind_all.result c.in_ok-edited.edited.former c.args.meter.now.coded _ _ same (c.deref.ensures.value ∙ c.in_ok-cards.ensures)
-    taken object c.deref.ensures.value c.edited.ensures.coded c.edited_object.ensures.coded_rises edited.before edited.kinds edited.tail edited.within c.edited_object.ensures.coded_due
+    record {
+      sized = subst (RisesToDue edits c.args.self.now.cards c.args.meter.now.sized) (sym c.edited_object.ensures.sized)
+          (due-edited edits c.cards-own.result.now c.args.self.now.cards _ c.cards_before_all.result c.cards_behind_all.result _ _ c.cards-own.ensures.cards (c.deref.ensures.value ∙ c.in_ok-cards.ensures) taken c.edited.ensures.counts.rises c.edited.ensures.counts.front c.edited.ensures.counts.due);
+      coded = due-code-object edits own cards c.deref.result.now _ _ c.cards_before_all.result c.cards_behind_all.result c.in_ok-edited.edited.former c.args.meter.now.coded _ _ same (c.deref.ensures.value ∙ c.in_ok-cards.ensures)
+          taken object c.deref.ensures.value c.edited.ensures.counts.coded c.edited_object.ensures.coded_rises edited.before_is edited.kinds edited.tail edited.within c.edited_object.ensures.coded_due;
+    }
 
-pub returns-clause-coded_due : goal.returns-clause-coded_due
-returns-clause-coded_due c =
+pub returns-clause-due : goal.returns-clause-due
+returns-clause-due c =
     let edits = c.args.edits.now in
     let own = c.cards-own.result.now in
     let cards = c.args.self.now.cards in
@@ -176,19 +172,25 @@ returns-clause-coded_due c =
     let few = c.cards-own.ensures.few in
     let taken = are-taken edits own cards c.cards_before_all.result c.cards_behind_all.result same c.requires.some c.requires.apply few c.cards_before_all.ensures.all c.cards_before_all.ensures.most
     c.cards_behind_all.ensures.most in
-    let edited = c.in_ok-edited.ensures in
+    let edited = c.in_ok-edited.ensures.former in
     let object = same ∙ sym (ap (λ (r : Record). r.cards) c.self.view_is) ∙ sym (ap (λ (d : Deck). d.cards) c.object.ensures) in
-    due-code-object edits own cards c.deref.result.now _ _ c.cards_before_all.result c.cards_behind_all.result c.in_ok-edited.edited.former c.args.meter.now.coded _ _ same (c.deref.ensures.value ∙ c.in_ok-cards.ensures)
-    taken object c.deref.ensures.value c.edited.ensures.coded c.edited_object.ensures.coded_rises edited.before edited.kinds edited.tail edited.within c.edited_object.ensures.coded_due
+    record {
+      sized = subst (RisesToDue edits c.args.self.now.cards c.args.meter.now.sized) (sym c.edited_object.ensures.sized)
+          (due-edited edits c.cards-own.result.now c.args.self.now.cards _ c.cards_before_all.result c.cards_behind_all.result _ _ c.cards-own.ensures.cards (c.deref.ensures.value ∙ c.in_ok-cards.ensures) taken c.edited.ensures.counts.rises c.edited.ensures.counts.front c.edited.ensures.counts.due);
+      coded = due-code-object edits own cards c.deref.result.now _ _ c.cards_before_all.result c.cards_behind_all.result c.in_ok-edited.edited.former c.args.meter.now.coded _ _ same (c.deref.ensures.value ∙ c.in_ok-cards.ensures)
+          taken object c.deref.ensures.value c.edited.ensures.counts.coded c.edited_object.ensures.coded_rises edited.before_is edited.kinds edited.tail edited.within c.edited_object.ensures.coded_due;
+    }
 
-pub returns-clause-sized_anew : goal.returns-clause-sized_anew
-returns-clause-sized_anew c = on_ok_any c.of.result (subst (RisesToAnew c.args.edits.now c.args.self.now.cards c.args.meter.now.sized) (sym c.edited_object.ensures.sized)
-    (anew-edited c.args.edits.now c.cards-own.result.now c.args.self.now.cards c.deref.result.now _ _ c.cards-own.ensures.cards (c.deref.ensures.value ∙ c.in_ok-cards.ensures) c.in_ok-edited.ensures.anew))
-
-pub returns-clause-coded_anew : goal.returns-clause-coded_anew
-returns-clause-coded_anew c =
+pub returns-clause-anew : goal.returns-clause-anew
+returns-clause-anew c =
     let edits = c.args.edits.now in
     let own = c.cards-own.result.now in
+    let cards = c.args.self.now.cards in
     let same = c.cards-own.ensures.cards in
     let object = same ∙ sym (ap (λ (r : Record). r.cards) c.self.view_is) ∙ sym (ap (λ (d : Deck). d.cards) c.object.ensures) in
-    on_ok_any c.of.result (rebound-edited edits own c.args.self.now.cards c.deref.result.now _ _ c.args.meter.now.coded _ _ same (c.deref.ensures.value ∙ c.in_ok-cards.ensures) object c.deref.ensures.value c.edited.ensures.coded c.in_ok-object.ensures.coded_anew)
+    on_ok_any c.of.result (record {
+      sized = subst (RisesToAnew edits cards c.args.meter.now.sized) (sym c.edited_object.ensures.sized)
+          (anew-edited edits own cards c.deref.result.now _ _ same (c.deref.ensures.value ∙ c.in_ok-cards.ensures) c.in_ok-edited.ensures.anew);
+      coded = rebound-edited edits own cards c.deref.result.now _ _ c.args.meter.now.coded _ _ same (c.deref.ensures.value ∙ c.in_ok-cards.ensures) object c.deref.ensures.value c.edited.ensures.counts.coded
+          c.in_ok-object.ensures.coded_anew;
+    })
