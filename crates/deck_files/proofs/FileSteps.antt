@@ -5,8 +5,7 @@ use Rattle.std.specs.Map.{lookup, set_value}
 use Rattle.indexmap.specs.IndexMap.{insert_entry}
 use lib.Pointwise.{pointwise}
 use Rattle.definitions.specs.Characters.{same_text}
-use Rattle.deck_files.specs.Files.{KeptFile, Named, kept_file, named, with_named}
-use Rattle.deck_files.specs.declared.memory_shelf.MemoryFile.{MemoryFile}
+use Rattle.deck_files.specs.Files.{Named, named, with_named}
 
 -- two texts are compared character by character
 pub same_text-pointwise : (a b : List ℕ) → pointwise eqb a b ≡ same_text a b
@@ -64,7 +63,3 @@ set-shown {K = K} {Y = Y} text shown name (e ∷ es) value there =
     ∙ choose_later (same_text name (text e.0)) front (files_shown text shown (e ∷ tail)) ((text e.0, shown e.1) ∷ with_named name (shown value) (files_shown text shown es))
     (λ other. ap (λ (l : Named Y). (text e.0, shown e.1) ∷ l)
     (set-shown text shown name es value (sym (ap (λ (t : Bool). is_some (cond t (Some e.1) (lookup test es))) (same_text-pointwise name (text e.0) ∙ other)) ∙ there)))
-
--- a file in memory as contracts see it
-abbrev pub file_shown : MemoryFile → KeptFile
-file_shown file = kept_file file.bytes.items file.version

@@ -2,7 +2,7 @@
 //! and shelves of such files. Nothing here knows what a card means.
 //!
 //! `load` reads line by line and ends at the first fault. `Shelf` names what one call makes of a
-//! shelf; `MemoryShelf` is one for tests, and `FolderShelf` one over a folder, where deck NAME is
+//! shelf; `FolderShelf` is one over a folder, where deck NAME is
 //! `NAME.DECK`, and a save writes another file beside it and gives it that name at the end, unless a
 //! newer version of the deck was saved or the file there is nobody's that is known. `Folder` names what
 //! is asked of the folder; `SystemFolder` passes that on to the file system.
@@ -30,7 +30,6 @@ mod known_files;
 mod known_rows;
 mod known_texts;
 mod leftovers;
-mod memory_shelf;
 mod moments;
 mod new_files;
 mod new_names;
@@ -57,9 +56,8 @@ pub use known_files::{FILES, KnownFiles};
 pub use leftovers::clear_folder;
 pub use load_fault::LoadFault;
 pub use loading::load;
-pub use memory_shelf::MemoryShelf;
 pub use moments::Moment;
-pub use saving::save;
+pub use saving::{save, save_file};
 pub use size_limits::{Limited, NO_LIMIT, has_room, size_limit};
 pub use system_folder::SystemFolder;
 pub use target_paths::target_of;

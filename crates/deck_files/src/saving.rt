@@ -36,7 +36,7 @@ pub fn save<W: Write>(writer: &mut Counted<W>, cards: &[Card]) -> Result<(), Bro
 }
 
 /// The file of some cards in memory.
-pub(crate) fn save_file(alloc: Global, cards: &[Card]) -> Result<Vec<u8>, AllocError>
+pub fn save_file(alloc: Global, cards: &[Card]) -> Result<Vec<u8>, AllocError>
     requires { length cards.now ≤ 20000 }
     ensures { IfOk result (λ file. file.items ≡ file_of cards.now) }
 {

@@ -1,6 +1,3 @@
 pub mod Seen
-pub mod Turns
-pub mod Unchanged
-pub mod IdleDesk
 -- What edits count.
 pub mod Counts

@@ -1,5 +1,4 @@
 -- What inner functions promise, so that the proofs of the outer ones join: no promise of the documents leads here.
 pub mod Language
-pub mod Settling
 pub mod Linking
 pub mod Rests

@@ -5,8 +5,7 @@
 //! A turn at the desk is one claim, one delivery, one object that is offered, one publication that the desk makes of
 //! objects whose sections are made, or one lease given up; decks are assembled, and objects linked, between two
 //! turns. A bell says that there may be work, or that the worker is to stop. Not promised: that a bell arrives, that
-//! a worker gets on, or when a job is run: that two run at once is tested. `settle` does all jobs on the thread of
-//! whoever holds the desk.
+//! a worker gets on, or when a job is run: that two run at once is tested.
 #![tactic(auto)]
 
 // What is made of a job; no threads here, and nothing waits.
@@ -14,7 +13,6 @@ mod assembling;
 mod jobs;
 mod made;
 mod runs;
-mod settling;
 
 // Workers.
 mod bells;
@@ -27,6 +25,5 @@ pub use gates::{Gate, OpenGate};
 pub use jobs::{Job, job_in};
 pub use made::Made;
 pub use runs::Runs;
-pub use settling::{Settled, settle};
 pub use subscribers::{NoSubscriber, Subscriber};
 pub use working::worker;

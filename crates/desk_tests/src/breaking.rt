@@ -3,7 +3,8 @@
 use cards::{Card, DeckName};
 use deck_files::{FileRow, SaveOver, Shelf, ShelfLoadFault, ShelfSaveFault, save};
 use std::alloc::Global;
-use text_ports::{Counted, FaultyWriter};
+use test_parts::FaultyWriter;
+use text_ports::Counted;
 
 /// A shelf without files, whose writer takes so many bytes at its first call, and fails at the second.
 #[derive(Drop)]

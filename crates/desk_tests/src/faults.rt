@@ -2,13 +2,13 @@
 //!
 //! `serve_all`: the session without a fault; `fail_reads`, `fail_writes`: with how many it ended as wanted.
 
+use crate::memory_shelf::MemoryShelf;
 use crate::place::{push_outcome, put_file, serve_up_to};
-use deck_files::MemoryShelf;
 use desk_core::Desk;
 use session_line::Outcome;
 use std::alloc::{AllocError, Global};
-use test_parts::{Answer, Failing, fixed_keys};
-use text_ports::{Counted, FaultyWriter};
+use test_parts::{Answer, Failing, FaultyWriter, fixed_keys};
+use text_ports::Counted;
 
 /// Makes a step of this word, if it is one of this session, and answers whether it is.
 pub fn make(alloc: Global, word: &str, answer: &mut Answer) -> bool {

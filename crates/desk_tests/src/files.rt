@@ -10,8 +10,8 @@ use cards::Card;
 use deck_files::{LoadFault, load, save};
 use std::alloc::{AllocError, Global};
 use std::io::{BufReader, Read, Write};
-use test_parts::{Answer, Failing, assembled, cards_of, number};
-use text_ports::{Broken, Counted, FaultyReader, FaultyWriter};
+use test_parts::{Answer, Failing, FaultyReader, FaultyWriter, assembled, cards_of, number};
+use text_ports::{Broken, Counted};
 
 /// Makes a step of this word, if it is one of files, and answers whether it is.
 pub fn make(file: &[u8], word: &str, rest: &str, answer: &mut Answer) -> bool {

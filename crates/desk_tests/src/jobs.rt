@@ -8,10 +8,11 @@
 //! the last 32 bytes of its image; `meter`: how many statements were sized and coded; `lost`: a job whose
 //! edit does not apply.
 
+use crate::settling::settle;
 use cards::{Card, Edit};
 use deck_linker::{ListedPublication, publish};
 use deck_listing::ListedObject;
-use deck_workers::{Job, Made, Runs, job_in, settle};
+use deck_workers::{Job, Made, Runs, job_in};
 use desk_core::{
     Call, DeckCards, DeckWork, Desk, Done, Held, Listed, NewDeck, PublicationBefore, Reply,
     SharedPublication, Start,

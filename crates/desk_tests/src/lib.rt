@@ -3,6 +3,10 @@
 //! comes of it. It is proved beside the journal and the service, and not behind them.
 #![tactic(auto)]
 
+// A shelf in memory; a desk whose jobs are all done by the one who holds it.
+mod memory_shelf;
+mod settling;
+
 // A shelf and a folder that fail where they are to.
 mod breaking;
 mod refusing;

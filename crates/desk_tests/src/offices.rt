@@ -9,8 +9,8 @@ ghost use Rattle.std.specs.Prelude.{◌≡◌, ◌+◌, ◌-◌, ◌^◌, ◌≤
 ghost use Rattle.turn_office.specs.Seats.{AreOf};
 
 use crate::jobs::{addition, push_reply, push_told};
+use crate::memory_shelf::MemoryShelf;
 use crate::place::serve_ports;
-use deck_files::MemoryShelf;
 use desk_core::{Call, Desk, Reply};
 use session_line::SeatCalls;
 use std::alloc::{AllocError, AllocGlobal, Global};

@@ -10,7 +10,8 @@
 
 use crate::breaking::BreakingShelf;
 use crate::jobs::Jobs;
-use deck_files::{MemoryShelf, Shelf};
+use crate::memory_shelf::MemoryShelf;
+use deck_files::Shelf;
 use desk_core::Desk;
 use session_line::{Calls, Outcome, Rights, serve_one};
 use std::alloc::{AllocError, Global};

@@ -3,11 +3,8 @@
 use crate::outputs::Answer;
 use definitions::{char_of, display_of, has_display_code};
 use std::alloc::AllocError;
-use test_parts::{bytes_of, cut, octal, size, small};
-use text_ports::{
-    Broken, Counted, FaultyReader, FaultyWriter, LineBuf, LineIs, ShortText, Text, next_line,
-    put_all,
-};
+use test_parts::{FaultyReader, FaultyWriter, bytes_of, cut, octal, size, small};
+use text_ports::{Broken, Counted, LineBuf, LineIs, ShortText, Text, next_line, put_all};
 
 /// Whether this is one of the topics here; what is found of the text is then in the answer.
 pub fn answer(answer: &mut Answer, topic: &str, text: &str) -> Result<bool, AllocError> {

@@ -13,8 +13,8 @@ use journal::{
 };
 use std::alloc::{AllocError, Global};
 use std::io::Read;
-use test_parts::{Answer, fixed_keys, name_of, number};
-use text_ports::{Counted, FaultyReader, Text};
+use test_parts::{Answer, FaultyReader, fixed_keys, name_of, number};
+use text_ports::{Counted, Text};
 
 /// Makes a step of this word, if it is one of journals, and answers whether it is.
 pub fn make(file: &mut Vec<u8>, word: &str, rest: &str, answer: &mut Answer) -> bool {

@@ -17,8 +17,8 @@ use std::io;
 use std::io::{ErrorKind, Seek, SeekFrom, Write};
 use std::sync::{Mutex, Wait};
 use std::time::Clock;
-use test_parts::{Answer, card_of, fixed_keys, name_of, number};
-use text_ports::{Counted, FaultyReader};
+use test_parts::{Answer, FaultyReader, card_of, fixed_keys, name_of, number};
+use text_ports::Counted;
 
 /// Makes a step of this word, if it is one of what is kept, and answers whether it is.
 pub fn make<R: AllocGlobal + Wait + Clock + Eprint>(

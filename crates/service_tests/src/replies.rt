@@ -12,8 +12,8 @@ use desk_tests::text_of;
 use session_commands::Refusal;
 use session_line::{DeckOutcome, MarkedRow, Reply, ToldDeck, write_reply};
 use std::alloc::{AllocError, Global};
-use test_parts::{Answer, cards_of, cut_line, name_of, number};
-use text_ports::{Counted, FaultyWriter};
+use test_parts::{Answer, FaultyWriter, cards_of, cut_line, name_of, number};
+use text_ports::Counted;
 
 /// Makes a step of this word, if it is one of replies, and answers whether it is.
 pub fn make(word: &str, rest: &str, answer: &mut Answer) -> bool {

@@ -1,9 +1,11 @@
 //! Ports that give and take bytes in pieces, and fail where they are to.
 ghost use Rattle.std.specs.Prelude.{◌<◌};
 
+use crate::faulty_reader::FaultyReader;
+use crate::faulty_writer::FaultyWriter;
 use crate::words::cut_number;
 use std::alloc::Global;
-use text_ports::{Counted, FaultyReader, FaultyWriter};
+use text_ports::Counted;
 
 /// How many bytes a call of a port gives or takes at most, and the numbers of the read and of the write that
 /// fail, counted from 1; none where it is 0.

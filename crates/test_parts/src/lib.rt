@@ -5,8 +5,11 @@
 
 mod answers;
 mod assembling;
+mod call_count;
 mod decks;
 mod failing;
+mod faulty_reader;
+mod faulty_writer;
 mod keys;
 mod known_bases;
 mod known_names;
@@ -18,6 +21,8 @@ pub use assembling::{
 };
 pub use decks::{card_of, cards_of, name_of};
 pub use failing::Failing;
+pub use faulty_reader::FaultyReader;
+pub use faulty_writer::FaultyWriter;
 pub use keys::fixed_keys;
 pub use known_bases::{NoBases, OneBlock};
 pub use known_names::KnownNames;

@@ -1,3 +1,2 @@
 -- What inner functions promise, so that the proofs of the outer ones join: no promise of the documents leads here.
 pub mod Sending
-pub mod FaultyPorts

@@ -1,6 +1,5 @@
-//! Bytes in and out: texts in memory, octal and decimal digits, lines, ports that count their faults,
-//! and ports over memory that fail on purpose. Nothing here knows what a card is, and only
-//! `Text`, `Piece` and `FaultyWriter` take memory.
+//! Bytes in and out: texts in memory, octal and decimal digits, lines, and ports that count their faults.
+//! Nothing here knows what a card is, and only `Text` and `Piece` take memory.
 //!
 //! Contracts see a `Counted` port as the port with its count of faults. `next_held_line` answers as
 //! `next_line` does and asks for a reader that shows what it holds: a line that lies there whole is
@@ -26,15 +25,8 @@ mod held_lines;
 mod lines;
 mod writing;
 
-// Ports over memory that fail on purpose.
-mod call_count;
-mod faulty_reader;
-mod faulty_writer;
-
 pub use counted::Counted;
 pub use digits::octal;
-pub use faulty_reader::FaultyReader;
-pub use faulty_writer::FaultyWriter;
 pub use held_lines::next_held_line;
 pub use lines::{LineBuf, LineIs, next_line, next_whole_line};
 pub use piece::Piece;

@@ -1,11 +1,12 @@
 //! What a scenario goes through: a desk and a shelf, the commands that a session says there, and the
 //! desk settled as `asm_run` has it.
 
+use crate::memory_shelf::MemoryShelf;
 use crate::place::{put_file, serve};
+use crate::settling::{Settled, settle};
 use crate::sweeps::decks::DECKS;
 use crate::sweeps::notes::{Called, Journal, called};
-use deck_files::{MemoryShelf, Shelf};
-use deck_workers::{Settled, settle};
+use deck_files::Shelf;
 use desk_core::Desk;
 use session_line::Calls;
 use std::alloc::{AllocError, Global};

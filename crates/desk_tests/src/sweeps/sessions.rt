@@ -6,8 +6,8 @@ use crate::sweeps::pieces::{Came, Tries, fail_all, held};
 use crate::sweeps::scene::{COMMAND, Scene, lines_of};
 use session_line::Outcome;
 use std::alloc::{AllocError, Global};
-use test_parts::{Failing, fixed_keys};
-use text_ports::{Counted, FaultyReader, FaultyWriter};
+use test_parts::{Failing, FaultyReader, FaultyWriter, fixed_keys};
+use text_ports::Counted;
 
 /// The file that the session loads.
 const FILE: &str = "          IDENT  N

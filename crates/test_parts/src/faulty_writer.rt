@@ -4,7 +4,7 @@ ghost use Rattle.std.specs.Io.{WritesAtMost};
 ghost use Rattle.std.specs.Io.KnownBytes.{Keeps, WriteAppends};
 ghost use Rattle.std.specs.IoError.{error_kind};
 ghost use Rattle.std.specs.declared.io.ErrorKind.TheVariants.{Interrupted, OutOfMemory};
-ghost use Rattle.text_ports.specs.Joins.FaultyPorts.{after_call, taken_after};
+ghost use Rattle.test_parts.specs.FaultyPorts.{after_call, taken_after};
 
 use crate::call_count::is_due;
 use std::alloc::Global;
@@ -22,7 +22,7 @@ pub struct FaultyWriter {
 
 impl Model for FaultyWriter {
     ghost use Rattle.std.specs.Prelude.{◌<◌};
-    ghost use Rattle.text_ports.specs.Joins.FaultyPorts.{FaultyPort};
+    ghost use Rattle.test_parts.specs.FaultyPorts.{FaultyPort};
 
     ghost Value = { FaultyPort };
 

@@ -15,9 +15,9 @@ use Rattle.desk_core.proofs.EveryRun.{told_last, told_through}
 use Rattle.desk_core.proofs.IdleClaims.{idle_is_published}
 use Rattle.deck_workers.specs.Joins.Language.{Call, Claim, Reply, Refusal}
 use Rattle.deck_workers.specs.Rounds.{Round, Resting, Working, entries_of, entries_in}
-use Rattle.deck_workers.specs.Joins.Settling.{Settles, used_up, ended, end_of, end_of_claim, refusal_in, IsIdleAt, IsSettled}
-use Rattle.deck_workers.specs.declared.settling.Settled.{Settled}
-use Rattle.deck_workers.specs.declared.settling.Settled.TheVariants.{Idle, Refused, Waiting, Turns}
+use Rattle.desk_tests.specs.Settling.{Settles, used_up, ended, end_of, end_of_claim, refusal_in, IsIdleAt, IsSettled}
+use Rattle.desk_tests.specs.declared.settling.Settled.{Settled}
+use Rattle.desk_tests.specs.declared.settling.Settled.TheVariants.{Idle, Refused, Waiting, Turns}
 
 -- a publication of the desk's own version is of its present decks
 present-decks : (begun : ℕ) (changes : List Change) (desk : Desk) (publication : Publication) → IsTold begun changes desk → desk.publication ≡ Some publication → publication.version ≡ desk.version → publication.decks ≡ decks_of desk

@@ -4,11 +4,9 @@ ghost use Rattle.desk_core.specs.Desks.{decks_of};
 ghost use Rattle.desk_core.specs.Steps.{Steps};
 ghost use Rattle.deck_workers.specs.Joins.Language.{Reply};
 ghost use Rattle.deck_workers.specs.Rounds.{call_of};
-ghost use Rattle.deck_workers.specs.Joins.Settling.{SettlesOn, IsSettled, IsTurn, end_of_claim, refusal_in};
+ghost use Rattle.desk_tests.specs.Settling.{SettlesOn, IsSettled, IsTurn, end_of_claim, refusal_in};
 
-use crate::jobs::job_in;
-use crate::made::Made;
-use crate::runs::Runs;
+use deck_workers::{Made, Runs, job_in};
 use desk_core::{Call, Desk, Refusal, Reply};
 use std::alloc::Global;
 use std::hash::RandomState;

@@ -10,9 +10,9 @@ use Rattle.desk_core.specs.Runs.{History}
 use Rattle.deck_workers.specs.Rounds.{Round, entries_of, entries_in}
 use Rattle.work_meter.specs.Counts.{Counts}
 use Rattle.deck_workers.specs.Jobs.{CountsWithin}
-use Rattle.deck_workers.specs.Joins.Settling.{GoesOn, SettlesOn, used_up, ended, IsTurn, round_bound, rounds_bound, round_least, rounds_least}
-use Rattle.deck_workers.specs.declared.settling.Settled.{Settled}
-use Rattle.deck_workers.specs.declared.settling.Settled.TheVariants.{Turns}
+use Rattle.desk_tests.specs.Settling.{GoesOn, SettlesOn, used_up, ended, IsTurn, round_bound, rounds_bound, round_least, rounds_least}
+use Rattle.desk_tests.specs.declared.settling.Settled.{Settled}
+use Rattle.desk_tests.specs.declared.settling.Settled.TheVariants.{Turns}
 
 -- one history behind another
 pub leads-append : {T C R : Type 0} (allowed : T → C → R → T → Type 0) (first middle last : T) (before behind : List (Entry C R)) → Leads allowed first before middle → Leads allowed middle behind last → Leads allowed first (before ++ behind) last

@@ -4,7 +4,7 @@ ghost use Rattle.std.specs.Io.{ReadsAtMost};
 ghost use Rattle.std.specs.Io.KnownBytes.{ReadConsumes};
 ghost use Rattle.std.specs.IoError.{error_kind};
 ghost use Rattle.std.specs.declared.io.ErrorKind.TheVariants.{Interrupted};
-ghost use Rattle.text_ports.specs.Joins.FaultyPorts.{after_call, left_after};
+ghost use Rattle.test_parts.specs.FaultyPorts.{after_call, left_after};
 
 use crate::call_count::is_due;
 use std::io::{Error, ErrorKind, Read, Result};
@@ -21,7 +21,7 @@ pub struct FaultyReader<'a> {
 
 impl<'a> Model for FaultyReader<'a> {
     ghost use Rattle.std.specs.Prelude.{◌<◌};
-    ghost use Rattle.text_ports.specs.Joins.FaultyPorts.{FaultyPort};
+    ghost use Rattle.test_parts.specs.FaultyPorts.{FaultyPort};
 
     ghost Value = { FaultyPort };
 

@@ -1,5 +1,5 @@
-use Rattle.deck_workers.proofs.Turns.{WentOn}
-use Rattle.deck_workers.proofs.settling.settle.Given as goal
+use Rattle.desk_tests.proofs.Turns.{WentOn}
+use Rattle.desk_tests.proofs.settling.settle.Given as goal
 
 -- each turn so far left something to do
 abbrev pub invariant-loop-turn : goal.invariant-loop-turn

@@ -1,17 +1,16 @@
-//! A shelf in memory, for tests.
+//! A shelf in memory.
 ghost use Rattle.std.specs.Prelude.{◌≡◌, ◌≤◌, [], length, Ok, OnOk, IfOk, IfErr, OnErr};
 ghost use Rattle.std.specs.Option.{option_map};
 ghost use Rattle.deck_files.specs.DeckFiles.{cards_of_file, file_of};
+ghost use Rattle.deck_files.specs.KnownFiles.{is_at};
 ghost use Rattle.deck_files.specs.Loads.{FaultsSo};
-ghost use Rattle.deck_files.specs.Files.{bytes_of, kept_file, named, version_of, with_named};
+ghost use Rattle.desk_tests.specs.MemoryFiles.{bytes_of, kept_file, version_of};
+ghost use Rattle.deck_files.specs.Files.{named, with_named};
 
-use crate::deck_shelf::{SaveOver, Shelf, ShelfLoadFault, ShelfSaveFault};
-use crate::file_rows::FileRow;
-use crate::known_rows::is_at;
-use crate::load_fault::LoadFault;
-use crate::loading::load;
-use crate::saving::save_file;
 use cards::{Card, DeckName};
+use deck_files::{
+    FileRow, LoadFault, SaveOver, Shelf, ShelfLoadFault, ShelfSaveFault, load, save_file,
+};
 use indexmap::IndexMap;
 use std::alloc::{AllocError, Global};
 use std::marker::Model;
@@ -34,7 +33,7 @@ pub struct MemoryShelf {
 
 impl Model for MemoryShelf {
     ghost use Rattle.std.specs.Prelude.{map, vec_items};
-    ghost use Rattle.deck_files.specs.Files.{Files, kept_file};
+    ghost use Rattle.desk_tests.specs.MemoryFiles.{Files, kept_file};
 
     ghost Value = { Files };
 
@@ -91,6 +90,16 @@ impl MemoryShelf {
     }
 }
 
+/// Whether this is the version that is known.
+fn is_at(version: u64, known: Option<u64>) -> bool
+    ensures { result ≡ is_at version known }
+{
+    match known {
+        Some(known) => known == version,
+        None => false,
+    }
+}
+
 /// The cards of a file in memory.
 fn load_file(alloc: Global, file: &[u8]) -> Result<Vec<Card>, LoadFault>
     ensures cards { IfOk result (λ cards. cards_of_file file.now ≡ Ok cards.items) }
@@ -100,7 +109,7 @@ fn load_file(alloc: Global, file: &[u8]) -> Result<Vec<Card>, LoadFault>
 }
 
 impl Shelf for MemoryShelf {
-    ghost use Rattle.deck_files.specs.Files.{LoadsFrom, LoadsNotFrom, after_note, bytes_of, version_of};
+    ghost use Rattle.desk_tests.specs.MemoryFiles.{LoadsFrom, LoadsNotFrom, after_note, bytes_of, version_of};
     ghost use Rattle.deck_files.specs.KnownFiles.{is_at};
     ghost use Rattle.std.specs.Prelude.{Err};
     ghost use Rattle.deck_files.specs.declared.deck_shelf.ShelfLoadFault.TheVariants.{CannotOpen};

@@ -10,9 +10,9 @@ use Rattle.desk_core.proofs.Publishing.{step_comes}
 use Rattle.deck_workers.specs.declared.made.Made.{Made}
 use Rattle.deck_workers.specs.declared.made.Made.TheVariants as made
 use Rattle.deck_workers.specs.Rounds.{Round, Resting, Working, call_of, entries_of, entries_in}
-use Rattle.deck_workers.specs.Joins.Settling.{Settles, used_up, ended}
-use Rattle.deck_workers.specs.declared.settling.Settled.{Settled}
-use Rattle.deck_workers.proofs.Turns.{entries-more}
+use Rattle.desk_tests.specs.Settling.{Settles, used_up, ended}
+use Rattle.desk_tests.specs.declared.settling.Settled.{Settled}
+use Rattle.desk_tests.proofs.Turns.{entries-more}
 
 -- version and decks are the same
 pub record Keeps (first last : Desk) : Type 0 where

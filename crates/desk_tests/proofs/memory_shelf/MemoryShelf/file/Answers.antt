@@ -1,10 +1,12 @@
 use Rattle.std.proofs.Common.{ℕ, List, Option, Some, ◌∙◌, ap}
 use Rattle.std.specs.Prelude.{vec_items}
 use Rattle.std.specs.Option.{option_map}
-use Rattle.deck_files.specs.Files.{Files, bytes_of, named}
-use Rattle.deck_files.specs.declared.memory_shelf.MemoryFile.{MemoryFile}
-use Rattle.deck_files.proofs.FileSteps.{file_shown, files_shown, lookup-shown}
-use Rattle.deck_files.proofs.memory_shelf.MemoryShelf.file.Goals as goal
+use Rattle.desk_tests.specs.MemoryFiles.{Files, bytes_of}
+use Rattle.deck_files.specs.Files.{named}
+use Rattle.desk_tests.specs.declared.memory_shelf.MemoryFile.{MemoryFile}
+use Rattle.deck_files.proofs.FileSteps.{files_shown, lookup-shown}
+use Rattle.desk_tests.proofs.MemoryFileSteps.{file_shown}
+use Rattle.desk_tests.proofs.memory_shelf.MemoryShelf.file.Goals as goal
 
 pub returns-in-Some : goal.returns-in-Some
 returns-in-Some c =

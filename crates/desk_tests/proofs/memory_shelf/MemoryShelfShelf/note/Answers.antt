@@ -1,10 +1,12 @@
 use Rattle.std.proofs.Common.{ℕ, ◌≡◌, List, Option, Some, None, ◌∙◌, sym, ap, is_some}
 use Rattle.std.specs.Prelude.{vec_items}
 use Rattle.std.specs.Option.{option_map}
-use Rattle.deck_files.specs.Files.{Files, KeptFile, named, noted, with_named}
-use Rattle.deck_files.specs.declared.memory_shelf.MemoryFile.{MemoryFile}
-use Rattle.deck_files.proofs.FileSteps.{file_shown, files_shown, lookup-shown, set-shown}
-use Rattle.deck_files.proofs.memory_shelf.MemoryShelfShelf.note.Goals as goal
+use Rattle.desk_tests.specs.MemoryFiles.{Files, KeptFile, noted}
+use Rattle.deck_files.specs.Files.{named, with_named}
+use Rattle.desk_tests.specs.declared.memory_shelf.MemoryFile.{MemoryFile}
+use Rattle.deck_files.proofs.FileSteps.{files_shown, lookup-shown, set-shown}
+use Rattle.desk_tests.proofs.MemoryFileSteps.{file_shown}
+use Rattle.desk_tests.proofs.memory_shelf.MemoryShelfShelf.note.Goals as goal
 
 pub returns : goal.returns
 returns c =

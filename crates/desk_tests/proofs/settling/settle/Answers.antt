@@ -1,10 +1,10 @@
 use Rattle.std.proofs.Common.{◌≡◌, arith}
-use Rattle.deck_workers.specs.Joins.Settling.{SettlesOn}
-use Rattle.deck_workers.specs.declared.settling.Settled.TheVariants.{Turns}
-use Rattle.deck_workers.proofs.Turns.{not-yet, once-more, settles-used, settles-ended}
-use Rattle.deck_workers.proofs.Unchanged.{settles-keep}
-use Rattle.deck_workers.proofs.IdleDesk.{settles-settled}
-use Rattle.deck_workers.proofs.settling.settle.Goals as goal
+use Rattle.desk_tests.specs.Settling.{SettlesOn}
+use Rattle.desk_tests.specs.declared.settling.Settled.TheVariants.{Turns}
+use Rattle.desk_tests.proofs.Turns.{not-yet, once-more, settles-used, settles-ended}
+use Rattle.desk_tests.proofs.Unchanged.{settles-keep}
+use Rattle.desk_tests.proofs.IdleDesk.{settles-settled}
+use Rattle.desk_tests.proofs.settling.settle.Goals as goal
 
 pub loop-turn-init : goal.loop-turn-init
 loop-turn-init c = not-yet c.args.desk.now c.args.meter.now

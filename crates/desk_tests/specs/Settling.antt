@@ -11,8 +11,8 @@ use Rattle.desk_core.specs.Runs.{History, Runs}
 use Rattle.deck_workers.specs.declared.jobs.Job.{Job}
 use Rattle.deck_workers.specs.Jobs.{job_bound, job_least, if_made, CountsWithin}
 use Rattle.deck_workers.specs.Rounds.{Round, Resting, Working, IsRound, job_in, entries_of, entries_in}
-use Rattle.deck_workers.specs.declared.settling.Settled.{Settled}
-use Rattle.deck_workers.specs.declared.settling.Settled.TheVariants.{Idle, Refused, Waiting, Turns}
+use Rattle.desk_tests.specs.declared.settling.Settled.{Settled}
+use Rattle.desk_tests.specs.declared.settling.Settled.TheVariants.{Idle, Refused, Waiting, Turns}
 
 -- the refusal that a reply shows, if it shows one
 abbrev pub refusal_in : Reply → Option Refusal

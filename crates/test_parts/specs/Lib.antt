@@ -1,0 +1,2 @@
+-- Ports over memory that fail on purpose.
+pub mod FaultyPorts
