@@ -1,7 +1,7 @@
 -- What a run writes, counts and says: the build of the decks of its input (ours).
-use Rattle.std.specs.Prelude.{ℕ, ◌≡◌, ◌<◌, ⊤, List, [], ◌++◌, Option, Ok, length, take, codes, IfSome}
+use Rattle.std.specs.Prelude.{ℕ, ◌≡◌, ◌<◌, ⊤, List, [], ◌++◌, Option, Result, Ok, Err, length, take, codes, IfSome}
 use Rattle.std.specs.Io.KnownBytes.{Appends, Keeps}
-use Rattle.definitions.specs.Answer.{Answer}
+use Rattle.definitions.specs.Answer.{Answer, answer_of}
 use Rattle.definitions.specs.Build.{Build, build_of}
 use Rattle.definitions.specs.DeckInput.{Deck}
 use Rattle.definitions.specs.Listing.{line}
@@ -42,6 +42,11 @@ IsOutputAfter bytes old new LastLineCut = Keeps old new
 IsOutputAfter bytes old new (WriteFault sent) = IsPartBuilt bytes old new sent
 IsOutputAfter bytes old new (BadName number) = Keeps old new
 
+-- what a run wrote, by how it ended: the build, or what went out before the fault
+abbrev pub IsWrittenAfter : Result Tally AsmFault → Option (List ℕ) → Option (List ℕ) → Option (List ℕ) → Type 0
+IsWrittenAfter (Ok tally) bytes old new = IsBuilt bytes old new tally
+IsWrittenAfter (Err fault) bytes old new = IsOutputAfter bytes old new fault
+
 -- a run that ended well gave this answer
 pub record Gives (answer : Answer) (old new : Option (List ℕ)) (tally : Tally) : Type 0 where
   pub output : Appends old new answer.output
@@ -58,7 +63,15 @@ pub record Tells (answer : Answer) (fault : AsmFault) : Type 0 where
 abbrev pub IsToldBy : Answer → AsmFault → Type 0
 IsToldBy answer fault = IfSome (input_fault fault) (λ told. Tells answer fault)
 
+-- where the bytes of the input are known, the fault reported their answer
+abbrev pub IsToldOf : Option (List ℕ) → AsmFault → Type 0
+IsToldOf bytes fault = IfSome bytes (λ all. IsToldBy (answer_of all) fault)
+
 -- what of an answer went out before a fault: so much where the writer failed
 abbrev pub IsPartOf : Answer → Option (List ℕ) → Option (List ℕ) → AsmFault → Type 0
 IsPartOf answer old new (WriteFault sent) = (sent < length answer.output) × Appends old new (take sent answer.output)
 IsPartOf answer old new fault = ⊤
+
+-- where the bytes of the input are known, so much of their answer went out before the fault
+abbrev pub IsPartFor : Option (List ℕ) → Option (List ℕ) → Option (List ℕ) → AsmFault → Type 0
+IsPartFor bytes old new fault = IfSome bytes (λ all. IsPartOf (answer_of all) old new fault)

@@ -54,6 +54,10 @@ IsFaultOf found fault = MatchOption (input_fault fault) ((fault ≡ OutOfMemory)
 abbrev pub TellsFaultOf : Input → AsmFault → Type 0
 TellsFaultOf found fault = IfSome (input_fault fault) (λ told. found ≡ Faulty told)
 
+-- where the bytes of the input are known, it shows the one that they have
+abbrev pub TellsFaultIn : Option (List ℕ) → AsmFault → Type 0
+TellsFaultIn bytes fault = IfSome bytes (λ all. TellsFaultOf (input_in all) fault)
+
 -- the reader lost lines that show no fault, and then no more than one line
 pub record ReadsToFault (old new : Option (List ℕ)) : Type 0 where
   pub front : List ℕ

@@ -59,6 +59,15 @@ output_count_after LastLineCut count = count
 output_count_after (WriteFault sent) count = count_up count
 output_count_after (BadName line) count = count
 
+-- the counts behind a run: a fault of a port is reported only where that port failed
+abbrev pub input_count_behind : Result Tally AsmFault → ℕ → ℕ
+input_count_behind (Ok tally) count = count
+input_count_behind (Err fault) count = input_count_after fault count
+
+abbrev pub output_count_behind : Result Tally AsmFault → ℕ → ℕ
+output_count_behind (Ok tally) count = count
+output_count_behind (Err fault) count = output_count_after fault count
+
 -- the exit status after a fault: 4 where no memory was left, 5 where the writer failed, 3 at any fault of the input
 abbrev pub fault_status : AsmFault → ℕ
 fault_status OutOfMemory = 4

@@ -3,10 +3,10 @@ ghost use Rattle.std.specs.Prelude.{◌≡◌, OnOk, IfOk, IfErr, IfSome};
 ghost use Rattle.std.specs.Io.KnownBytes.{IsAtEnd};
 ghost use Rattle.definitions.specs.Answer.{answer_of};
 ghost use Rattle.definitions.specs.Build.{build_of};
-ghost use Rattle.asm_main.specs.Builds.{IsBuilt, IsOutputAfter, Gives, IsToldBy, IsPartOf, Counts};
-ghost use Rattle.asm_main.specs.Inputs.{input_in, AreDecksOf, TellsFaultOf, ReadsToFault, IsSoundBefore};
+ghost use Rattle.asm_main.specs.Builds.{IsWrittenAfter, Gives, IsToldBy, IsToldOf, IsPartFor, Counts};
+ghost use Rattle.asm_main.specs.Inputs.{input_in, AreDecksOf, TellsFaultIn, TellsFaultOf, ReadsToFault, IsSoundBefore};
 ghost use Rattle.asm_main.specs.Joins.Ways.{decks_of};
-ghost use Rattle.asm_main.specs.Runs.{IsBeforeWriting, IsReadBefore, input_count_after, output_count_after, run_status};
+ghost use Rattle.asm_main.specs.Runs.{IsBeforeWriting, IsReadBefore, input_count_after, input_count_behind, output_count_behind, run_status};
 
 use crate::asm_fault::AsmFault;
 use crate::built::Built;
@@ -109,16 +109,13 @@ pub fn asm_run<R: BufRead, W: Write>(
     // fault of the writer exactly the first `sent` bytes.
     ensures answer { IfOk result (λ tally.
         IfSome (R.remaining input.old.0) (λ bytes. Gives (answer_of bytes) (W.contents output.old.0) (W.contents output.new.0) tally)) }
-    ensures told { IfErr result (λ fault.
-        IfSome (R.remaining input.old.0) (λ bytes. IsToldBy (answer_of bytes) fault)) }
-    ensures part { IfErr result (λ fault.
-        IfSome (R.remaining input.old.0) (λ bytes. IsPartOf (answer_of bytes) (W.contents output.old.0) (W.contents output.new.0) fault)) }
+    ensures told { IfErr result (IsToldOf (R.remaining input.old.0)) }
+    ensures part { IfErr result (IsPartFor (R.remaining input.old.0) (W.contents output.old.0) (W.contents output.new.0)) }
 
     // What was read are lines that show no fault, and then one line at most: what follows the first
     // fault is not looked at.
     ensures read { ReadsToFault (R.remaining input.old.0) (R.remaining input.new.0) }
-    ensures fault { IfErr result (λ fault.
-        IfSome (R.remaining input.old.0) (λ bytes. TellsFaultOf (input_in bytes) fault)) }
+    ensures fault { IfErr result (TellsFaultIn (R.remaining input.old.0)) }
 
     // Want of memory is reported only where what was read shows no fault.
     ensures memory { IfErr result (λ fault. IsSoundBefore fault (R.remaining input.old.0) (R.remaining input.new.0)) }
@@ -129,14 +126,11 @@ pub fn asm_run<R: BufRead, W: Write>(
     // The build of some decks went out, those of the input; the tally counts its flagged statements
     // and LINK lines. After a fault of the writer exactly the bytes that it reports went out, after any
     // other none.
-    ensures built { IfOk result (IsBuilt (R.remaining input.old.0) (W.contents output.old.0) (W.contents output.new.0)) }
-    ensures output { IfErr result (IsOutputAfter (R.remaining input.old.0) (W.contents output.old.0) (W.contents output.new.0)) }
+    ensures written { IsWrittenAfter result (R.remaining input.old.0) (W.contents output.old.0) (W.contents output.new.0) }
 
     // A fault of a port is reported only where that port failed in the call.
-    ensures input_count_ok { OnOk result (input.new.1 ≡ input.old.1) }
-    ensures output_count_ok { OnOk result (output.new.1 ≡ output.old.1) }
-    ensures input_count { IfErr result (λ fault. input.new.1 ≡ input_count_after fault input.old.1) }
-    ensures output_count { IfErr result (λ fault. output.new.1 ≡ output_count_after fault output.old.1) }
+    ensures input_count { input.new.1 ≡ input_count_behind result input.old.1 }
+    ensures output_count { output.new.1 ≡ output_count_behind result output.old.1 }
 {
     let built = asm_build(alloc, keys, input)?;
     let tally = built.tally();
