@@ -1,21 +1,12 @@
 -- The answers of the definitions, and those of a run.
-use Rattle.std.proofs.Common.{ℕ, ◌≡◌, ◌<◌, ◌^◌, List, [], ◌∷◌, ◌++◌, refl, sym, ap, ◌∙◌, arith, subst, Option, None, Some, IfSome}
-use Rattle.std.specs.Prelude.{codes, decimal}
-use Rattle.definitions.specs.Answer.{Answer, answer_to, answer_of, built}
+use Rattle.std.{proofs.Common.{ℕ, ◌≡◌, ◌<◌, ◌^◌, List, [], ◌∷◌, ◌++◌, refl, sym, ap, ◌∙◌, arith, subst, Option, None, Some, IfSome}, specs.Prelude.{codes, decimal}}
+use Rattle.definitions.specs.{Answer.{Answer, answer_to, answer_of, built}, Build.build_of, DeckInput.{Deck, Input, Decks, Faulty, InputFault, in_input_order}, Listing.line, Numerals.decimal_of}
 use Rattle.definitions.specs.Answer as answers
-use Rattle.definitions.specs.Build.{build_of}
-use Rattle.definitions.specs.DeckInput.{Deck, Input, Decks, Faulty, InputFault, in_input_order}
 use Rattle.definitions.specs.DeckInput as input
-use Rattle.definitions.specs.Listing.{line}
-use Rattle.definitions.specs.Numerals.{decimal_of}
 use Rattle.text_ports.proofs.Decimals.{decimal-same}
 use Rattle.cards.specs.declared.card.CardFault.{CardFault}
 use Rattle.cards.specs.declared.card.CardFault.TheVariants as card
-use Rattle.asm_main.specs.declared.asm_fault.AsmFault.{AsmFault}
-use Rattle.asm_main.specs.declared.asm_fault.AsmFault.TheVariants.{OutOfMemory, DeckFull, NameTaken, TooManyDecks, ReadFault, BadLine, LastLineCut, WriteFault, BadName}
-use Rattle.asm_main.specs.Builds.{Tells, IsToldBy}
-use Rattle.asm_main.specs.Faults.{fault_text}
-use Rattle.asm_main.specs.Inputs.{input_in, AreDecksOf, bad_line, AreSmall, IsSmallColumn, TellsFaultOf}
+use Rattle.asm_main.specs.{declared.asm_fault.AsmFault.AsmFault, declared.asm_fault.AsmFault.TheVariants.{OutOfMemory, DeckFull, NameTaken, TooManyDecks, ReadFault, BadLine, LastLineCut, WriteFault, BadName}, Builds.{Tells, IsToldBy}, Faults.fault_text, Inputs.{input_in, AreDecksOf, bad_line, AreSmall, IsSmallColumn, TellsFaultOf}}
 
 -- decks that an input is are built
 pub answered : (found : Input) (decks : List Deck) → AreDecksOf found decks → answer_to found ≡ built (build_of decks)

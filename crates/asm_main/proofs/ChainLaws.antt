@@ -1,11 +1,7 @@
 -- What is left of readers one after the other.
-use Rattle.std.proofs.Common.{ℕ, ◌≡◌, ◌+◌, ◌<◌, List, [], ◌∷◌, ◌++◌, Bool, true, false, not, length, drop, refl, sym, ap, ◌∙◌, subst, append_assoc, Option, None, Some, if◌then◌else◌, slice_index_or, slice_set}
-use Rattle.std.proofs.lemmas.List.{drop_more, drop-set}
-use Rattle.std.specs.Prelude.{◌==◌}
-use Rattle.std.specs.Io.KnownBytes.{Consumes, IsAtEnd, prepend_known}
+use Rattle.std.{proofs.Common.{ℕ, ◌≡◌, ◌+◌, ◌<◌, List, [], ◌∷◌, ◌++◌, Bool, true, false, not, length, drop, refl, sym, ap, ◌∙◌, subst, append_assoc, Option, None, Some, if◌then◌else◌, slice_index_or, slice_set}, proofs.lemmas.List.{drop_more, drop-set}, specs.Prelude.◌==◌, specs.Io.KnownBytes.{Consumes, IsAtEnd, prepend_known}}
 use Rattle.text_ports.specs.Lines.{line_feed}
-use Rattle.asm_main.specs.Joins.Chains.{is_open_behind, joined, joined_with}
-use Rattle.asm_main.specs.declared.chained.Part.{Part}
+use Rattle.asm_main.specs.{Joins.Chains.{is_open_behind, joined, joined_with}, declared.chained.Part.Part}
 
 -- a line behind two runs of bytes
 open-append : (o : Bool) (xs ys : List ℕ) → is_open_behind o (xs ++ ys) ≡ is_open_behind (is_open_behind o xs) ys

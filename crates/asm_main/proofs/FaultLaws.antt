@@ -1,13 +1,10 @@
 -- What the faults of a step show of the input and of the ports.
 use Rattle.std.proofs.Common.{ℕ, ◌≡◌, refl}
 use Rattle.definitions.specs.DeckInput.{Input}
-use Rattle.asm_main.specs.declared.asm_fault.AsmFault.{AsmFault}
-use Rattle.asm_main.specs.declared.asm_fault.AsmFault.TheVariants.{OutOfMemory, DeckFull, NameTaken, TooManyDecks, ReadFault, BadLine, LastLineCut, WriteFault, BadName}
+use Rattle.asm_main.specs.{declared.asm_fault.AsmFault.AsmFault, declared.asm_fault.AsmFault.TheVariants.{OutOfMemory, DeckFull, NameTaken, TooManyDecks, ReadFault, BadLine, LastLineCut, WriteFault, BadName}, Inputs.{IsFaultOf, cut_fault}, Runs.{IsBeforeWriting, input_count_after}}
 use Rattle.deck_cuts.specs.Cuts.{IsFaultOf as IsCutFaultOf}
 use Rattle.deck_cuts.specs.declared.cut_fault.CutFault.{CutFault}
 use Rattle.deck_cuts.specs.declared.cut_fault.CutFault.TheVariants as cut
-use Rattle.asm_main.specs.Inputs.{IsFaultOf, cut_fault}
-use Rattle.asm_main.specs.Runs.{IsBeforeWriting, input_count_after}
 
 -- a fault of the cut is that of the run
 pub IsFaultOf-cut : (input : Input) (fault : CutFault) → IsCutFaultOf input fault → IsFaultOf input (cut_fault fault)

@@ -1,13 +1,8 @@
 -- The steps of a filter; what it leaves as it is.
-use Rattle.std.proofs.Common.{ℕ, ◌≡◌, ◌<◌, ◌-◌, ◌+◌, List, [], ◌∷◌, ◌++◌, Bool, true, false, not, Option, Some, length, replicate, take, refl, ap, subst, ◌∙◌, arith, slice_set, if◌then◌else◌, nat_le, nat_lt}
-use Rattle.std.proofs.lemmas.Bool.{and_parts, false≢true, lt-ltb}
-use Rattle.std.specs.Prelude.{◌==◌, ◌&&◌, min}
-use Rattle.std.specs.List.{list_all}
-use Rattle.std.specs.Io.KnownBytes.{Consumes}
+use Rattle.std.{proofs.Common.{ℕ, ◌≡◌, ◌<◌, ◌-◌, ◌+◌, List, [], ◌∷◌, ◌++◌, Bool, true, false, not, Option, Some, length, replicate, take, refl, ap, subst, ◌∙◌, arith, slice_set, if◌then◌else◌, nat_le, nat_lt}, proofs.lemmas.Bool.{and_parts, false≢true, lt-ltb}, specs.Prelude.{◌==◌, ◌&&◌, min}, specs.List.list_all, specs.Io.KnownBytes.Consumes}
 use Rattle.definitions.specs.Characters.{blank}
 use Rattle.text_ports.specs.Lines.{line_feed}
-use Rattle.asm_main.specs.declared.filtered.Filter.{Filter}
-use Rattle.asm_main.specs.Joins.Filters.{NextIs, columns_behind, columns_with, end_of, filtered, folded, is_filled, is_open, is_plain, tab, tab_blanks}
+use Rattle.asm_main.specs.{declared.filtered.Filter.Filter, Joins.Filters.{NextIs, columns_behind, columns_with, end_of, filtered, folded, is_filled, is_open, is_plain, tab, tab_blanks}}
 
 -- the first item that is set is the first that is taken
 pub take-set : (buf : List ℕ) (b : ℕ) → 0 < length buf → take 1 (slice_set buf 0 b) ≡ b ∷ []

@@ -1,15 +1,6 @@
 -- A fault of the input stays; lines without a fault are few.
-use Rattle.std.proofs.Common.{codes, ℕ, suc, ◌≡◌, ◌+◌, ◌*◌, ◌≤◌, List, [], ◌∷◌, ◌++◌, length, reverse, not, nat_le, refl, ap, subst, ◌∙◌, arith}
-use Rattle.std.specs.Prelude.{⊤}
-use Rattle.std.specs.List.{AllByRecursion}
-use Rattle.std.proofs.lemmas.Bool.{cond_both, leb-false}
-use Rattle.std.proofs.lemmas.List.{reverse-append, reverse-reverse}
-use Rattle.definitions.specs.Characters.{same_text}
-use Rattle.definitions.specs.Cards.{Card, CardRead, IsCard, TooWide, BadCharacter, card_of}
-use Rattle.definitions.specs.Fields.{fields_of}
-use Rattle.definitions.specs.DeckInput.{Deck}
-use Rattle.definitions.specs.InputLines.{InputLine, Line, TooLong, Cut, lines_of}
-use Rattle.definitions.specs.DeckInput.{Input, Decks, Faulty, InputFault, BadName, NameTaken, TooManyDecks, DeckFull, most_decks, most_cards, is_deck_name, name_on, is_taken, begun, continued, with_card, with_read, with_line, input_of}
+use Rattle.std.{proofs.Common.{codes, ℕ, suc, ◌≡◌, ◌+◌, ◌*◌, ◌≤◌, List, [], ◌∷◌, ◌++◌, length, reverse, not, nat_le, refl, ap, subst, ◌∙◌, arith}, specs.Prelude.⊤, specs.List.AllByRecursion, proofs.lemmas.Bool.{cond_both, leb-false}, proofs.lemmas.List.{reverse-append, reverse-reverse}}
+use Rattle.definitions.specs.{Characters.same_text, Cards.{Card, CardRead, IsCard, TooWide, BadCharacter, card_of}, Fields.fields_of, DeckInput.{Deck, Input, Decks, Faulty, InputFault, BadName, NameTaken, TooManyDecks, DeckFull, most_decks, most_cards, is_deck_name, name_on, is_taken, begun, continued, with_card, with_read, with_line, input_of}, InputLines.{InputLine, Line, TooLong, Cut, lines_of}}
 use Rattle.asm_main.specs.Inputs.{input_in}
 use Rattle.deck_cuts.specs.Joins.CardRoles.{begun_named}
 

@@ -1,24 +1,11 @@
 -- The steps of reading lines: the bytes that were taken are the lines so far, whatever follows.
-use Rattle.std.proofs.Common.{ℕ, ◌≡◌, ◌+◌, ◌<◌, ◌≤◌, List, [], ◌∷◌, ◌++◌, Option, None, Some, length, reverse, refl, sym, ap, subst, ◌∙◌, arith, append_assoc, IfSome}
-use Rattle.std.specs.Prelude.{MatchOption}
-use Rattle.std.specs.Io.KnownBytes.{Consumes}
-use Rattle.std.proofs.KnownBytes.{Consumes-nil, Consumes-trans, Consumes-whole}
-use Rattle.std.proofs.lemmas.List.{append-nil, reverse-reverse}
-use Rattle.std.proofs.lemmas.Grind.{reverse_onto}
-use Rattle.definitions.specs.DeckInput.{Deck}
-use Rattle.definitions.specs.InputLines.{InputLine, Line, TooLong, Cut, lines_of}
-use Rattle.definitions.specs.DeckInput.{Input, Decks, Faulty, InputFault, with_line, input_of}
+use Rattle.std.{proofs.Common.{ℕ, ◌≡◌, ◌+◌, ◌<◌, ◌≤◌, List, [], ◌∷◌, ◌++◌, Option, None, Some, length, reverse, refl, sym, ap, subst, ◌∙◌, arith, append_assoc, IfSome}, specs.Prelude.MatchOption, specs.Io.KnownBytes.Consumes, proofs.KnownBytes.{Consumes-nil, Consumes-trans, Consumes-whole}, proofs.lemmas.List.{append-nil, reverse-reverse}, proofs.lemmas.Grind.reverse_onto}
+use Rattle.definitions.specs.{DeckInput.{Deck, Input, Decks, Faulty, InputFault, with_line, input_of}, InputLines.{InputLine, Line, TooLong, Cut, lines_of}}
 use Rattle.definitions.specs.DeckInput as input
-use Rattle.text_ports.specs.Lines.{line_feed, IsTakenAs, ReadsLine}
-use Rattle.text_ports.specs.declared.lines.LineIs.{LineIs}
+use Rattle.text_ports.{specs.Lines.{line_feed, IsTakenAs, ReadsLine}, specs.declared.lines.LineIs.LineIs, proofs.LineLaws.{lines_of-line, lines_of-cut, lines_of-few, lines_of-long}}
 use Rattle.text_ports.specs.declared.lines.LineIs.TheVariants as is
-use Rattle.asm_main.specs.declared.asm_fault.AsmFault.{AsmFault}
-use Rattle.asm_main.specs.declared.asm_fault.AsmFault.TheVariants.{OutOfMemory, DeckFull, NameTaken, TooManyDecks, ReadFault, BadLine, LastLineCut, WriteFault, BadName}
-use Rattle.deck_cuts.specs.Cuts.{newest_first, IsSound}
-use Rattle.asm_main.specs.Inputs.{input_in, AreDecksOf, input_fault, IsFaultOf, TellsFaultOf, ReadsToFault, ReadsSound, IsSoundBefore}
-use Rattle.text_ports.proofs.LineLaws.{lines_of-line, lines_of-cut, lines_of-few, lines_of-long}
-use Rattle.asm_main.proofs.InputLaws.{input_in-faulty, few_lines, few_decks}
-use Rattle.deck_cuts.proofs.DeckLaws.{in_input_order-newest_first, length-newest_first}
+use Rattle.asm_main.{specs.declared.asm_fault.AsmFault.AsmFault, specs.declared.asm_fault.AsmFault.TheVariants.{OutOfMemory, DeckFull, NameTaken, TooManyDecks, ReadFault, BadLine, LastLineCut, WriteFault, BadName}, specs.Inputs.{input_in, AreDecksOf, input_fault, IsFaultOf, TellsFaultOf, ReadsToFault, ReadsSound, IsSoundBefore}, proofs.InputLaws.{input_in-faulty, few_lines, few_decks}}
+use Rattle.deck_cuts.{specs.Cuts.{newest_first, IsSound}, proofs.DeckLaws.{in_input_order-newest_first, length-newest_first}}
 
 -- the reader lost the bytes of these lines, newest first
 pub record IsReadAs (old new : Option (List ℕ)) (lines : List InputLine) : Type 0 where

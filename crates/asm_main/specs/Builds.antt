@@ -1,16 +1,7 @@
 -- What a run writes, counts and says: the build of the decks of its input (ours).
-use Rattle.std.specs.Prelude.{ℕ, ◌≡◌, ◌<◌, ⊤, List, [], ◌++◌, Option, Result, Ok, Err, length, take, codes, IfSome}
-use Rattle.std.specs.Io.KnownBytes.{Appends, Keeps}
-use Rattle.definitions.specs.Answer.{Answer, answer_of}
-use Rattle.definitions.specs.Build.{Build, build_of}
-use Rattle.definitions.specs.DeckInput.{Deck}
-use Rattle.definitions.specs.Listing.{line}
-use Rattle.asm_main.specs.Faults.{fault_text}
-use Rattle.asm_main.specs.Inputs.{input_in, AreDecksOf, input_fault}
-use Rattle.asm_main.specs.Runs.{run_status}
-use Rattle.asm_main.specs.declared.asm_fault.AsmFault.{AsmFault}
-use Rattle.asm_main.specs.declared.asm_fault.AsmFault.TheVariants.{OutOfMemory, DeckFull, NameTaken, TooManyDecks, ReadFault, BadLine, LastLineCut, WriteFault, BadName}
-use Rattle.asm_main.specs.declared.running.Tally.{Tally}
+use Rattle.std.specs.{Prelude.{ℕ, ◌≡◌, ◌<◌, ⊤, List, [], ◌++◌, Option, Result, Ok, Err, length, take, codes, IfSome}, Io.KnownBytes.{Appends, Keeps}}
+use Rattle.definitions.specs.{Answer.{Answer, answer_of}, Build.{Build, build_of}, DeckInput.Deck, Listing.line}
+use Rattle.asm_main.specs.{Faults.fault_text, Inputs.{input_in, AreDecksOf, input_fault}, Runs.run_status, declared.asm_fault.AsmFault.AsmFault, declared.asm_fault.AsmFault.TheVariants.{OutOfMemory, DeckFull, NameTaken, TooManyDecks, ReadFault, BadLine, LastLineCut, WriteFault, BadName}, declared.running.Tally.Tally}
 
 -- the count of a build
 abbrev pub Counts : Build → Tally → Type 0

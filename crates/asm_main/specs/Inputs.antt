@@ -1,16 +1,12 @@
 -- What a run makes of its input, in the words of the definitions (ours).
-use Rattle.std.specs.Prelude.{ℕ, ◌≡◌, ◌<◌, ◌≤◌, ◌^◌, ⊤, List, ◌++◌, Option, Some, None, length, reverse, IfSome, MatchOption}
-use Rattle.std.specs.Io.KnownBytes.{Consumes}
-use Rattle.definitions.specs.InputLines.{lines_of}
-use Rattle.definitions.specs.DeckInput.{Deck, Input, Decks, Faulty, InputFault, input_of, in_input_order}
+use Rattle.std.specs.{Prelude.{ℕ, ◌≡◌, ◌<◌, ◌≤◌, ◌^◌, ⊤, List, ◌++◌, Option, Some, None, length, reverse, IfSome, MatchOption}, Io.KnownBytes.Consumes}
+use Rattle.definitions.specs.{InputLines.lines_of, DeckInput.{Deck, Input, Decks, Faulty, InputFault, input_of, in_input_order}}
 use Rattle.definitions.specs.DeckInput as input
 use Rattle.cards.specs.declared.card.CardFault.{CardFault}
 use Rattle.cards.specs.declared.card.CardFault.TheVariants as card
-use Rattle.deck_cuts.specs.Cuts.{IsSound}
-use Rattle.deck_cuts.specs.declared.cut_fault.CutFault.{CutFault}
+use Rattle.deck_cuts.specs.{Cuts.IsSound, declared.cut_fault.CutFault.CutFault}
 use Rattle.deck_cuts.specs.declared.cut_fault.CutFault.TheVariants as cut
-use Rattle.asm_main.specs.declared.asm_fault.AsmFault.{AsmFault}
-use Rattle.asm_main.specs.declared.asm_fault.AsmFault.TheVariants.{OutOfMemory, DeckFull, NameTaken, TooManyDecks, ReadFault, BadLine, LastLineCut, WriteFault, BadName}
+use Rattle.asm_main.specs.declared.asm_fault.AsmFault.{AsmFault, TheVariants.{OutOfMemory, DeckFull, NameTaken, TooManyDecks, ReadFault, BadLine, LastLineCut, WriteFault, BadName}}
 
 -- the input that these bytes are
 abbrev pub input_in : List ℕ → Input

@@ -1,10 +1,7 @@
 -- What a run does to its ports, and its status (ours).
-use Rattle.std.specs.Prelude.{ℕ, ◌==◌, ◌&&◌, if◌then◌else◌, List, Option, Result, Ok, Err, ⊤}
-use Rattle.std.specs.Io.KnownBytes.{IsAtEnd}
+use Rattle.std.specs.{Prelude.{ℕ, ◌==◌, ◌&&◌, if◌then◌else◌, List, Option, Result, Ok, Err, ⊤}, Io.KnownBytes.IsAtEnd}
 use Rattle.text_ports.specs.Faults.{count_up}
-use Rattle.asm_main.specs.declared.asm_fault.AsmFault.{AsmFault}
-use Rattle.asm_main.specs.declared.asm_fault.AsmFault.TheVariants.{OutOfMemory, DeckFull, NameTaken, TooManyDecks, ReadFault, BadLine, LastLineCut, WriteFault, BadName}
-use Rattle.asm_main.specs.declared.running.Tally.{Tally}
+use Rattle.asm_main.specs.declared.{asm_fault.AsmFault.AsmFault, asm_fault.AsmFault.TheVariants.{OutOfMemory, DeckFull, NameTaken, TooManyDecks, ReadFault, BadLine, LastLineCut, WriteFault, BadName}, running.Tally.Tally}
 
 -- the fault came before anything was written
 abbrev pub IsBeforeWriting : AsmFault → Type 0

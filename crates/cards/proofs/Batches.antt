@@ -1,19 +1,7 @@
 -- Batches of edits that are carried converge with the edits of others.
-use Rattle.std.proofs.Common.{ℕ, ◌≡◌, ◌+◌, ◌-◌, ◌==◌, ◌≤◌, ◌<◌, ◌⊎◌, inl, inr, suc, Bool, true, false, List, [], ◌∷◌, length, Option, Some, None, Result, Ok, Err, if◌then◌else◌, refl, sym, ap, subst, ◌∙◌, arith, nat_lt}
-use Rattle.std.proofs.lemmas.Bool.Decides.{leb_tells, Decides-eqb}
+use Rattle.std.proofs.{Common.{ℕ, ◌≡◌, ◌+◌, ◌-◌, ◌==◌, ◌≤◌, ◌<◌, ◌⊎◌, inl, inr, suc, Bool, true, false, List, [], ◌∷◌, length, Option, Some, None, Result, Ok, Err, if◌then◌else◌, refl, sym, ap, subst, ◌∙◌, arith, nat_lt}, lemmas.Bool.Decides.{leb_tells, Decides-eqb}}
 use Rattle.definitions.specs.Cards.{Card}
-use Rattle.cards.specs.declared.edits.Edit.{Edit}
-use Rattle.cards.specs.declared.edits.Edit.TheVariants.{Insert, Replace, Remove}
-use Rattle.cards.specs.declared.carrying.MadeEdit.{MadeEdit}
-use Rattle.cards.specs.declared.carrying.Touched.{Touched}
-use Rattle.cards.specs.declared.carrying.Origin.{Origin}
-use Rattle.cards.specs.declared.carrying.Origin.TheVariants.{Same, Own, Further, Nearer}
-use Rattle.cards.specs.Edits.{edited, edited_by}
-use Rattle.cards.specs.Carrying.{Whereabouts, moved, place_after, seen_before, one_further, one_nearer, in_gap, carried_place, placed, origin_of, stands_from, stands_after, in_front, carried}
-use Rattle.cards.specs.Converging.{edits_in, HasPlace, HavePlaces, without_places, Converge}
-use Rattle.cards.proofs.Crossing.{Beside, InFront, Behind, Over, Out, beside, IsBeside}
-use Rattle.cards.proofs.Following.{differ}
-use Rattle.cards.proofs.Converging.{goes, crossed_all, Crossed, all-crossed, before-goes, past-goes, front-goes, behind-goes, over-goes}
+use Rattle.cards.{specs.declared.edits.Edit.Edit, specs.declared.edits.Edit.TheVariants.{Insert, Replace, Remove}, specs.declared.carrying.MadeEdit.MadeEdit, specs.declared.carrying.Touched.Touched, specs.declared.carrying.Origin.Origin, specs.declared.carrying.Origin.TheVariants.{Same, Own, Further, Nearer}, specs.Edits.{edited, edited_by}, specs.Carrying.{Whereabouts, moved, place_after, seen_before, one_further, one_nearer, in_gap, carried_place, placed, origin_of, stands_from, stands_after, in_front, carried}, specs.Converging.{edits_in, HasPlace, HavePlaces, without_places, Converge}, proofs.Crossing.{Beside, InFront, Behind, Over, Out, beside, IsBeside}, proofs.Following.differ, proofs.Converging.{goes, crossed_all, Crossed, all-crossed, before-goes, past-goes, front-goes, behind-goes, over-goes}}
 
 -- what these whereabouts show is where cards stand after these edits of others
 abbrev pub Tells : Whereabouts → List Edit → Type 0

@@ -1,9 +1,7 @@
 -- What stands before the next card.
 use Rattle.std.proofs.Common.{◌≡◌, ℕ, ◌+◌, ◌≤◌, List, ◌∷◌, Bool, true, false, refl, ap, add-one, arith}
-use Rattle.definitions.specs.Cards.{Card, is_comma_card}
-use Rattle.definitions.specs.Statements.{comma_cards, has_owner}
-use Rattle.cards.specs.declared.statement_list.Before.{Before}
-use Rattle.cards.specs.Joins.Befores.{before_of, with_card}
+use Rattle.definitions.specs.{Cards.{Card, is_comma_card}, Statements.{comma_cards, has_owner}}
+use Rattle.cards.specs.{declared.statement_list.Before.Before, Joins.Befores.{before_of, with_card}}
 
 abbrev made : ℕ → Bool → Before
 made count owned = record { comma_cards = count; has_owner = owned }

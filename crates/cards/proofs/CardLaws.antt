@@ -1,13 +1,7 @@
 -- Cards compared as they lie in memory.
-use Rattle.std.proofs.Common.{ℕ, ◌≡◌, inl, inr, ◌≢◌, List, Bool, true, false, nat_eq, length, take, refl, sym, ap, ap₂, ◌∙◌, arith}
-use Rattle.std.specs.Cmp.Lexicographic.{pointwise, bytes_decides}
-use Rattle.std.proofs.lemmas.Bool.{ne_eqb}
-use Rattle.std.proofs.lemmas.List.{length-take-le}
-use Rattle.definitions.specs.Cards.{padded}
-use Rattle.definitions.specs.Characters.{same_text}
-use Rattle.definitions.proofs.TextLaws.{same_text_tells}
-use Rattle.cards.specs.Joins.Columns.{IsPadded}
-use Rattle.cards.proofs.ColumnLaws.{length-padded}
+use Rattle.std.{proofs.Common.{ℕ, ◌≡◌, inl, inr, ◌≢◌, List, Bool, true, false, nat_eq, length, take, refl, sym, ap, ap₂, ◌∙◌, arith}, specs.Cmp.Lexicographic.{pointwise, bytes_decides}, proofs.lemmas.Bool.ne_eqb, proofs.lemmas.List.length-take-le}
+use Rattle.definitions.{specs.Cards.padded, specs.Characters.same_text, proofs.TextLaws.same_text_tells}
+use Rattle.cards.{specs.Joins.Columns.IsPadded, proofs.ColumnLaws.length-padded}
 
 -- a card is as long as it is said to be
 length-kept : (len : ℕ) (columns : List ℕ) → IsPadded len columns → length (take len columns) ≡ len

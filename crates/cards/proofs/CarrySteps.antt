@@ -1,12 +1,6 @@
 -- Edits carried one behind the other.
-use Rattle.std.proofs.Common.{ℕ, zero, suc, ◌≡◌, ◌+◌, ◌*◌, ◌^◌, ◌≤◌, ◌<◌, ◌⊎◌, inl, inr, List, [], ◌∷◌, ◌++◌, length, take, drop, get_or, Result, Ok, Err, refl, sym, ap, ◌∙◌, arith, append_assoc}
-use Rattle.std.proofs.Math.ListN.{set, length-set}
-use Rattle.std.proofs.lemmas.List.{at_drop_all, drop_more, take_all, take-set, append-nil, get_or-set_same}
-use Rattle.cards.specs.declared.edits.Edit.{Edit}
-use Rattle.cards.specs.declared.carrying.Origin.{Origin}
-use Rattle.cards.specs.declared.carrying.Touched.{Touched}
-use Rattle.cards.specs.Carrying.{Whereabouts, carried_place, placed, origin_of, stands_from, stands_after, in_front, carried}
-use Rattle.cards.specs.Joins.CarrySteps.{stands_through, placed_all, AreNear, in_front_all, carried_to}
+use Rattle.std.proofs.{Common.{ℕ, zero, suc, ◌≡◌, ◌+◌, ◌*◌, ◌^◌, ◌≤◌, ◌<◌, ◌⊎◌, inl, inr, List, [], ◌∷◌, ◌++◌, length, take, drop, get_or, Result, Ok, Err, refl, sym, ap, ◌∙◌, arith, append_assoc}, Math.ListN.{set, length-set}, lemmas.List.{at_drop_all, drop_more, take_all, take-set, append-nil, get_or-set_same}}
+use Rattle.cards.specs.{declared.edits.Edit.Edit, declared.carrying.Origin.Origin, declared.carrying.Touched.Touched, Carrying.{Whereabouts, carried_place, placed, origin_of, stands_from, stands_after, in_front, carried}, Joins.CarrySteps.{stands_through, placed_all, AreNear, in_front_all, carried_to}}
 
 -- where the cards stand once one edit more is made
 pub stands-more : (edits : List Edit) (places : List ℕ) (n : ℕ) (edit : Edit) (now : ℕ) (stands : Whereabouts) → n < length edits → n < length places → edit ≡ get_or edits n edit → now ≡ get_or places n now →

@@ -1,10 +1,6 @@
 -- Columns with blanks behind them, and the text of cards.
-use Rattle.std.proofs.Common.{ℕ, ◌≡◌, ◌+◌, ◌-◌, ◌≤◌, ◌<◌, List, [], ◌∷◌, ◌++◌, length, take, drop, get_or, replicate, sym, ◌∙◌, ap, arith, length-append, append_assoc}
-use Rattle.std.proofs.lemmas.List.{take-take, take-append-le, length-replicate, length-take-le, replicate-append-replicate, at_drop_more}
-use Rattle.std.specs.List.{flat_map}
-use Rattle.definitions.specs.Characters.{blank}
-use Rattle.definitions.specs.Cards.{padded}
-use Rattle.definitions.specs.Statements.{text_of}
+use Rattle.std.{proofs.Common.{ℕ, ◌≡◌, ◌+◌, ◌-◌, ◌≤◌, ◌<◌, List, [], ◌∷◌, ◌++◌, length, take, drop, get_or, replicate, sym, ◌∙◌, ap, arith, length-append, append_assoc}, proofs.lemmas.List.{take-take, take-append-le, length-replicate, length-take-le, replicate-append-replicate, at_drop_more}, specs.List.flat_map}
+use Rattle.definitions.specs.{Characters.blank, Cards.padded, Statements.text_of}
 
 -- as many columns as are asked for
 pub length-padded : (width : ℕ) (card : List ℕ) → length (padded width card) ≡ width

@@ -1,11 +1,6 @@
 -- Steps over the columns of cards.
-use Rattle.std.proofs.Common.{◌≡◌, ◌≢◌, ℕ, ◌+◌, ◌-◌, ◌≤◌, ◌<◌, zero, suc, true, false, true≢false, not, ◌&&◌, cond, Some, None, List, [], ◌∷◌, ◌++◌, length, take, drop, position, refl, sym, ap, subst, ◌∙◌, arith, le-ltb, get_or}
-use Rattle.std.specs.Prelude.{nat_lt, replicate, is_some, is_none}
-use Rattle.std.specs.List.{list_all, position_or_len}
-use Rattle.std.proofs.lemmas.Bool.{ne_eqb}
-use Rattle.std.proofs.lemmas.List.{take_more, take-take, take-replicate, drop-replicate, take_at}
-use Rattle.definitions.specs.Cards.{trimmed, onto_columns, padded}
-use Rattle.definitions.specs.Characters.{blank, display_code_of}
+use Rattle.std.{proofs.Common.{◌≡◌, ◌≢◌, ℕ, ◌+◌, ◌-◌, ◌≤◌, ◌<◌, zero, suc, true, false, true≢false, not, ◌&&◌, cond, Some, None, List, [], ◌∷◌, ◌++◌, length, take, drop, position, refl, sym, ap, subst, ◌∙◌, arith, le-ltb, get_or}, specs.Prelude.{nat_lt, replicate, is_some, is_none}, specs.List.{list_all, position_or_len}, proofs.lemmas.Bool.ne_eqb, proofs.lemmas.List.{take_more, take-take, take-replicate, drop-replicate, take_at}}
+use Rattle.definitions.specs.{Cards.{trimmed, onto_columns, padded}, Characters.{blank, display_code_of}}
 use Rattle.cards.specs.Joins.Columns.{IsPadded}
 
 -- a blank more at the end is dropped

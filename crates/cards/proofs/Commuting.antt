@@ -1,7 +1,5 @@
 -- Two changes of a list at two places, in both orders.
-use Rattle.std.specs.Prelude.{insert, remove}
-use Rattle.std.proofs.Common.{ℕ, zero, suc, ◌≡◌, ◌≤◌, ◌<◌, List, [], ◌∷◌, length, refl, ap, arith}
-use Rattle.std.proofs.Math.ListN.{set}
+use Rattle.std.{specs.Prelude.{insert, remove}, proofs.Common.{ℕ, zero, suc, ◌≡◌, ◌≤◌, ◌<◌, List, [], ◌∷◌, length, refl, ap, arith}, proofs.Math.ListN.set}
 
 -- of two elements that are put, the one in front first, or the other
 pub insert-insert : {X : Type 0} (xs : List X) (i j : ℕ) (x y : X) → i ≤ j → j ≤ length xs → insert (insert xs i x) (suc j) y ≡ insert (insert xs j y) i x

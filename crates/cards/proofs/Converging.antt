@@ -1,15 +1,7 @@
 -- Edits that are carried converge with those of others.
-use Rattle.std.proofs.Common.{ℕ, ◌≡◌, ◌+◌, ◌-◌, ◌≤◌, ◌<◌, ◌⊎◌, inl, inr, Bool, true, false, List, [], ◌∷◌, length, Option, Some, None, if◌then◌else◌, refl, sym, ap, subst, ◌∙◌, arith, nat_le}
-use Rattle.std.proofs.Math.ListN.{length-set}
-use Rattle.std.proofs.lemmas.List.Edits.{length-insert, length-remove}
+use Rattle.std.proofs.{Common.{ℕ, ◌≡◌, ◌+◌, ◌-◌, ◌≤◌, ◌<◌, ◌⊎◌, inl, inr, Bool, true, false, List, [], ◌∷◌, length, Option, Some, None, if◌then◌else◌, refl, sym, ap, subst, ◌∙◌, arith, nat_le}, Math.ListN.length-set, lemmas.List.Edits.{length-insert, length-remove}}
 use Rattle.definitions.specs.Cards.{Card}
-use Rattle.cards.specs.declared.edits.Edit.{Edit}
-use Rattle.cards.specs.declared.edits.Edit.TheVariants.{Insert, Replace, Remove}
-use Rattle.cards.specs.Edits.{edited, edited_by}
-use Rattle.cards.specs.Carrying.{moved, placed}
-use Rattle.cards.specs.Converging.{HasPlace, HavePlaces, without_places}
-use Rattle.cards.proofs.Crossing.{Beside, InFront, Behind, Over, Out, beside, least, beyond, IsBeside, bumped, shifted, crossed, insert-moves, replace-moves, remove-moves, shifted-low, shifted-high, crosses}
-use Rattle.cards.proofs.Following.{IsBefore, IsPast, before-step, past-step, front-step, behind-step}
+use Rattle.cards.{specs.declared.edits.Edit.Edit, specs.declared.edits.Edit.TheVariants.{Insert, Replace, Remove}, specs.Edits.{edited, edited_by}, specs.Carrying.{moved, placed}, specs.Converging.{HasPlace, HavePlaces, without_places}, proofs.Crossing.{Beside, InFront, Behind, Over, Out, beside, least, beyond, IsBeside, bumped, shifted, crossed, insert-moves, replace-moves, remove-moves, shifted-low, shifted-high, crosses}, proofs.Following.{IsBefore, IsPast, before-step, past-step, front-step, behind-step}}
 
 -- the least place is 0 or 1
 least-low : (own : Beside) → least own ≤ 1

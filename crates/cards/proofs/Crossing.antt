@@ -1,15 +1,7 @@
 -- An edit of the sender and one of another, in both orders.
-use Rattle.std.specs.Prelude.{insert, remove}
-use Rattle.std.proofs.Common.{ℕ, suc, ◌≡◌, ◌+◌, ◌-◌, ◌==◌, ◌≤◌, ◌<◌, ◌⊎◌, inl, inr, Bool, true, false, List, length, Option, Some, None, if◌then◌else◌, sym, ap, arith, nat_le, nat_lt}
-use Rattle.std.proofs.Math.ListN.{set}
-use Rattle.std.proofs.lemmas.Bool.Decides.{leb_tells, Decides-eqb}
+use Rattle.std.{specs.Prelude.{insert, remove}, proofs.Common.{ℕ, suc, ◌≡◌, ◌+◌, ◌-◌, ◌==◌, ◌≤◌, ◌<◌, ◌⊎◌, inl, inr, Bool, true, false, List, length, Option, Some, None, if◌then◌else◌, sym, ap, arith, nat_le, nat_lt}, proofs.Math.ListN.set, proofs.lemmas.Bool.Decides.{leb_tells, Decides-eqb}}
 use Rattle.definitions.specs.Cards.{Card}
-use Rattle.cards.specs.declared.edits.Edit.{Edit}
-use Rattle.cards.specs.declared.edits.Edit.TheVariants.{Insert, Replace, Remove}
-use Rattle.cards.specs.Edits.{edited}
-use Rattle.cards.specs.Carrying.{moved}
-use Rattle.cards.specs.Converging.{HasPlace}
-use Rattle.cards.proofs.Commuting.{insert-insert, set-insert_behind, set-insert_in_front, remove-insert_behind, remove-insert_in_front, set-set_apart, remove-set_behind, remove-set_in_front, remove-remove}
+use Rattle.cards.{specs.declared.edits.Edit.Edit, specs.declared.edits.Edit.TheVariants.{Insert, Replace, Remove}, specs.Edits.edited, specs.Carrying.moved, specs.Converging.HasPlace, proofs.Commuting.{insert-insert, set-insert_behind, set-insert_in_front, remove-insert_behind, remove-insert_in_front, set-set_apart, remove-set_behind, remove-set_in_front, remove-remove}}
 
 -- an edit, known by the card beside which it is made: an insertion in front of it or behind it, another card over it, or its removal
 pub data Beside : Type 0 where

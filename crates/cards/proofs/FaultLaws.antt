@@ -1,18 +1,7 @@
 -- The first edit that does not apply is known by the number of cards.
-use Rattle.std.specs.Prelude.{remove}
-use Rattle.std.proofs.Common.{ℕ, zero, suc, ◌≡◌, ◌+◌, ◌-◌, ◌≤◌, ◌<◌, Bool, true, false, not, List, [], ◌∷◌, ◌++◌, length, take, drop, get_or, Option, Some, None, refl, sym, ap, subst, ◌∙◌, arith, option_map, nat_le}
-use Rattle.std.proofs.lemmas.Bool.{leb-true, leb-false, and_parts}
-use Rattle.std.proofs.lemmas.List.{length-set, at_drop_more, take-set, take-take, take-append-le, length-take-le}
-use Rattle.std.proofs.lemmas.List.Edits.{length-insert, length-remove}
+use Rattle.std.{specs.Prelude.remove, proofs.Common.{ℕ, zero, suc, ◌≡◌, ◌+◌, ◌-◌, ◌≤◌, ◌<◌, Bool, true, false, not, List, [], ◌∷◌, ◌++◌, length, take, drop, get_or, Option, Some, None, refl, sym, ap, subst, ◌∙◌, arith, option_map, nat_le}, proofs.lemmas.Bool.{leb-true, leb-false, and_parts}, proofs.lemmas.List.{length-set, at_drop_more, take-set, take-take, take-append-le, length-take-le}, proofs.lemmas.List.Edits.{length-insert, length-remove}}
 use Rattle.definitions.specs.Cards.{Card}
-use Rattle.cards.specs.declared.edits.Edit.{Edit}
-use Rattle.cards.specs.declared.edits.Edit.TheVariants.{Insert, Replace, Remove}
-use Rattle.cards.specs.declared.edits.EditFault.{EditFault}
-use Rattle.cards.specs.Causes.{when, first_cause}
-use Rattle.cards.specs.Counts.{fault_at, count_after, fault_from}
-use Rattle.cards.specs.Edits.{is_place, fault_of, edited, edited_by, first_fault}
-use Rattle.cards.specs.Joins.CarrySteps.{place_in}
-use Rattle.cards.specs.Converging.{HasPlace, HavePlaces}
+use Rattle.cards.specs.{declared.edits.Edit.Edit, declared.edits.Edit.TheVariants.{Insert, Replace, Remove}, declared.edits.EditFault.EditFault, Causes.{when, first_cause}, Counts.{fault_at, count_after, fault_from}, Edits.{is_place, fault_of, edited, edited_by, first_fault}, Joins.CarrySteps.place_in, Converging.{HasPlace, HavePlaces}}
 
 -- a cause that is absent
 absent : {A : Type 0} (b : Bool) (cause : A) → when (not b) cause ≡ None → b ≡ true

@@ -1,11 +1,7 @@
 -- Where cards stand once the sender's edit is made, known by where they stood before it.
-use Rattle.std.proofs.Common.{ℕ, ◌≡◌, ◌+◌, ◌-◌, ◌==◌, ◌≤◌, ◌<◌, ◌⊎◌, inl, inr, Bool, true, false, Some, None, if◌then◌else◌, suc, refl, sym, ap, ◌∙◌, arith, nat_lt}
-use Rattle.std.proofs.lemmas.Bool.Decides.{leb_tells, Decides-eqb}
+use Rattle.std.proofs.{Common.{ℕ, ◌≡◌, ◌+◌, ◌-◌, ◌==◌, ◌≤◌, ◌<◌, ◌⊎◌, inl, inr, Bool, true, false, Some, None, if◌then◌else◌, suc, refl, sym, ap, ◌∙◌, arith, nat_lt}, lemmas.Bool.Decides.{leb_tells, Decides-eqb}}
 use Rattle.definitions.specs.Cards.{Card}
-use Rattle.cards.specs.declared.edits.Edit.{Edit}
-use Rattle.cards.specs.declared.edits.Edit.TheVariants.{Insert, Replace, Remove}
-use Rattle.cards.specs.Carrying.{moved}
-use Rattle.cards.proofs.Crossing.{Beside, InFront, Behind, Over, Out, bumped, shifted, crossed, insert-moves, replace-moves, remove-moves, shifted-low, shifted-high}
+use Rattle.cards.{specs.declared.edits.Edit.Edit, specs.declared.edits.Edit.TheVariants.{Insert, Replace, Remove}, specs.Carrying.moved, proofs.Crossing.{Beside, InFront, Behind, Over, Out, bumped, shifted, crossed, insert-moves, replace-moves, remove-moves, shifted-low, shifted-high}}
 
 -- whether a card stands in front of the edit beside another; an edit over a card moves none
 abbrev pub IsBefore : Beside → ℕ → ℕ → Type 0

@@ -1,11 +1,6 @@
 -- The parts of a text that its fields are.
-use Rattle.std.proofs.Common.{ℕ, suc, ◌≡◌, ◌+◌, ◌-◌, ◌<◌, ◌≤◌, inl, inr, List, [], ◌∷◌, Bool, cond, ◌==◌, if◌then◌else◌, length, drop, refl, sym, ◌∙◌, ap, subst, true, arith, lt-ltb, le-ltb, drop-drop, Decides}
-use Rattle.std.specs.List.{prefix_len}
-use Rattle.std.proofs.lemmas.List.{length-drop, drop_all}
-use Rattle.std.proofs.lemmas.Bool.Decides.{eqb_tells}
-use Rattle.definitions.specs.Characters.{blank, same_text}
-use Rattle.definitions.specs.Fields.{without_blanks}
-use Rattle.definitions.proofs.TextLaws.{same_text-true, same_text-refl}
+use Rattle.std.{proofs.Common.{ℕ, suc, ◌≡◌, ◌+◌, ◌-◌, ◌<◌, ◌≤◌, inl, inr, List, [], ◌∷◌, Bool, cond, ◌==◌, if◌then◌else◌, length, drop, refl, sym, ◌∙◌, ap, subst, true, arith, lt-ltb, le-ltb, drop-drop, Decides}, specs.List.prefix_len, proofs.lemmas.List.{length-drop, drop_all}, proofs.lemmas.Bool.Decides.eqb_tells}
+use Rattle.definitions.{specs.Characters.{blank, same_text}, specs.Fields.without_blanks, proofs.TextLaws.{same_text-true, same_text-refl}}
 use Rattle.cards.specs.Joins.FieldParts.{in_time}
 
 -- what the test of two texts shows

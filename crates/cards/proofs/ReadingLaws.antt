@@ -1,10 +1,6 @@
 -- The steps of reading a variable field.
-use Rattle.std.proofs.Common.{ℕ, zero, suc, ◌≡◌, ◌+◌, inl, inr, List, [], ◌∷◌, Bool, false, if◌then◌else◌, length, take, drop, refl, sym, ◌∙◌, ap, subst, arith, drop-drop, codes}
-use Rattle.std.proofs.lemmas.Bool.Decides.{eqb_tells}
-use Rattle.definitions.specs.Characters.{blank, same_text}
-use Rattle.definitions.specs.Pieces.{Spot, AtStart, begun_at, spot_behind, left_of, field_at}
-use Rattle.definitions.specs.Fields.{variable_of}
-use Rattle.definitions.proofs.FieldLaws.{field_at-blank, field_at-other}
+use Rattle.std.proofs.{Common.{ℕ, zero, suc, ◌≡◌, ◌+◌, inl, inr, List, [], ◌∷◌, Bool, false, if◌then◌else◌, length, take, drop, refl, sym, ◌∙◌, ap, subst, arith, drop-drop, codes}, lemmas.Bool.Decides.eqb_tells}
+use Rattle.definitions.{specs.Characters.{blank, same_text}, specs.Pieces.{Spot, AtStart, begun_at, spot_behind, left_of, field_at}, specs.Fields.variable_of, proofs.FieldLaws.{field_at-blank, field_at-other}}
 
 -- a field begins its text
 pub take-field_at : (spot : Spot) (left : ℕ) (text : List ℕ) → take (length (field_at spot left text)) text ≡ field_at spot left text

@@ -1,17 +1,7 @@
 -- Steps over the cards of a deck, whose statements are spans.
-use Rattle.std.proofs.Common.{◌≡◌, ℕ, ◌+◌, ◌-◌, ◌≤◌, ◌<◌, zero, suc, List, [], ◌∷◌, ◌++◌, Bool, true, false, length, take, drop, get_or, refl, sym, ap, ◌∙◌, arith, reverse}
-use Rattle.std.specs.Prelude.{All, nat_lt, nat_le, ◌&&◌, if◌then◌else◌}
-use Rattle.std.specs.List.{AllByRecursion}
-use Rattle.std.proofs.lemmas.Bool.{lt-ltb, leb-true, ltb-true}
-use Rattle.std.proofs.lemmas.List.Elements.{All-from_recursion}
-use Rattle.std.proofs.lemmas.List.{map_push, reverse-append, take_more, get_or-drop, length-reverse, length-take-le, length-drop}
-use Rattle.definitions.specs.Cards.{Card, is_comma_card}
-use Rattle.definitions.specs.Statements.{Statement, statements_of, onto_latest, continues}
-use Rattle.cards.specs.declared.statement_list.Span.{Span}
-use Rattle.cards.specs.declared.statement_list.Before.{Before}
-use Rattle.cards.specs.Joins.Befores.{before_of, with_card, is_continued_by}
-use Rattle.cards.specs.Joins.Spans.{IsSpan, statement_at, statements_at, with_last}
-use Rattle.cards.proofs.BeforeSteps.{before_of-more, few-more}
+use Rattle.std.{proofs.Common.{◌≡◌, ℕ, ◌+◌, ◌-◌, ◌≤◌, ◌<◌, zero, suc, List, [], ◌∷◌, ◌++◌, Bool, true, false, length, take, drop, get_or, refl, sym, ap, ◌∙◌, arith, reverse}, specs.Prelude.{All, nat_lt, nat_le, ◌&&◌, if◌then◌else◌}, specs.List.AllByRecursion, proofs.lemmas.Bool.{lt-ltb, leb-true, ltb-true}, proofs.lemmas.List.Elements.All-from_recursion, proofs.lemmas.List.{map_push, reverse-append, take_more, get_or-drop, length-reverse, length-take-le, length-drop}}
+use Rattle.definitions.specs.{Cards.{Card, is_comma_card}, Statements.{Statement, statements_of, onto_latest, continues}}
+use Rattle.cards.{specs.declared.statement_list.Span.Span, specs.declared.statement_list.Before.Before, specs.Joins.Befores.{before_of, with_card, is_continued_by}, specs.Joins.Spans.{IsSpan, statement_at, statements_at, with_last}, proofs.BeforeSteps.{before_of-more, few-more}}
 
 -- the first `k` cards, newest first
 abbrev pub first_cards : List Card → ℕ → List Card

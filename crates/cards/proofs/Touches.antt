@@ -1,13 +1,6 @@
 -- What is stated of a card that was changed is so.
 use Rattle.std.proofs.Common.{ℕ, ◌≡◌, ◌⊎◌, inl, inr, List, [], ◌∷◌, ◌++◌, Option, Some, None, Result, Ok, Err, refl, ap, subst, ◌∙◌}
-use Rattle.cards.specs.declared.edits.Edit.{Edit}
-use Rattle.cards.specs.declared.edits.Edit.TheVariants.{Insert, Replace, Remove}
-use Rattle.cards.specs.declared.carrying.MadeEdit.{MadeEdit}
-use Rattle.cards.specs.declared.carrying.Touched.{Touched}
-use Rattle.cards.specs.declared.carrying.Origin.{Origin}
-use Rattle.cards.specs.declared.carrying.Origin.TheVariants.{Same, Own, Further, Nearer}
-use Rattle.cards.specs.Carrying.{Whereabouts, moved, place_after, seen_before, one_further, one_nearer, in_gap, carried_place, placed, origin_of, stands_from, stands_after, in_front, carried}
-use Rattle.cards.specs.Converging.{WasChanged}
+use Rattle.cards.specs.{declared.edits.Edit.Edit, declared.edits.Edit.TheVariants.{Insert, Replace, Remove}, declared.carrying.MadeEdit.MadeEdit, declared.carrying.Touched.Touched, declared.carrying.Origin.Origin, declared.carrying.Origin.TheVariants.{Same, Own, Further, Nearer}, Carrying.{Whereabouts, moved, place_after, seen_before, one_further, one_nearer, in_gap, carried_place, placed, origin_of, stands_from, stands_after, in_front, carried}, Converging.WasChanged}
 
 -- a card of a number was changed behind a place where it stood
 record ChangedFrom (number start : ℕ) (made : List MadeEdit) (touched : Touched) : Type 0 where

@@ -1,11 +1,7 @@
 -- Edits carried over those of others, computed.
 use Rattle.std.proofs.Common.{ℕ, ◌≡◌, List, [], ◌∷◌, Result, Ok, Err, refl}
 use Rattle.definitions.specs.Cards.{Card}
-use Rattle.cards.specs.declared.edits.Edit.{Edit}
-use Rattle.cards.specs.declared.edits.Edit.TheVariants.{Insert, Replace, Remove}
-use Rattle.cards.specs.declared.carrying.MadeEdit.{MadeEdit}
-use Rattle.cards.specs.declared.carrying.Touched.{Touched}
-use Rattle.cards.specs.Carrying.{seen_before, carried}
+use Rattle.cards.specs.{declared.edits.Edit.Edit, declared.edits.Edit.TheVariants.{Insert, Replace, Remove}, declared.carrying.MadeEdit.MadeEdit, declared.carrying.Touched.Touched, Carrying.{seen_before, carried}}
 
 -- cards of the sender, and one of another
 abbrev x : Card

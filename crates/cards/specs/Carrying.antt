@@ -1,11 +1,6 @@
 -- Edits carried over those that others made since their sender looked (ours). Places count from 1: 0 stands for the beginning of the deck, and one more than there are cards for its end.
 use Rattle.std.specs.Prelude.{ℕ, ◌+◌, ◌-◌, ◌==◌, nat_le, nat_lt, List, [], ◌∷◌, Option, Some, None, Result, Ok, Err, if◌then◌else◌}
-use Rattle.cards.specs.declared.edits.Edit.{Edit}
-use Rattle.cards.specs.declared.edits.Edit.TheVariants.{Insert, Replace, Remove}
-use Rattle.cards.specs.declared.carrying.MadeEdit.{MadeEdit}
-use Rattle.cards.specs.declared.carrying.Touched.{Touched}
-use Rattle.cards.specs.declared.carrying.Origin.{Origin}
-use Rattle.cards.specs.declared.carrying.Origin.TheVariants.{Same, Own, Further, Nearer}
+use Rattle.cards.specs.declared.{edits.Edit.Edit, edits.Edit.TheVariants.{Insert, Replace, Remove}, carrying.MadeEdit.MadeEdit, carrying.Touched.Touched, carrying.Origin.Origin, carrying.Origin.TheVariants.{Same, Own, Further, Nearer}}
 
 -- where the card of a place stands after an edit of another; nowhere as it was, where the edit is of it
 abbrev pub moved : Edit → ℕ → Option ℕ

@@ -1,12 +1,7 @@
 -- What is promised of edits that are carried (ours): the cards are those that come where the sender's edits are made first, on what he saw, and then those of others, each at its place there.
 use Rattle.std.specs.Prelude.{ℕ, ◌≡◌, ◌≤◌, ◌+◌, ⊤, List, [], ◌∷◌, ◌++◌, length, map, None, Ok}
 use Rattle.definitions.specs.Cards.{Card}
-use Rattle.cards.specs.declared.edits.Edit.{Edit}
-use Rattle.cards.specs.declared.edits.Edit.TheVariants.{Insert, Replace, Remove}
-use Rattle.cards.specs.declared.carrying.MadeEdit.{MadeEdit}
-use Rattle.cards.specs.declared.carrying.Touched.{Touched}
-use Rattle.cards.specs.Edits.{edited, edited_by}
-use Rattle.cards.specs.Carrying.{moved, place_after, placed}
+use Rattle.cards.specs.{declared.edits.Edit.Edit, declared.edits.Edit.TheVariants.{Insert, Replace, Remove}, declared.carrying.MadeEdit.MadeEdit, declared.carrying.Touched.Touched, Edits.{edited, edited_by}, Carrying.{moved, place_after, placed}}
 
 -- the edits that were made
 abbrev pub edits_in : List MadeEdit → List Edit

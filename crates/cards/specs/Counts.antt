@@ -1,11 +1,6 @@
 -- What edits need by the number of cards alone (ours).
 use Rattle.std.specs.Prelude.{ℕ, ◌+◌, ◌-◌, not, nat_le, List, [], ◌∷◌, Option, Some, None, Bool, true, false}
-use Rattle.cards.specs.declared.edits.Edit.{Edit}
-use Rattle.cards.specs.declared.edits.Edit.TheVariants.{Insert, Replace, Remove}
-use Rattle.cards.specs.declared.edits.EditFault.{EditFault}
-use Rattle.cards.specs.declared.edits.EditFault.TheVariants.{NoSuchCard, DeckFull}
-use Rattle.cards.specs.Causes.{when, first_cause}
-use Rattle.cards.specs.Edits.{most_cards, is_place}
+use Rattle.cards.specs.{declared.edits.Edit.Edit, declared.edits.Edit.TheVariants.{Insert, Replace, Remove}, declared.edits.EditFault.EditFault, declared.edits.EditFault.TheVariants.{NoSuchCard, DeckFull}, Causes.{when, first_cause}, Edits.{most_cards, is_place}}
 
 -- what keeps an edit from applying to so many cards
 abbrev pub fault_at : Edit → ℕ → Option EditFault

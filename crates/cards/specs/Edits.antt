@@ -1,11 +1,7 @@
 -- When an edit of a deck's cards applies, and what it makes of them (ours). Places count from 1.
 use Rattle.std.specs.Prelude.{ℕ, ◌+◌, ◌-◌, Bool, not, ◌&&◌, nat_le, List, [], ◌∷◌, length, insert, remove, slice_set, fold, Option, Some, None, option_map}
 use Rattle.definitions.specs.Cards.{Card}
-use Rattle.cards.specs.declared.edits.Edit.{Edit}
-use Rattle.cards.specs.declared.edits.Edit.TheVariants.{Insert, Replace, Remove}
-use Rattle.cards.specs.declared.edits.EditFault.{EditFault}
-use Rattle.cards.specs.declared.edits.EditFault.TheVariants.{NoSuchCard, DeckFull}
-use Rattle.cards.specs.Causes.{when, first_cause}
+use Rattle.cards.specs.{declared.edits.Edit.Edit, declared.edits.Edit.TheVariants.{Insert, Replace, Remove}, declared.edits.EditFault.EditFault, declared.edits.EditFault.TheVariants.{NoSuchCard, DeckFull}, Causes.{when, first_cause}}
 
 -- how many cards a deck may have
 abbrev pub most_cards : ℕ

@@ -1,32 +1,11 @@
 -- From where two decks agree, what is left of the one stays as it was sized in the other.
-use Rattle.std.proofs.Common.{◌≡◌, ℕ, ◌+◌, ◌≤◌, List, [], ◌∷◌, ◌++◌, Option, Some, None, Bool, take, drop, map, length, refl, sym, ap, ap₂, ◌∙◌, subst, if◌then◌else◌}
+use Rattle.std.{proofs.Common.{◌≡◌, ℕ, ◌+◌, ◌≤◌, List, [], ◌∷◌, ◌++◌, Option, Some, None, Bool, take, drop, map, length, refl, sym, ap, ap₂, ◌∙◌, subst, if◌then◌else◌}, specs.Prelude.IfSome}
 use Rattle.cards.specs.Joins.Spans.{statement_at}
-use Rattle.definitions.specs.Cards.{Card}
-use Rattle.definitions.specs.Literals.{operand_literals}
-use Rattle.definitions.specs.Operands.{Operand, NamesOperand}
-use Rattle.definitions.specs.Operations.{Operation}
-use Rattle.definitions.specs.Letters.{in_order}
-use Rattle.definitions.specs.Settled.{Settled, Definition, defined}
-use Rattle.definitions.specs.Settling.{View, settle, settled_all, is_known, external, externals}
-use Rattle.definitions.specs.Statements.{Statement}
-use Rattle.definitions.specs.Laws.States.{BlockState, state_after}
-use Rattle.definitions.specs.Laws.Agreement.{Agree, early_symbols, lawful_names, unnumbered}
-use Rattle.definitions.specs.declared.deck_kind.DeckKind.{DeckKind}
-use Rattle.definitions.proofs.StateSteps.{settled_all-in_use}
-use Rattle.definitions.proofs.TailLaws.{views-agree, tails-agree}
-use Rattle.statement_coder.specs.Joins.Definitions.{defined_by, IsOfExt}
-use Rattle.statement_coder.specs.Joins.Sizings.{IsSizing}
+use Rattle.definitions.{specs.Cards.Card, specs.Literals.operand_literals, specs.Operands.{Operand, NamesOperand}, specs.Operations.Operation, specs.Letters.in_order, specs.Settled.{Settled, Definition, defined}, specs.Settling.{View, settle, settled_all, is_known, external, externals}, specs.Statements.Statement, specs.Laws.States.{BlockState, state_after}, specs.Laws.Agreement.{Agree, early_symbols, lawful_names, unnumbered}, specs.declared.deck_kind.DeckKind.DeckKind, proofs.StateSteps.settled_all-in_use, proofs.TailLaws.{views-agree, tails-agree}}
+use Rattle.statement_coder.specs.{Joins.Definitions.{defined_by, IsOfExt}, Joins.Sizings.IsSizing, declared.sizing.Sizing.Sizing, Joins.KeptReadings.IsKeptReading}
 use Rattle.statement_coder.specs.declared.definitions_made.Defines as code
 use Rattle.statement_coder.specs.declared.definitions_made.Defines.TheVariants as defines
-use Rattle.statement_coder.specs.declared.sizing.Sizing.{Sizing}
-use Rattle.deck_assembler.specs.Joins.Agreements.{AreNamesAlike, AreExternalsAlike, AreAlikeFrom}
-use Rattle.deck_assembler.specs.Joins.OldDecks.{AreKeptFrom}
-use Rattle.deck_assembler.specs.Joins.SizedDecks.{IsSizedStatement, AreSizedFrom}
-use Rattle.deck_assembler.specs.Joins.Tails.{AreKeptAlike}
-use Rattle.deck_assembler.specs.declared.sized_statement.SizedStatement.{SizedStatement}
-use Rattle.deck_assembler.proofs.OntoLaws.{drop-more}
-use Rattle.std.specs.Prelude.{IfSome}
-use Rattle.statement_coder.specs.Joins.KeptReadings.{IsKeptReading}
+use Rattle.deck_assembler.{specs.Joins.Agreements.{AreNamesAlike, AreExternalsAlike, AreAlikeFrom}, specs.Joins.OldDecks.AreKeptFrom, specs.Joins.SizedDecks.{IsSizedStatement, AreSizedFrom}, specs.Joins.Tails.AreKeptAlike, specs.declared.sized_statement.SizedStatement.SizedStatement, proofs.OntoLaws.drop-more}
 
 known-alike : (v w : View) (name : List ℕ) (so_far : List Definition) → v name ≡ w name → is_known v name so_far ≡ is_known w name so_far
 known-alike v w name so_far e = λ i. is_known (λ other. e i) name so_far

@@ -1,37 +1,10 @@
 -- Where two decks agree, as the definitions say it, the walk over them finds that they do.
-use Rattle.std.proofs.Common.{◌≡◌, ℕ, suc, ◌+◌, ◌<◌, ◌≤◌, inl, inr, List, [], ◌∷◌, ◌++◌, drop, take, length, refl, sym, ap, ap₂, ◌∙◌, subst, arith, append_assoc, length-append, length-take-le, take-append-drop}
-use Rattle.std.specs.List.{AllByRecursion}
-use Rattle.std.specs.Prelude.{reverse}
-use Rattle.std.proofs.lemmas.Bool.{cases_lt}
-use Rattle.std.proofs.lemmas.List.{length-drop, length-reverse, reverse-append}
-use Rattle.definitions.specs.Cards.{Card}
-use Rattle.definitions.specs.DeckKinds.{kind_of_statements}
-use Rattle.definitions.specs.Laws.Edits.{Edited, IsUntouched, Split, DoAgree}
-use Rattle.definitions.specs.Operands.{Operand, NamesOperand}
-use Rattle.definitions.specs.Operations.{Operation}
-use Rattle.definitions.specs.Settled.{Settled, defined}
-use Rattle.definitions.specs.Settling.{View, settle, settled_all}
-use Rattle.definitions.specs.Statements.{Statement, cards_in}
-use Rattle.definitions.specs.Laws.States.{state_after}
-use Rattle.definitions.specs.Laws.Agreement.{Agree, early_symbols, own_symbols, operand_symbols, settled_tail, AgreeOnTail, HaveSameCards}
-use Rattle.definitions.specs.declared.deck_kind.DeckKind.{DeckKind}
-use Rattle.definitions.proofs.EditLaws.{agreement-lasts, cards_in-append}
-use Rattle.definitions.proofs.NamesLaws.{all-behind}
-use Rattle.definitions.proofs.TailLaws.{settled_all-append}
+use Rattle.std.{proofs.Common.{◌≡◌, ℕ, suc, ◌+◌, ◌<◌, ◌≤◌, inl, inr, List, [], ◌∷◌, ◌++◌, drop, take, length, refl, sym, ap, ap₂, ◌∙◌, subst, arith, append_assoc, length-append, length-take-le, take-append-drop}, specs.List.AllByRecursion, specs.Prelude.reverse, proofs.lemmas.Bool.cases_lt, proofs.lemmas.List.{length-drop, length-reverse, reverse-append}}
+use Rattle.definitions.{specs.Cards.Card, specs.DeckKinds.kind_of_statements, specs.Laws.Edits.{Edited, IsUntouched, Split, DoAgree}, specs.Operands.{Operand, NamesOperand}, specs.Operations.Operation, specs.Settled.{Settled, defined}, specs.Settling.{View, settle, settled_all}, specs.Statements.{Statement, cards_in}, specs.Laws.States.state_after, specs.Laws.Agreement.{Agree, early_symbols, own_symbols, operand_symbols, settled_tail, AgreeOnTail, HaveSameCards}, specs.declared.deck_kind.DeckKind.DeckKind, proofs.EditLaws.{agreement-lasts, cards_in-append}, proofs.NamesLaws.all-behind, proofs.TailLaws.settled_all-append}
 use Rattle.statement_coder.specs.Joins.Definitions.{IsOfExt}
 use Rattle.statement_coder.specs.declared.definitions_made.Defines as code
 use Rattle.statement_coder.specs.declared.definitions_made.Defines.TheVariants as defines
-use Rattle.deck_assembler.specs.Joins.Agreements.{AreAlikeFrom, AreExternalsAlike}
-use Rattle.deck_assembler.specs.Joins.FirstSymbols.{symbol_in}
-use Rattle.deck_assembler.specs.Joins.Formers.{known_in}
-use Rattle.deck_assembler.specs.Joins.Meetings.{AgreeFrom, AreMeeting, IsShort, StandApart, WillAgreeLater}
-use Rattle.deck_assembler.specs.Joins.SizedDecks.{AreSizedFrom}
-use Rattle.deck_assembler.specs.Joins.Sizers.{stood}
-use Rattle.deck_assembler.specs.declared.old_deck.OldDeck.{OldDeck}
-use Rattle.deck_assembler.specs.declared.sized_statement.SizedStatement.{SizedStatement}
-use Rattle.deck_assembler.proofs.CutLaws.{known-cards}
-use Rattle.deck_assembler.proofs.OntoLaws.{append-none}
-use Rattle.deck_assembler.proofs.PieceMeetings.{sized-length}
+use Rattle.deck_assembler.{specs.Joins.Agreements.{AreAlikeFrom, AreExternalsAlike}, specs.Joins.FirstSymbols.symbol_in, specs.Joins.Formers.known_in, specs.Joins.Meetings.{AgreeFrom, AreMeeting, IsShort, StandApart, WillAgreeLater}, specs.Joins.SizedDecks.AreSizedFrom, specs.Joins.Sizers.stood, specs.declared.old_deck.OldDeck.OldDeck, specs.declared.sized_statement.SizedStatement.SizedStatement, proofs.CutLaws.known-cards, proofs.OntoLaws.append-none, proofs.PieceMeetings.sized-length}
 
 -- the names that a statement defines are those of an EXT, which it needs early
 names-alike : (v w : View) (operand : Operand) (operation : Operation) (what : code.Defines) → IsOfExt operation what → Agree v w (operand_symbols operand operation) → AreExternalsAlike v w operand what

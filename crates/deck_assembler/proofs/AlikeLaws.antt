@@ -1,24 +1,9 @@
 -- Where two views agree on the statements that are left of a deck, each trial of these passes.
 use Rattle.std.proofs.Common.{◌≡◌, ℕ, ◌+◌, ◌≤◌, Option, List, [], ◌∷◌, ◌++◌, drop, length, refl, sym, ap, ◌∙◌, subst, append_assoc, append-nil}
-use Rattle.definitions.specs.Cards.{Card}
-use Rattle.definitions.specs.Forms.{Form}
-use Rattle.definitions.specs.Operations.{Operation}
-use Rattle.definitions.specs.Settled.{ReadStatement}
-use Rattle.definitions.specs.Settling.{View, settle, settled_all}
-use Rattle.definitions.specs.Statements.{Statement}
-use Rattle.definitions.specs.Operands.{Operand, NamesOperand}
-use Rattle.definitions.specs.Laws.Agreement.{Agree, early_symbols, lawful_names, own_symbols, operand_symbols}
-use Rattle.definitions.specs.declared.deck_kind.DeckKind.{DeckKind}
-use Rattle.definitions.proofs.NamesLaws.{all-front, all-behind}
+use Rattle.definitions.{specs.Cards.Card, specs.Forms.Form, specs.Operations.Operation, specs.Settled.ReadStatement, specs.Settling.{View, settle, settled_all}, specs.Statements.Statement, specs.Operands.{Operand, NamesOperand}, specs.Laws.Agreement.{Agree, early_symbols, lawful_names, own_symbols, operand_symbols}, specs.declared.deck_kind.DeckKind.DeckKind, proofs.NamesLaws.{all-front, all-behind}}
 use Rattle.statement_coder.specs.declared.definitions_made.Defines as code
 use Rattle.statement_coder.specs.declared.definitions_made.Defines.TheVariants as defines
-use Rattle.deck_assembler.specs.Joins.Agreements.{left, DoesAgree, IsAgreeing, IsAlike, AreAlikeFrom, AreAlike, AreExternalsAlike, AreNamesAlike, StandAlike}
-use Rattle.deck_assembler.specs.Joins.DeckParts.{DeckPiece, sized_in}
-use Rattle.deck_assembler.specs.Joins.FirstSymbols.{symbol_in}
-use Rattle.deck_assembler.specs.Joins.SizedDecks.{IsSizedStatement, AreSizedFrom}
-use Rattle.deck_assembler.specs.declared.early_trial.Trial.{Trial}
-use Rattle.deck_assembler.specs.declared.old_deck.OldDeck.{OldDeck}
-use Rattle.deck_assembler.specs.declared.sized_statement.SizedStatement.{SizedStatement}
+use Rattle.deck_assembler.specs.{Joins.Agreements.{left, DoesAgree, IsAgreeing, IsAlike, AreAlikeFrom, AreAlike, AreExternalsAlike, AreNamesAlike, StandAlike}, Joins.DeckParts.{DeckPiece, sized_in}, Joins.FirstSymbols.symbol_in, Joins.SizedDecks.{IsSizedStatement, AreSizedFrom}, declared.early_trial.Trial.Trial, declared.old_deck.OldDeck.OldDeck, declared.sized_statement.SizedStatement.SizedStatement}
 
 -- the next statement was sized behind some others, and two views agree on it
 pub record IsNextAgreed (kind : DeckKind) (ahead : List Card) (v w : View) (sized : SizedStatement) : Type 0 where

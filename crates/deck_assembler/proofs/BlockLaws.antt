@@ -1,14 +1,6 @@
 -- A block is found among those of its deck.
-use Rattle.std.proofs.Common.{◌≡◌, ◌∙◌, ℕ, suc, ◌<◌, ◌≤◌, Bool, true, false, true≢false, not, ◌||◌, List, [], ◌∷◌, ◌+◌, Option, Some, None, Result, Ok, Err, length, position, ap, sym, subst, arith, get_or, if◌then◌else◌}
-use Rattle.std.specs.Prelude.{slice_get}
-use Rattle.std.specs.List.{position_or_len}
-use Rattle.std.proofs.lemmas.Bool.{lt-ltb}
-use Rattle.std.specs.Result.{OkIff, result_unwrap_or}
-use Rattle.std.proofs.lemmas.List.Quantifiers.{position-Some}
-use Rattle.std.proofs.lemmas.Option.{slice_get-get_or}
-use Rattle.definitions.specs.Characters.{same_text}
-use Rattle.definitions.specs.Lengths.{BlockRow}
-use Rattle.definitions.proofs.TextLaws.{same_text-true}
+use Rattle.std.{proofs.Common.{◌≡◌, ◌∙◌, ℕ, suc, ◌<◌, ◌≤◌, Bool, true, false, true≢false, not, ◌||◌, List, [], ◌∷◌, ◌+◌, Option, Some, None, Result, Ok, Err, length, position, ap, sym, subst, arith, get_or, if◌then◌else◌}, specs.Prelude.slice_get, specs.List.position_or_len, proofs.lemmas.Bool.lt-ltb, specs.Result.{OkIff, result_unwrap_or}, proofs.lemmas.List.Quantifiers.position-Some, proofs.lemmas.Option.slice_get-get_or}
+use Rattle.definitions.{specs.Characters.same_text, specs.Lengths.BlockRow, proofs.TextLaws.same_text-true}
 use Rattle.deck_objects.specs.Joins.CodedLines.{IsNamed}
 use Rattle.deck_assembler.specs.Joins.Walks.{has_row}
 

@@ -1,19 +1,11 @@
 -- A line whose fields are taken over is the line of the same statement.
-use Rattle.std.proofs.Common.{◌≡◌, ◌∙◌, ℕ, ◌-◌, List, ◌++◌, length, take, drop, map, refl, ap, sym, subst, arith}
-use Rattle.std.specs.Prelude.{slice_get}
-use Rattle.std.proofs.lemmas.List.{drop-map, drop_at, length-map, take_all, length-drop}
-use Rattle.definitions.specs.Lengths.{BlockRow}
-use Rattle.definitions.specs.Words.{Coded}
-use Rattle.definitions.specs.declared.deck_kind.DeckKind.{DeckKind}
+use Rattle.std.{proofs.Common.{◌≡◌, ◌∙◌, ℕ, ◌-◌, List, ◌++◌, length, take, drop, map, refl, ap, sym, subst, arith}, specs.Prelude.slice_get, proofs.lemmas.List.{drop-map, drop_at, length-map, take_all, length-drop}}
+use Rattle.definitions.specs.{Lengths.BlockRow, Words.Coded, declared.deck_kind.DeckKind.DeckKind}
 use Rattle.operations.specs.Joins.OperationsAs.{operation_as}
-use Rattle.statement_coder.specs.Joins.CodedItems.{IsKept}
-use Rattle.statement_coder.specs.Joins.Items.{item_as}
+use Rattle.statement_coder.{specs.Joins.CodedItems.IsKept, specs.Joins.Items.item_as, proofs.ListLaws.kept-length}
 use Rattle.statement_coder.specs.declared.items.Item as code
-use Rattle.statement_coder.proofs.ListLaws.{kept-length}
-use Rattle.deck_objects.specs.Joins.CodedLines.{IsCoded, IsNamed}
-use Rattle.deck_objects.specs.Joins.LineItems.{kept_from, AreBitsOf, AreShort, AreKept}
+use Rattle.deck_objects.specs.{Joins.CodedLines.{IsCoded, IsNamed}, Joins.LineItems.{kept_from, AreBitsOf, AreShort, AreKept}, declared.lines.LineFields.LineFields}
 use Rattle.deck_objects.specs.declared.lines.CodedLine as lines
-use Rattle.deck_objects.specs.declared.lines.LineFields.{LineFields}
 use Rattle.deck_objects.specs.declared.lines.LineFields.TheVariants as kept
 use Rattle.deck_assembler.specs.Joins.CopiedFields.{AreListedAlike, AreCopied}
 

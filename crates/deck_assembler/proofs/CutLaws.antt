@@ -1,20 +1,7 @@
 -- From a place on where statements begin in two decks, and the same cards follow, both are cut into the same statements.
-use Rattle.std.proofs.Common.{◌≡◌, ℕ, suc, ◌<◌, inl, inr, ◌⊎◌, ◌&&◌, Bool, true, false, List, [], ◌∷◌, ◌++◌, take, drop, length, refl, sym, ap, ap₂, ◌∙◌, subst, arith, append_assoc, length-append, take-append-drop, if◌then◌else◌}
-use Rattle.std.specs.Prelude.{⊤, reverse, nat_le, not, ◌||◌}
-use Rattle.std.specs.List.{AllByRecursion}
-use Rattle.std.proofs.lemmas.Bool.{leb-false, lt-leb}
-use Rattle.std.proofs.lemmas.List.{reverse-append, reverse-reverse, length-reverse, length-drop}
-use Rattle.definitions.specs.Cards.{Card, is_comma_card, is_comment}
-use Rattle.definitions.specs.DeckKinds.{is_end, has_end, up_to_end, behind_end}
-use Rattle.definitions.specs.Fields.{fields_of}
-use Rattle.definitions.specs.Statements.{Statement, cards_in, statements_of, onto_latest, continues, has_owner, comma_cards}
-use Rattle.definitions.specs.Laws.Agreement.{HaveSameCards}
-use Rattle.definitions.proofs.EditLaws.{cards_in-append}
-use Rattle.definitions.proofs.NamesLaws.{all-behind}
-use Rattle.definitions.proofs.StatementLaws.{cards_in-statements_of}
-use Rattle.deck_assembler.specs.Joins.Formers.{known_in}
-use Rattle.deck_assembler.specs.Joins.Sizers.{stood}
-use Rattle.deck_assembler.proofs.EndLaws.{end-none}
+use Rattle.std.{proofs.Common.{◌≡◌, ℕ, suc, ◌<◌, inl, inr, ◌⊎◌, ◌&&◌, Bool, true, false, List, [], ◌∷◌, ◌++◌, take, drop, length, refl, sym, ap, ap₂, ◌∙◌, subst, arith, append_assoc, length-append, take-append-drop, if◌then◌else◌}, specs.Prelude.{⊤, reverse, nat_le, not, ◌||◌}, specs.List.AllByRecursion, proofs.lemmas.Bool.{leb-false, lt-leb}, proofs.lemmas.List.{reverse-append, reverse-reverse, length-reverse, length-drop}}
+use Rattle.definitions.{specs.Cards.{Card, is_comma_card, is_comment}, specs.DeckKinds.{is_end, has_end, up_to_end, behind_end}, specs.Fields.fields_of, specs.Statements.{Statement, cards_in, statements_of, onto_latest, continues, has_owner, comma_cards}, specs.Laws.Agreement.HaveSameCards, proofs.EditLaws.cards_in-append, proofs.NamesLaws.all-behind, proofs.StatementLaws.cards_in-statements_of}
+use Rattle.deck_assembler.{specs.Joins.Formers.known_in, specs.Joins.Sizers.stood, proofs.EndLaws.end-none}
 
 -- each statement has a card
 abbrev HaveCards : List Statement → Type 0

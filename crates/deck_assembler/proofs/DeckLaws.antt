@@ -1,25 +1,8 @@
 -- What is kept of a deck is what its cards make.
-use Rattle.std.proofs.Common.{◌≡◌, ℕ, zero, suc, List, [], ◌∷◌, length, drop, sym, ap, ◌∙◌, subst, arith, map, All}
-use Rattle.std.specs.Prelude.{reverse}
-use Rattle.std.specs.List.{AllByRecursion}
-use Rattle.std.proofs.lemmas.List.{reverse-reverse, drop_all}
-use Rattle.std.proofs.lemmas.List.Elements.{All-from_recursion, recursion_from_All}
-use Rattle.cards.specs.Joins.Spans.{IsSpan, statement_at, statements_at}
-use Rattle.cards.specs.declared.statement_list.Span.{Span}
-use Rattle.definitions.specs.Cards.{Card}
-use Rattle.definitions.specs.DeckKinds.{up_to_end, behind_end, kind_of_statements}
-use Rattle.definitions.specs.Statements.{Statement, statements_of, cards_in, AreNumbered}
-use Rattle.definitions.specs.declared.deck_kind.DeckKind.{DeckKind}
-use Rattle.definitions.proofs.StatementLaws.{cards_in-statements_of, numbered-statements_of}
-use Rattle.deck_assembler.specs.Joins.DeckParts.{DeckParts}
-use Rattle.deck_assembler.specs.Joins.FirstStatements.{first_statements, all_statements, IsEnding}
-use Rattle.deck_assembler.specs.Joins.SizedDecks.{AreListedFrom, IsSizedUp, IsSizedDeck}
-use Rattle.deck_assembler.specs.Joins.Sizers.{stood, ahead, IsSizer}
-use Rattle.deck_assembler.specs.declared.sizer.Sizer.{Sizer}
-use Rattle.deck_assembler.proofs.EndLaws.{all-split, next-span}
-use Rattle.deck_assembler.proofs.ForwardLaws.{stood-more, ahead-less, all-forward, sized-count}
-use Rattle.deck_assembler.proofs.OntoLaws.{onto, onto-reverse}
-use Rattle.deck_assembler.proofs.StateForward.{all-states, all-filled}
+use Rattle.std.{proofs.Common.{◌≡◌, ℕ, zero, suc, List, [], ◌∷◌, length, drop, sym, ap, ◌∙◌, subst, arith, map, All}, specs.Prelude.reverse, specs.List.AllByRecursion, proofs.lemmas.List.{reverse-reverse, drop_all}, proofs.lemmas.List.Elements.{All-from_recursion, recursion_from_All}}
+use Rattle.cards.specs.{Joins.Spans.{IsSpan, statement_at, statements_at}, declared.statement_list.Span.Span}
+use Rattle.definitions.{specs.Cards.Card, specs.DeckKinds.{up_to_end, behind_end, kind_of_statements}, specs.Statements.{Statement, statements_of, cards_in, AreNumbered}, specs.declared.deck_kind.DeckKind.DeckKind, proofs.StatementLaws.{cards_in-statements_of, numbered-statements_of}}
+use Rattle.deck_assembler.{specs.Joins.DeckParts.DeckParts, specs.Joins.FirstStatements.{first_statements, all_statements, IsEnding}, specs.Joins.SizedDecks.{AreListedFrom, IsSizedUp, IsSizedDeck}, specs.Joins.Sizers.{stood, ahead, IsSizer}, specs.declared.sizer.Sizer.Sizer, proofs.EndLaws.{all-split, next-span}, proofs.ForwardLaws.{stood-more, ahead-less, all-forward, sized-count}, proofs.OntoLaws.{onto, onto-reverse}, proofs.StateForward.{all-states, all-filled}}
 
 -- how many cards each span has
 abbrev pub counts_of : List Span → List ℕ

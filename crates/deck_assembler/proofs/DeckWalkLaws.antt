@@ -1,19 +1,7 @@
 -- A walk over the statements of a deck: how it begins, one step of it, and its end.
-use Rattle.std.proofs.Common.{◌≡◌, ◌∙◌, ℕ, ◌+◌, true, List, [], ◌∷◌, ◌++◌, map, drop, reverse, refl, ap, sym, subst, append-nil, append_assoc}
-use Rattle.std.proofs.lemmas.List.{drop-drop, reverse-reverse, map-append, reverse-append}
-use Rattle.definitions.specs.Cards.{Card}
-use Rattle.definitions.specs.Lengths.{block_rows}
-use Rattle.definitions.specs.Objects.{Shown, shown_of, only_listed}
-use Rattle.definitions.specs.Settling.{settle, settled_all}
-use Rattle.definitions.specs.Statements.{Statement}
-use Rattle.deck_assembler.specs.Joins.DeckParts.{sized_in}
-use Rattle.deck_assembler.specs.Joins.SizedDecks.{AreSizedFrom, AreListedFrom, IsSizedStatement, IsListedStatement}
-use Rattle.deck_assembler.specs.declared.sized_statement.SizedStatement.{SizedStatement}
-use Rattle.deck_assembler.specs.Joins.Walks.{Whole, IsWhole, has_row, all_settled, context_in, AreLined, AreLinedAs, AreNoted}
-use Rattle.deck_assembler.specs.Joins.DeckWalks.{IsWalked, IsListing}
-use Rattle.deck_assembler.specs.declared.deck_lines.DeckLines.{DeckLines}
-use Rattle.deck_assembler.specs.declared.deck_walk.Making.{Making}
-use Rattle.deck_assembler.proofs.UsedLaws.{block-there}
+use Rattle.std.proofs.{Common.{◌≡◌, ◌∙◌, ℕ, ◌+◌, true, List, [], ◌∷◌, ◌++◌, map, drop, reverse, refl, ap, sym, subst, append-nil, append_assoc}, lemmas.List.{drop-drop, reverse-reverse, map-append, reverse-append}}
+use Rattle.definitions.specs.{Cards.Card, Lengths.block_rows, Objects.{Shown, shown_of, only_listed}, Settling.{settle, settled_all}, Statements.Statement}
+use Rattle.deck_assembler.{specs.Joins.DeckParts.sized_in, specs.Joins.SizedDecks.{AreSizedFrom, AreListedFrom, IsSizedStatement, IsListedStatement}, specs.declared.sized_statement.SizedStatement.SizedStatement, specs.Joins.Walks.{Whole, IsWhole, has_row, all_settled, context_in, AreLined, AreLinedAs, AreNoted}, specs.Joins.DeckWalks.{IsWalked, IsListing}, specs.declared.deck_lines.DeckLines.DeckLines, specs.declared.deck_walk.Making.Making, proofs.UsedLaws.block-there}
 
 -- before the first statement
 pub walk-begin : (whole : Whole) (made : Making) → IsWhole whole → made.lines.stood ≡ 0 → AreLined whole [] made.lines → AreNoted whole [] made.names → IsWalked whole (sized_in whole.deck.pieces) made

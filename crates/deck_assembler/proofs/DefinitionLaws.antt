@@ -1,27 +1,14 @@
 -- What a statement defines is new, so it stands behind what was defined before.
-use Rattle.std.proofs.Common.{◌≡◌, ℕ, ◌&&◌, ◌||◌, not, Bool, true, false, true≢false, List, [], ◌∷◌, ◌++◌, Option, Some, None, is_some, refl, sym, ap, ◌∙◌, subst, if◌then◌else◌}
-use Rattle.std.specs.List.{AllByRecursion}
-use Rattle.definitions.specs.Characters.{same_text}
-use Rattle.definitions.specs.Forms.{Form}
+use Rattle.std.{proofs.Common.{◌≡◌, ℕ, ◌&&◌, ◌||◌, not, Bool, true, false, true≢false, List, [], ◌∷◌, ◌++◌, Option, Some, None, is_some, refl, sym, ap, ◌∙◌, subst, if◌then◌else◌}, specs.List.AllByRecursion}
+use Rattle.definitions.{specs.Characters.same_text, specs.Forms.Form, specs.Operations.{Operation, is_labelled}, specs.Operands.{Operand, NamesOperand}, specs.Settled.{Definition, Settled, defined_in, or_form, defined}, specs.Settling.{View, external, externals, is_known, first_definition, definitions_of, settle}, specs.Statements.Statement, specs.Symbols.is_symbol, specs.declared.deck_kind.DeckKind.DeckKind, specs.declared.deck_kind.DeckKind.TheVariants.{Rel, Abs, Periph}, proofs.TextLaws.same_text-true}
 use Rattle.definitions.specs.Operations as op
-use Rattle.definitions.specs.Operations.{Operation, is_labelled}
-use Rattle.definitions.specs.Operands.{Operand, NamesOperand}
-use Rattle.definitions.specs.Settled.{Definition, Settled, defined_in, or_form, defined}
-use Rattle.definitions.specs.Settling.{View, external, externals, is_known, first_definition, definitions_of, settle}
-use Rattle.definitions.specs.Statements.{Statement}
-use Rattle.definitions.specs.Symbols.{is_symbol}
-use Rattle.definitions.specs.declared.deck_kind.DeckKind.{DeckKind}
-use Rattle.definitions.specs.declared.deck_kind.DeckKind.TheVariants.{Rel, Abs, Periph}
-use Rattle.definitions.proofs.TextLaws.{same_text-true}
 use Rattle.expr_forms.specs.declared.use_fields.UseField.TheVariants as use_field
-use Rattle.statement_coder.specs.Joins.Definitions.{defined_by, externals_of}
-use Rattle.statement_coder.specs.Joins.Readings.{IsReading, IsLawful, IsLawfulName}
+use Rattle.statement_coder.specs.Joins.{Definitions.{defined_by, externals_of}, Readings.{IsReading, IsLawful, IsLawfulName}}
 use Rattle.statement_coder.specs.declared.definitions_made.Defines as code
 use Rattle.statement_coder.specs.declared.definitions_made.Defines.TheVariants as defines
 use Rattle.statement_coder.specs.declared.readings.Reading as readings
 use Rattle.statement_coder.specs.declared.readings.Reading.TheVariants as reading
-use Rattle.deck_assembler.specs.Joins.FirstSymbols.{is_known_name, with_symbol, with_externals, with_names, with_defined, IsLawfulOperand}
-use Rattle.deck_assembler.proofs.NameTexts.{symbol-known, linked-known}
+use Rattle.deck_assembler.{specs.Joins.FirstSymbols.{is_known_name, with_symbol, with_externals, with_names, with_defined, IsLawfulOperand}, proofs.NameTexts.{symbol-known, linked-known}}
 
 pub lawful-shape : (operand : Operand) (read : readings.Reading) → IsReading read operand → IsLawful read → IsLawfulOperand operand
 lawful-shape operand (reading.Names names) h l = subst IsLawfulOperand (sym h) l

@@ -1,30 +1,7 @@
 -- What is due of coding is within due code, with those in front of the tail.
-use Rattle.std.proofs.Common.{◌≡◌, ◌∙◌, ℕ, ◌+◌, ◌-◌, ◌<◌, ◌≤◌, ◌⊎◌, inl, inr, Bool, true, false, nat_lt, nat_le, List, [], ◌∷◌, ◌++◌, min, cond, length, length-append, refl, ap, sym, subst, arith}
-use Rattle.std.specs.Prelude.{not, ◌||◌}
-use Rattle.std.specs.List.{count_by}
-use Rattle.std.proofs.lemmas.Bool.{cases_lt, lt-ltb, le-leb}
-use Rattle.std.proofs.lemmas.List.Recursion.{is_count_by}
-use Rattle.definitions.specs.Cards.{Card}
-use Rattle.definitions.specs.DeckKinds.{kind_of_statements}
-use Rattle.definitions.specs.Laws.Edits.{DoAgree, Edited, IsUntouched, IsWithinDue, Split}
-use Rattle.definitions.specs.Objects.{context_of}
-use Rattle.definitions.specs.Laws.Rebound.{context_from, is_rebound, IsWithinDueCode}
-use Rattle.definitions.specs.Settled.{Settled}
-use Rattle.definitions.specs.Settling.{settle, settled_all}
-use Rattle.definitions.specs.StatementItems.{Context}
-use Rattle.definitions.specs.Statements.{Statement}
-use Rattle.definitions.specs.Laws.Agreement.{settled_tail}
-use Rattle.definitions.specs.declared.deck_kind.DeckKind.{DeckKind}
-use Rattle.definitions.proofs.TailLaws.{settled_all-append}
-use Rattle.deck_assembler.specs.Joins.DueCodes.{bound_otherwise, one_where, has_line, one_due, code_due, code_due_in, code_due_of, CodePlan, IsPlanOf, RisesRebound, RisesReboundOf}
-use Rattle.deck_assembler.specs.Joins.Formers.{known_in}
-use Rattle.deck_assembler.specs.Joins.Meetings.{StandApart}
-use Rattle.deck_assembler.specs.Joins.Tails.{HasTailIfAny, HasTailWithin, StandBeforeTail}
-use Rattle.deck_assembler.specs.Joins.Walks.{Whole, IsWhole}
-use Rattle.deck_assembler.specs.declared.former.Former.{Former}
-use Rattle.deck_assembler.proofs.AgreementLaws.{between, untouched-before}
-use Rattle.deck_assembler.proofs.DueCodeLaws.{settled-length}
-use Rattle.deck_assembler.proofs.PartLaws.{context-same}
+use Rattle.std.{proofs.Common.{◌≡◌, ◌∙◌, ℕ, ◌+◌, ◌-◌, ◌<◌, ◌≤◌, ◌⊎◌, inl, inr, Bool, true, false, nat_lt, nat_le, List, [], ◌∷◌, ◌++◌, min, cond, length, length-append, refl, ap, sym, subst, arith}, specs.Prelude.{not, ◌||◌}, specs.List.count_by, proofs.lemmas.Bool.{cases_lt, lt-ltb, le-leb}, proofs.lemmas.List.Recursion.is_count_by}
+use Rattle.definitions.{specs.Cards.Card, specs.DeckKinds.kind_of_statements, specs.Laws.Edits.{DoAgree, Edited, IsUntouched, IsWithinDue, Split}, specs.Objects.context_of, specs.Laws.Rebound.{context_from, is_rebound, IsWithinDueCode}, specs.Settled.Settled, specs.Settling.{settle, settled_all}, specs.StatementItems.Context, specs.Statements.Statement, specs.Laws.Agreement.settled_tail, specs.declared.deck_kind.DeckKind.DeckKind, proofs.TailLaws.settled_all-append}
+use Rattle.deck_assembler.{specs.Joins.DueCodes.{bound_otherwise, one_where, has_line, one_due, code_due, code_due_in, code_due_of, CodePlan, IsPlanOf, RisesRebound, RisesReboundOf}, specs.Joins.Formers.known_in, specs.Joins.Meetings.StandApart, specs.Joins.Tails.{HasTailIfAny, HasTailWithin, StandBeforeTail}, specs.Joins.Walks.{Whole, IsWhole}, specs.declared.former.Former.Former, proofs.AgreementLaws.{between, untouched-before}, proofs.DueCodeLaws.settled-length, proofs.PartLaws.context-same}
 
 pub bound-counted : (old new : Context) (settled : List Settled) → bound_otherwise old new settled ≡ count_by (is_rebound old new) settled
 bound-counted old new settled = is_count_by (bound_otherwise old new) (is_rebound old new) refl (λ x xs. one (is_rebound old new x) (bound_otherwise old new xs)) settled

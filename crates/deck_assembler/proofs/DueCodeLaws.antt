@@ -1,27 +1,7 @@
 -- A walk over an edited deck codes no more statements than are due, one after the other.
-use Rattle.std.proofs.Common.{◌≡◌, ◌∙◌, ℕ, suc, ◌+◌, ◌<◌, ◌≤◌, ◌⊎◌, inl, inr, Bool, true, false, nat_lt, nat_le, List, [], ◌∷◌, ◌++◌, Option, Some, None, drop, length, length-append, reverse, refl, ap, sym, subst, arith}
-use Rattle.std.specs.Prelude.{not, ◌||◌}
-use Rattle.std.proofs.lemmas.Bool.{leb-true, ltb-true}
-use Rattle.std.proofs.lemmas.List.{drop-drop, length-drop, reverse-reverse}
-use Rattle.definitions.specs.Cards.{Card}
-use Rattle.definitions.specs.Laws.Rebound.{is_rebound}
-use Rattle.definitions.specs.Settling.{settle, settled_all}
-use Rattle.definitions.specs.Statements.{Statement, cards_in}
-use Rattle.definitions.specs.declared.deck_kind.DeckKind.{DeckKind}
-use Rattle.deck_assembler.specs.Joins.DeckParts.{sized_in}
-use Rattle.deck_assembler.specs.Joins.DueCodes.{one_where, has_line, one_due, code_due_in, CodePlan, IsPlanned, IsBesideFront, IsBesideTail, HasNoTail, IsDueBeside, IsWalkedDue}
-use Rattle.deck_assembler.specs.Joins.FormerLines.{IsSameTail, IsMissedInFront, IsMissedInTail, IsNextInFront, IsNextInTail, IsNextLine, AreBeside}
-use Rattle.deck_assembler.specs.Joins.Rebindings.{AreBindings}
-use Rattle.deck_assembler.specs.Joins.SizedDecks.{AreSizedFrom, IsSizedStatement}
-use Rattle.deck_assembler.specs.Joins.Sizers.{stood}
-use Rattle.deck_assembler.specs.Joins.Walks.{Whole, IsWhole, context_in}
-use Rattle.deck_assembler.specs.declared.former_lines.FormerLine.{FormerLine}
-use Rattle.deck_assembler.specs.declared.former_lines.FormerLines.{FormerLines}
-use Rattle.deck_assembler.specs.declared.sized_statement.SizedStatement.{SizedStatement}
-use Rattle.deck_assembler.proofs.FormerLaws.{at-or-not, at-tail, before-tail, missed-in-front, missed-of-tail, next-line, next-of-tail, same-tail, sized-cards}
-use Rattle.deck_assembler.proofs.ForwardLaws.{stood-more}
-use Rattle.deck_assembler.proofs.FrontLaws.{next-untouched, untouched-few}
-use Rattle.deck_assembler.proofs.OntoLaws.{append-none, reverse-onto}
+use Rattle.std.{proofs.Common.{◌≡◌, ◌∙◌, ℕ, suc, ◌+◌, ◌<◌, ◌≤◌, ◌⊎◌, inl, inr, Bool, true, false, nat_lt, nat_le, List, [], ◌∷◌, ◌++◌, Option, Some, None, drop, length, length-append, reverse, refl, ap, sym, subst, arith}, specs.Prelude.{not, ◌||◌}, proofs.lemmas.Bool.{leb-true, ltb-true}, proofs.lemmas.List.{drop-drop, length-drop, reverse-reverse}}
+use Rattle.definitions.specs.{Cards.Card, Laws.Rebound.is_rebound, Settling.{settle, settled_all}, Statements.{Statement, cards_in}, declared.deck_kind.DeckKind.DeckKind}
+use Rattle.deck_assembler.{specs.Joins.DeckParts.sized_in, specs.Joins.DueCodes.{one_where, has_line, one_due, code_due_in, CodePlan, IsPlanned, IsBesideFront, IsBesideTail, HasNoTail, IsDueBeside, IsWalkedDue}, specs.Joins.FormerLines.{IsSameTail, IsMissedInFront, IsMissedInTail, IsNextInFront, IsNextInTail, IsNextLine, AreBeside}, specs.Joins.Rebindings.AreBindings, specs.Joins.SizedDecks.{AreSizedFrom, IsSizedStatement}, specs.Joins.Sizers.stood, specs.Joins.Walks.{Whole, IsWhole, context_in}, specs.declared.former_lines.FormerLine.FormerLine, specs.declared.former_lines.FormerLines.FormerLines, specs.declared.sized_statement.SizedStatement.SizedStatement, proofs.FormerLaws.{at-or-not, at-tail, before-tail, missed-in-front, missed-of-tail, next-line, next-of-tail, same-tail, sized-cards}, proofs.ForwardLaws.stood-more, proofs.FrontLaws.{next-untouched, untouched-few}, proofs.OntoLaws.{append-none, reverse-onto}}
 
 pub settled-length : (kind : DeckKind) (statements : List Statement) → length (settled_all kind statements) ≡ length statements
 settled-length kind [] = refl

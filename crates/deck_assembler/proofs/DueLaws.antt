@@ -1,37 +1,8 @@
 -- An edited deck is found to agree with the old one in time: one statement after the other.
-use Rattle.std.proofs.Common.{◌≡◌, ℕ, suc, ◌+◌, ◌-◌, ◌<◌, ◌≤◌, inl, inr, ◌⊎◌, List, [], ◌∷◌, ◌++◌, drop, get_or, false, length, refl, sym, ap, ap₂, ◌∙◌, subst, arith, append_assoc, length-append, length-take-le}
-use Rattle.std.specs.List.{AllByRecursion}
-use Rattle.std.specs.Prelude.{reverse, map}
-use Rattle.std.proofs.lemmas.Bool.{cases_lt}
-use Rattle.std.proofs.lemmas.List.{length-drop, length-reverse, reverse-append, reverse-reverse, map-append}
-use Rattle.cards.specs.Joins.Spans.{statement_at}
-use Rattle.cards.specs.declared.statement_list.Span.{Span}
-use Rattle.definitions.specs.Cards.{Card}
-use Rattle.definitions.specs.DeckKinds.{has_end, up_to_end}
-use Rattle.definitions.specs.Settled.{defined}
-use Rattle.definitions.specs.Settling.{View, settled_all}
-use Rattle.definitions.specs.Statements.{Statement, cards_in, statements_of}
-use Rattle.definitions.specs.Laws.States.{state_after}
-use Rattle.definitions.specs.Laws.Agreement.{HaveSameCards}
-use Rattle.definitions.specs.declared.deck_kind.DeckKind.{DeckKind}
-use Rattle.definitions.proofs.EditLaws.{cards_in-append}
-use Rattle.deck_assembler.specs.Joins.Agreements.{left, DoesAgree, HasFront, StandAlike}
-use Rattle.deck_assembler.specs.Joins.DeckParts.{DeckPiece, sized_in}
-use Rattle.deck_assembler.specs.Joins.FirstSymbols.{symbol_in}
-use Rattle.deck_assembler.specs.Joins.FirstStatements.{first_statements}
-use Rattle.deck_assembler.specs.Joins.Formers.{known_in}
-use Rattle.deck_assembler.specs.Joins.Meetings.{cards_of, IsBounded, IsNextOf, IsShort, HasPiece, AreMeeting, AgreeFrom, WillAgreeLater, WillMeet, IsCutAlike, IsNextKnown}
-use Rattle.deck_assembler.specs.Joins.OldDecks.{IsInFront}
-use Rattle.deck_assembler.specs.Joins.SizedDecks.{AreFilled, AreSizedFrom}
-use Rattle.deck_assembler.specs.Joins.Sizers.{stood, ahead, IsSizer}
-use Rattle.deck_assembler.specs.declared.old_deck.OldDeck.{OldDeck}
-use Rattle.deck_assembler.specs.declared.sized_statement.SizedStatement.{SizedStatement}
-use Rattle.deck_assembler.specs.declared.sizer.Sizer.{Sizer}
-use Rattle.deck_assembler.proofs.AlikeLaws.{sized_in-append}
-use Rattle.deck_assembler.proofs.CutLaws.{behind-same, cut-alike, known-open}
-use Rattle.deck_assembler.proofs.EndLaws.{open-at}
-use Rattle.deck_assembler.proofs.FrontLaws.{IsFrontTaken}
-use Rattle.deck_assembler.proofs.PieceMeetings.{at-piece, chosen, left-piece, sized-cut, sized-length, sized-some}
+use Rattle.std.{proofs.Common.{◌≡◌, ℕ, suc, ◌+◌, ◌-◌, ◌<◌, ◌≤◌, inl, inr, ◌⊎◌, List, [], ◌∷◌, ◌++◌, drop, get_or, false, length, refl, sym, ap, ap₂, ◌∙◌, subst, arith, append_assoc, length-append, length-take-le}, specs.List.AllByRecursion, specs.Prelude.{reverse, map}, proofs.lemmas.Bool.cases_lt, proofs.lemmas.List.{length-drop, length-reverse, reverse-append, reverse-reverse, map-append}}
+use Rattle.cards.specs.{Joins.Spans.statement_at, declared.statement_list.Span.Span}
+use Rattle.definitions.{specs.Cards.Card, specs.DeckKinds.{has_end, up_to_end}, specs.Settled.defined, specs.Settling.{View, settled_all}, specs.Statements.{Statement, cards_in, statements_of}, specs.Laws.States.state_after, specs.Laws.Agreement.HaveSameCards, specs.declared.deck_kind.DeckKind.DeckKind, proofs.EditLaws.cards_in-append}
+use Rattle.deck_assembler.{specs.Joins.Agreements.{left, DoesAgree, HasFront, StandAlike}, specs.Joins.DeckParts.{DeckPiece, sized_in}, specs.Joins.FirstSymbols.symbol_in, specs.Joins.FirstStatements.first_statements, specs.Joins.Formers.known_in, specs.Joins.Meetings.{cards_of, IsBounded, IsNextOf, IsShort, HasPiece, AreMeeting, AgreeFrom, WillAgreeLater, WillMeet, IsCutAlike, IsNextKnown}, specs.Joins.OldDecks.IsInFront, specs.Joins.SizedDecks.{AreFilled, AreSizedFrom}, specs.Joins.Sizers.{stood, ahead, IsSizer}, specs.declared.old_deck.OldDeck.OldDeck, specs.declared.sized_statement.SizedStatement.SizedStatement, specs.declared.sizer.Sizer.Sizer, proofs.AlikeLaws.sized_in-append, proofs.CutLaws.{behind-same, cut-alike, known-open}, proofs.EndLaws.open-at, proofs.FrontLaws.IsFrontTaken, proofs.PieceMeetings.{at-piece, chosen, left-piece, sized-cut, sized-length, sized-some}}
 
 -- so many statements of the edited deck are left behind these
 pub next-count : (cards : List Card) (earlier : List Statement) (span : Span) (limit : ℕ) (next : IsNextKnown cards earlier span limit) → length (known_in cards) ≡ suc (length next.others) + length earlier

@@ -1,17 +1,8 @@
 -- Spans of cards as statements newest first, and where END stands among them.
-use Rattle.std.proofs.Common.{◌≡◌, ℕ, suc, ◌<◌, ◌≤◌, ◌||◌, Bool, true, false, true≢false, List, [], ◌∷◌, ◌++◌, length, take, drop, get_or, refl, sym, ap, ap₂, ◌∙◌, subst, arith, take-append-drop, length-append, length-take-le, All}
-use Rattle.std.specs.Prelude.{reverse}
-use Rattle.std.proofs.Math.Seq.{take-suc, take-length}
-use Rattle.std.proofs.lemmas.List.{reverse-append, length-reverse, length-drop, map-append, length-map, drop_all}
-use Rattle.std.proofs.lemmas.List.Elements.{All-get_or}
-use Rattle.cards.specs.Joins.Spans.{IsSpan, statement_at, statements_at}
-use Rattle.cards.specs.declared.statement_list.Span.{Span}
-use Rattle.definitions.specs.Cards.{Card}
-use Rattle.definitions.specs.DeckKinds.{is_end, has_end, up_to_end, behind_end}
-use Rattle.definitions.specs.Fields.{fields_of}
-use Rattle.definitions.specs.Statements.{Statement, AreNumbered}
-use Rattle.deck_assembler.specs.Joins.FirstStatements.{first_statements, all_statements, IsEnding}
-use Rattle.deck_assembler.specs.Joins.Sizers.{stood, IsNext}
+use Rattle.std.{proofs.Common.{◌≡◌, ℕ, suc, ◌<◌, ◌≤◌, ◌||◌, Bool, true, false, true≢false, List, [], ◌∷◌, ◌++◌, length, take, drop, get_or, refl, sym, ap, ap₂, ◌∙◌, subst, arith, take-append-drop, length-append, length-take-le, All}, specs.Prelude.reverse, proofs.Math.Seq.{take-suc, take-length}, proofs.lemmas.List.{reverse-append, length-reverse, length-drop, map-append, length-map, drop_all}, proofs.lemmas.List.Elements.All-get_or}
+use Rattle.cards.specs.{Joins.Spans.{IsSpan, statement_at, statements_at}, declared.statement_list.Span.Span}
+use Rattle.definitions.specs.{Cards.Card, DeckKinds.{is_end, has_end, up_to_end, behind_end}, Fields.fields_of, Statements.{Statement, AreNumbered}}
+use Rattle.deck_assembler.specs.Joins.{FirstStatements.{first_statements, all_statements, IsEnding}, Sizers.{stood, IsNext}}
 
 -- one span more
 pub first-step : (cards : List Card) (spans : List Span) (count : ℕ) (span : Span) → count < length spans →

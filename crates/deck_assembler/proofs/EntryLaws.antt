@@ -1,14 +1,8 @@
 -- Entries, and the table of the names that are seen.
-use Rattle.std.proofs.Common.{◌≡◌, ◌∙◌, ℕ, ◌&&◌, Bool, true, false, true≢false, List, [], ◌∷◌, ◌++◌, Option, Some, None, refl, ap, sym, if◌then◌else◌}
-use Rattle.std.specs.Prelude.{is_some}
-use Rattle.definitions.specs.Characters.{same_text}
-use Rattle.definitions.specs.Entries.{entry_fault, with_entry}
-use Rattle.definitions.specs.Forms.{Form}
-use Rattle.definitions.specs.Settled.{Settled, Definition, defined_in, defined, or_form}
+use Rattle.std.{proofs.Common.{◌≡◌, ◌∙◌, ℕ, ◌&&◌, Bool, true, false, true≢false, List, [], ◌∷◌, ◌++◌, Option, Some, None, refl, ap, sym, if◌then◌else◌}, specs.Prelude.is_some}
+use Rattle.definitions.specs.{Characters.same_text, Entries.{entry_fault, with_entry}, Forms.Form, Settled.{Settled, Definition, defined_in, defined, or_form}}
 use Rattle.definitions.specs.declared.letter.Letter.TheVariants as letter
-use Rattle.deck_assembler.proofs.DefinitionLaws.{defined_in-push}
-use Rattle.deck_assembler.specs.Joins.FirstSymbols.{is_known_name, symbol_in, with_symbol}
-use Rattle.deck_assembler.specs.Joins.SharedNames.{AreSeen}
+use Rattle.deck_assembler.{proofs.DefinitionLaws.defined_in-push, specs.Joins.FirstSymbols.{is_known_name, symbol_in, with_symbol}, specs.Joins.SharedNames.AreSeen}
 
 -- what is worth something is a known name
 pub symbol_in-known : (seen : List (ℕ × Form)) (name : List ℕ) (form : Form) → symbol_in seen name ≡ Some form → is_known_name name ≡ true

@@ -1,23 +1,12 @@
 -- The externals among what statements define.
-use Rattle.std.proofs.Common.{◌≡◌, ◌∙◌, ℕ, Bool, true, false, true≢false, List, [], ◌∷◌, ◌++◌, Option, Some, None, is_some, refl, ap, sym, append-nil, append_assoc, if◌then◌else◌}
-use Rattle.std.specs.Prelude.{filter_map}
-use Rattle.std.specs.List.{AllByRecursion}
-use Rattle.std.proofs.lemmas.List.Elements.{filter_map-append}
-use Rattle.definitions.specs.Entries.{external_name, externals_by, externals_of}
-use Rattle.definitions.specs.Operands.{Operand, NamesOperand}
+use Rattle.std.{proofs.Common.{◌≡◌, ◌∙◌, ℕ, Bool, true, false, true≢false, List, [], ◌∷◌, ◌++◌, Option, Some, None, is_some, refl, ap, sym, append-nil, append_assoc, if◌then◌else◌}, specs.Prelude.filter_map, specs.List.AllByRecursion, proofs.lemmas.List.Elements.filter_map-append}
+use Rattle.definitions.specs.{Entries.{external_name, externals_by, externals_of}, Operands.{Operand, NamesOperand}, Operations.Operation, Settled.{Settled, Definition, defined_in, defined}, Settling.{View, external, externals, is_known}}
 use Rattle.definitions.specs.Operations as op
-use Rattle.definitions.specs.Operations.{Operation}
-use Rattle.definitions.specs.Settled.{Settled, Definition, defined_in, defined}
-use Rattle.definitions.specs.Settling.{View, external, externals, is_known}
 use Rattle.statement_coder.specs.Joins.Definitions as made
-use Rattle.statement_coder.specs.Joins.Definitions.{is_ext}
-use Rattle.statement_coder.specs.Joins.Readings.{IsLawfulName}
+use Rattle.statement_coder.specs.Joins.{Definitions.is_ext, Readings.IsLawfulName}
 use Rattle.statement_coder.specs.declared.definitions_made.Defines as code
 use Rattle.statement_coder.specs.declared.definitions_made.Defines.TheVariants as defines
-use Rattle.deck_assembler.specs.Joins.FirstSymbols.{IsLawfulOperand}
-use Rattle.deck_assembler.specs.Joins.SharedNames.{with_new, with_new_by, with_new_of}
-use Rattle.deck_assembler.proofs.DefinitionLaws.{joined, or_form-none, is_some-or, external-step}
-use Rattle.deck_assembler.proofs.NameTexts.{linked-known}
+use Rattle.deck_assembler.{specs.Joins.FirstSymbols.IsLawfulOperand, specs.Joins.SharedNames.{with_new, with_new_by, with_new_of}, proofs.DefinitionLaws.{joined, or_form-none, is_some-or, external-step}, proofs.NameTexts.linked-known}
 
 filter_map-push : (so_far : List Definition) (name : List ℕ) → filter_map external_name (so_far ++ external name ∷ []) ≡ filter_map external_name so_far ++ name ∷ []
 filter_map-push so_far name = filter_map-append external_name so_far (external name ∷ [])

@@ -1,60 +1,9 @@
 -- The lines of the object before an edit go beside a walk over the edited deck; what was not bound otherwise keeps its line.
-use Rattle.std.proofs.Common.{◌≡◌, ◌∙◌, ℕ, ◌+◌, ◌-◌, ◌≤◌, ◌⊎◌, inl, inr, Bool, true, false, Result, Ok, Err, List, [], ◌∷◌, ◌++◌, Option, Some, None, zero, suc, ◌<◌, length, get_or, arith, map, take, drop, reverse, refl, ap, ap₂, sym, subst, append_assoc, length-append, length-take-le}
-use Rattle.std.specs.Prelude.{IfSome, not, ◌||◌}
-use Rattle.std.specs.List.{list_any}
-use Rattle.std.proofs.lemmas.Bool.{cases_lt}
-use Rattle.std.proofs.lemmas.List.{drop-drop, length-reverse, reverse-append, reverse-reverse}
-use Rattle.definitions.specs.Cards.{Card}
-use Rattle.definitions.specs.DeckInput.{Deck}
-use Rattle.definitions.specs.DeckKinds.{behind_end, kind_of_statements}
-use Rattle.definitions.specs.Forms.{Form, element_form}
-use Rattle.definitions.specs.Literals.{literal_words}
-use Rattle.definitions.specs.Letters.{in_order}
-use Rattle.definitions.specs.Objects.{Shown, shown_of, only_listed, coded_of, object_of}
-use Rattle.definitions.specs.Laws.Rebound.{coded_elements, context_from, is_rebound, same_value}
-use Rattle.definitions.specs.Settled.{Settled, defined}
-use Rattle.definitions.specs.Settling.{View, settle, settled_all}
-use Rattle.definitions.specs.StatementItems.{Context, Item, final_names, items_of}
-use Rattle.definitions.specs.Statements.{Statement, cards_in, statements_of}
-use Rattle.definitions.specs.Laws.Agreement.{unnumbered}
-use Rattle.definitions.specs.Words.{Coded}
-use Rattle.definitions.specs.declared.deck_kind.DeckKind.{DeckKind}
-use Rattle.definitions.specs.declared.letter.Letter.{Letter}
-use Rattle.definitions.specs.Lengths.{BlockRow}
-use Rattle.definitions.proofs.EditLaws.{cards_in-append}
-use Rattle.definitions.proofs.ReboundLaws.{letters-enough, fields-enough}
+use Rattle.std.{proofs.Common.{◌≡◌, ◌∙◌, ℕ, ◌+◌, ◌-◌, ◌≤◌, ◌⊎◌, inl, inr, Bool, true, false, Result, Ok, Err, List, [], ◌∷◌, ◌++◌, Option, Some, None, zero, suc, ◌<◌, length, get_or, arith, map, take, drop, reverse, refl, ap, ap₂, sym, subst, append_assoc, length-append, length-take-le}, specs.Prelude.{IfSome, not, ◌||◌}, specs.List.list_any, proofs.lemmas.Bool.cases_lt, proofs.lemmas.List.{drop-drop, length-reverse, reverse-append, reverse-reverse}}
+use Rattle.definitions.{specs.Cards.Card, specs.DeckInput.Deck, specs.DeckKinds.{behind_end, kind_of_statements}, specs.Forms.{Form, element_form}, specs.Literals.literal_words, specs.Letters.in_order, specs.Objects.{Shown, shown_of, only_listed, coded_of, object_of}, specs.Laws.Rebound.{coded_elements, context_from, is_rebound, same_value}, specs.Settled.{Settled, defined}, specs.Settling.{View, settle, settled_all}, specs.StatementItems.{Context, Item, final_names, items_of}, specs.Statements.{Statement, cards_in, statements_of}, specs.Laws.Agreement.unnumbered, specs.Words.Coded, specs.declared.deck_kind.DeckKind.DeckKind, specs.declared.letter.Letter.Letter, specs.Lengths.BlockRow, proofs.EditLaws.cards_in-append, proofs.ReboundLaws.{letters-enough, fields-enough}}
 use Rattle.statement_coder.specs.declared.items.Item as code
-use Rattle.deck_objects.specs.Joins.CodedLines.{IsCoded, IsShown, IsStored, AreShown}
-use Rattle.deck_objects.specs.Joins.PartsOf.{ArePartsOf}
-use Rattle.deck_objects.specs.declared.lines.CodedLine.{CodedLine}
-use Rattle.deck_objects.specs.declared.lines.Line.{Line}
-use Rattle.deck_objects.specs.declared.object.ObjectParts.{ObjectParts}
-use Rattle.deck_assembler.specs.Joins.DeckParts.{sized_in}
-use Rattle.deck_assembler.specs.Joins.DeckWalks.{IsWalked}
-use Rattle.deck_assembler.specs.Joins.FormerLines.{IsSameTail, IsOneOf, IsMissedInFront, IsMissedInTail, IsTaken, IsTakenOfTail, IsNextInFront, IsNextInTail, IsNextLine, IsBare, WasLine, WasLineIfAny, shown_from, AreBeside, AreOfTail, AreOfHead, AreOfTailIfAny, IsBeside, AreChosen, IsWalkedBeside}
-use Rattle.deck_assembler.specs.Joins.FirstSymbols.{symbol_in}
-use Rattle.deck_assembler.specs.Joins.DueCodes.{one_where, has_line, code_due, code_due_of, CodePlan, HasNoTail, IsBesideTail, IsDueBeside, IsPlanned, IsPlanOf}
-use Rattle.deck_assembler.specs.Joins.Formers.{known_in, IsFormerOf}
-use Rattle.deck_assembler.specs.Joins.Rebindings.{AreBindings}
-use Rattle.deck_assembler.specs.Joins.SizedDecks.{IsSizedStatement, AreSizedFrom}
-use Rattle.deck_assembler.specs.Joins.Sizers.{stood}
-use Rattle.deck_assembler.specs.Joins.TailLines.{lines_behind, AreAlikeOn}
-use Rattle.deck_assembler.specs.Joins.Tails.{AreSettledAlike, HasTail, HasTailIfAny, IsEditedOf, StandBeforeTail}
-use Rattle.deck_assembler.specs.Joins.Walks.{Whole, IsWhole, has_row, AreLined, AreNoted}
-use Rattle.deck_assembler.specs.declared.deck_walk.Making.{Making}
-use Rattle.deck_assembler.specs.declared.former.Former.{Former}
-use Rattle.deck_assembler.specs.declared.former_lines.FormerLine.{FormerLine}
-use Rattle.deck_assembler.specs.declared.former_lines.FormerLines.{FormerLines}
-use Rattle.deck_assembler.specs.declared.sized_statement.SizedStatement.{SizedStatement}
-use Rattle.deck_assembler.proofs.DeckWalkLaws.{IsStep, there}
-use Rattle.deck_assembler.proofs.HeadDeckLaws.{kinds-told}
-use Rattle.deck_assembler.proofs.HeadLaws.{same-between}
-use Rattle.deck_assembler.proofs.HeadLineLaws.{context_as, head-lines-beside}
-use Rattle.deck_assembler.proofs.NeutralLaws.{front-neutral}
-use Rattle.deck_assembler.proofs.ForwardLaws.{stood-more}
-use Rattle.deck_assembler.proofs.OntoLaws.{append-none, drop-none, first-of, rest-of, reverse-onto}
-use Rattle.deck_assembler.proofs.PartLaws.{shown-object}
-use Rattle.deck_assembler.proofs.WalkLaws.{stood-step}
+use Rattle.deck_objects.specs.{Joins.CodedLines.{IsCoded, IsShown, IsStored, AreShown}, Joins.PartsOf.ArePartsOf, declared.lines.CodedLine.CodedLine, declared.lines.Line.Line, declared.object.ObjectParts.ObjectParts}
+use Rattle.deck_assembler.{specs.Joins.DeckParts.sized_in, specs.Joins.DeckWalks.IsWalked, specs.Joins.FormerLines.{IsSameTail, IsOneOf, IsMissedInFront, IsMissedInTail, IsTaken, IsTakenOfTail, IsNextInFront, IsNextInTail, IsNextLine, IsBare, WasLine, WasLineIfAny, shown_from, AreBeside, AreOfTail, AreOfHead, AreOfTailIfAny, IsBeside, AreChosen, IsWalkedBeside}, specs.Joins.FirstSymbols.symbol_in, specs.Joins.DueCodes.{one_where, has_line, code_due, code_due_of, CodePlan, HasNoTail, IsBesideTail, IsDueBeside, IsPlanned, IsPlanOf}, specs.Joins.Formers.{known_in, IsFormerOf}, specs.Joins.Rebindings.AreBindings, specs.Joins.SizedDecks.{IsSizedStatement, AreSizedFrom}, specs.Joins.Sizers.stood, specs.Joins.TailLines.{lines_behind, AreAlikeOn}, specs.Joins.Tails.{AreSettledAlike, HasTail, HasTailIfAny, IsEditedOf, StandBeforeTail}, specs.Joins.Walks.{Whole, IsWhole, has_row, AreLined, AreNoted}, specs.declared.deck_walk.Making.Making, specs.declared.former.Former.Former, specs.declared.former_lines.FormerLine.FormerLine, specs.declared.former_lines.FormerLines.FormerLines, specs.declared.sized_statement.SizedStatement.SizedStatement, proofs.DeckWalkLaws.{IsStep, there}, proofs.HeadDeckLaws.kinds-told, proofs.HeadLaws.same-between, proofs.HeadLineLaws.{context_as, head-lines-beside}, proofs.NeutralLaws.front-neutral, proofs.ForwardLaws.stood-more, proofs.OntoLaws.{append-none, drop-none, first-of, rest-of, reverse-onto}, proofs.PartLaws.shown-object, proofs.WalkLaws.stood-step}
 
 -- a coded statement is known by its operation, its block, its place and its fields
 abbrev IsCodedAs : DeckKind → List BlockRow → List code.Item → CodedLine → Settled → List Item → Type 0

@@ -1,16 +1,7 @@
 -- What is stated of statements newest first, stated in the order of the deck.
-use Rattle.std.proofs.Common.{◌≡◌, ℕ, suc, ◌+◌, ◌≤◌, List, [], ◌∷◌, ◌++◌, length, take, drop, refl, sym, ap, ap₂, ◌∙◌, subst, arith, append_assoc, length-append, length-take-le}
-use Rattle.std.specs.Prelude.{reverse}
-use Rattle.std.proofs.lemmas.List.{reverse-append, length-reverse}
-use Rattle.definitions.specs.Cards.{Card}
-use Rattle.definitions.specs.Statements.{Statement, cards_in}
-use Rattle.definitions.specs.declared.deck_kind.DeckKind.{DeckKind}
-use Rattle.deck_assembler.specs.Joins.DeckParts.{DeckPiece, sized_in}
-use Rattle.deck_assembler.specs.Joins.PieceSteps.{sized_newest}
-use Rattle.deck_assembler.specs.Joins.SizedDecks.{AreListedFrom, AreSizedFrom}
-use Rattle.deck_assembler.specs.Joins.Sizers.{stood, ahead, AreSized}
-use Rattle.deck_assembler.proofs.OntoLaws.{onto, onto-reverse, onto-back, append-none, drop-more}
-use Rattle.deck_assembler.specs.declared.sized_statement.SizedStatement.{SizedStatement}
+use Rattle.std.{proofs.Common.{◌≡◌, ℕ, suc, ◌+◌, ◌≤◌, List, [], ◌∷◌, ◌++◌, length, take, drop, refl, sym, ap, ap₂, ◌∙◌, subst, arith, append_assoc, length-append, length-take-le}, specs.Prelude.reverse, proofs.lemmas.List.{reverse-append, length-reverse}}
+use Rattle.definitions.specs.{Cards.Card, Statements.{Statement, cards_in}, declared.deck_kind.DeckKind.DeckKind}
+use Rattle.deck_assembler.{specs.Joins.DeckParts.{DeckPiece, sized_in}, specs.Joins.PieceSteps.sized_newest, specs.Joins.SizedDecks.{AreListedFrom, AreSizedFrom}, specs.Joins.Sizers.{stood, ahead, AreSized}, proofs.OntoLaws.{onto, onto-reverse, onto-back, append-none, drop-more}, specs.declared.sized_statement.SizedStatement.SizedStatement}
 
 -- so many cards more stand before what follows a statement of so many
 pub stood-more : (earlier : List Statement) (statement : Statement) (cards : List Card) (count : ℕ) → take count cards ≡ statement.cards → count ≤ length cards →

@@ -1,28 +1,9 @@
 -- Statements that stand untouched in front of two decks stay as they were sized, so that nothing is counted for them.
-use Rattle.std.proofs.Common.{◌≡◌, ℕ, suc, ◌+◌, ◌<◌, ◌≤◌, inl, inr, false, List, [], ◌∷◌, ◌++◌, drop, get_or, length, refl, sym, ap, ◌∙◌, subst, arith, length-append, length-take-le}
-use Rattle.std.specs.Prelude.{reverse}
-use Rattle.std.proofs.lemmas.Bool.{cases_lt}
-use Rattle.cards.specs.Joins.Spans.{statement_at}
-use Rattle.cards.specs.declared.statement_list.Span.{Span}
-use Rattle.definitions.specs.Cards.{Card}
-use Rattle.definitions.specs.DeckKinds.{has_end, up_to_end}
-use Rattle.definitions.specs.Laws.Edits.{Edited, IsUntouched}
-use Rattle.definitions.specs.Statements.{Statement, cards_in, statements_of}
-use Rattle.definitions.specs.declared.deck_kind.DeckKind.{DeckKind}
-use Rattle.definitions.proofs.EditLaws.{cards_in-append}
-use Rattle.deck_assembler.specs.Joins.Agreements.{left}
-use Rattle.deck_assembler.specs.Joins.FirstStatements.{first_statements, all_statements}
-use Rattle.deck_assembler.specs.Joins.Formers.{known_in}
-use Rattle.deck_assembler.specs.Joins.OldDecks.{IsAtStage, IsInFront, IsOnSpan, GoesOn, StandsInFront}
-use Rattle.deck_assembler.specs.Joins.SizedDecks.{AreSizedFrom}
-use Rattle.deck_assembler.specs.Joins.Sizers.{stood, ahead}
-use Rattle.deck_assembler.specs.declared.old_deck.OldDeck.{OldDeck}
+use Rattle.std.{proofs.Common.{◌≡◌, ℕ, suc, ◌+◌, ◌<◌, ◌≤◌, inl, inr, false, List, [], ◌∷◌, ◌++◌, drop, get_or, length, refl, sym, ap, ◌∙◌, subst, arith, length-append, length-take-le}, specs.Prelude.reverse, proofs.lemmas.Bool.cases_lt}
+use Rattle.cards.specs.{Joins.Spans.statement_at, declared.statement_list.Span.Span}
+use Rattle.definitions.{specs.Cards.Card, specs.DeckKinds.{has_end, up_to_end}, specs.Laws.Edits.{Edited, IsUntouched}, specs.Statements.{Statement, cards_in, statements_of}, specs.declared.deck_kind.DeckKind.DeckKind, proofs.EditLaws.cards_in-append}
+use Rattle.deck_assembler.{specs.Joins.Agreements.left, specs.Joins.FirstStatements.{first_statements, all_statements}, specs.Joins.Formers.known_in, specs.Joins.OldDecks.{IsAtStage, IsInFront, IsOnSpan, GoesOn, StandsInFront}, specs.Joins.SizedDecks.AreSizedFrom, specs.Joins.Sizers.{stood, ahead}, specs.declared.old_deck.OldDeck.OldDeck, specs.declared.sized_statement.SizedStatement.SizedStatement, specs.declared.sizer.Sizer.Sizer, proofs.EndLaws.{length-first, open-at}, proofs.ForwardLaws.stood-more, proofs.OldLaws.{all-next, has-next}}
 use Rattle.deck_assembler.specs.declared.old_deck.Stage.TheVariants as stages
-use Rattle.deck_assembler.specs.declared.sized_statement.SizedStatement.{SizedStatement}
-use Rattle.deck_assembler.specs.declared.sizer.Sizer.{Sizer}
-use Rattle.deck_assembler.proofs.EndLaws.{length-first, open-at}
-use Rattle.deck_assembler.proofs.ForwardLaws.{stood-more}
-use Rattle.deck_assembler.proofs.OldLaws.{all-next, has-next}
 
 rest-same : (a b : Statement) (x y : List Statement) → a ∷ x ≡ b ∷ y → x ≡ y
 rest-same a b x y e = cc

@@ -1,44 +1,10 @@
 -- What stays of an old deck in an edited one of another kind: the neutral statements in front, and their lines.
-use Rattle.std.proofs.Common.{◌≡◌, ◌∙◌, ℕ, ◌+◌, ◌-◌, ◌<◌, ◌≤◌, ◌⊎◌, inl, inr, List, [], ◌∷◌, ◌++◌, Some, length, take, drop, refl, sym, ap, ap₂, subst, arith, append-nil, length-append, length-take-le}
-use Rattle.std.specs.Prelude.{IfSome, reverse}
-use Rattle.std.specs.List.{AllByRecursion}
-use Rattle.std.proofs.lemmas.Bool.{cases_lt}
-use Rattle.std.proofs.lemmas.List.{drop-take, length-drop, length-reverse, reverse-append, reverse-reverse, take-take}
-use Rattle.definitions.specs.Cards.{Card}
-use Rattle.definitions.specs.DeckKinds.{kind_of_statements}
-use Rattle.definitions.specs.Fields.{fields_of}
-use Rattle.definitions.specs.Literals.{operand_literals}
-use Rattle.definitions.specs.Operands.{Operand}
-use Rattle.definitions.specs.Operations.{is_neutral}
-use Rattle.definitions.specs.Settled.{defined}
-use Rattle.definitions.specs.Settling.{View, settle, settled_all}
-use Rattle.definitions.specs.Statements.{Statement, cards_in}
-use Rattle.definitions.specs.declared.deck_kind.DeckKind.{DeckKind}
-use Rattle.definitions.specs.declared.deck_kind.DeckKind.TheVariants.{Rel, Abs, Periph}
-use Rattle.definitions.proofs.EditLaws.{cards_in-append}
-use Rattle.definitions.proofs.NamesLaws.{all-behind}
+use Rattle.std.{proofs.Common.{◌≡◌, ◌∙◌, ℕ, ◌+◌, ◌-◌, ◌<◌, ◌≤◌, ◌⊎◌, inl, inr, List, [], ◌∷◌, ◌++◌, Some, length, take, drop, refl, sym, ap, ap₂, subst, arith, append-nil, length-append, length-take-le}, specs.Prelude.{IfSome, reverse}, specs.List.AllByRecursion, proofs.lemmas.Bool.cases_lt, proofs.lemmas.List.{drop-take, length-drop, length-reverse, reverse-append, reverse-reverse, take-take}}
+use Rattle.definitions.{specs.Cards.Card, specs.DeckKinds.kind_of_statements, specs.Fields.fields_of, specs.Literals.operand_literals, specs.Operands.Operand, specs.Operations.is_neutral, specs.Settled.defined, specs.Settling.{View, settle, settled_all}, specs.Statements.{Statement, cards_in}, specs.declared.deck_kind.DeckKind.DeckKind, specs.declared.deck_kind.DeckKind.TheVariants.{Rel, Abs, Periph}, proofs.EditLaws.cards_in-append, proofs.NamesLaws.all-behind}
 use Rattle.operations.specs.Joins.OperationsAs.{operation_as}
-use Rattle.statement_coder.specs.Joins.Definitions.{defined_by, IsOfExt}
-use Rattle.statement_coder.specs.Joins.KeptReadings.{IsKeptReading}
-use Rattle.statement_coder.specs.Joins.Sizings.{IsSizing}
+use Rattle.statement_coder.specs.Joins.{Definitions.{defined_by, IsOfExt}, KeptReadings.IsKeptReading, Sizings.IsSizing}
 use Rattle.use_blocks.specs.Joins.EffectsAs.{change_as, setting_as}
-use Rattle.deck_assembler.specs.Joins.Agreements.{left, HaveSameEnd}
-use Rattle.deck_assembler.specs.Joins.DeckParts.{DeckParts, sized_in}
-use Rattle.deck_assembler.specs.Joins.Formers.{known_in}
-use Rattle.deck_assembler.specs.Joins.Heads.{counter_of, AreHead, IsHeadDeck, IsOldDeck, IsRecounted, IsWholeDeck, BeginsBeside}
-use Rattle.deck_assembler.specs.Joins.Meetings.{cards_of, IsShort}
-use Rattle.deck_assembler.specs.Joins.OldDecks.{IsAtStage, IsInFront, IsKeptOn}
-use Rattle.deck_assembler.specs.Joins.SizedDecks.{IsSizedDeck, IsSizedStatement, AreSizedFrom}
-use Rattle.deck_assembler.specs.declared.old_deck.OldCards.{OldCards}
-use Rattle.deck_assembler.specs.declared.old_deck.OldDeck.{OldDeck}
-use Rattle.deck_assembler.specs.declared.sized_statement.SizedStatement.{SizedStatement}
-use Rattle.deck_assembler.proofs.AgreementLaws.{between}
-use Rattle.deck_assembler.proofs.CutLaws.{cut-front}
-use Rattle.deck_assembler.proofs.DueLaws.{filled-short}
-use Rattle.deck_assembler.proofs.ForwardLaws.{stood-more}
-use Rattle.deck_assembler.proofs.HeadLaws.{deck-in-front}
-use Rattle.deck_assembler.proofs.NeutralLaws.{AreNeutral, IsNeutral, base-same, counted, front-neutral, neutral-known, neutral-open, neutral-settles, neutral-told, neutral-view}
-use Rattle.deck_assembler.proofs.OntoLaws.{append-none, reverse-onto}
+use Rattle.deck_assembler.{specs.Joins.Agreements.{left, HaveSameEnd}, specs.Joins.DeckParts.{DeckParts, sized_in}, specs.Joins.Formers.known_in, specs.Joins.Heads.{counter_of, AreHead, IsHeadDeck, IsOldDeck, IsRecounted, IsWholeDeck, BeginsBeside}, specs.Joins.Meetings.{cards_of, IsShort}, specs.Joins.OldDecks.{IsAtStage, IsInFront, IsKeptOn}, specs.Joins.SizedDecks.{IsSizedDeck, IsSizedStatement, AreSizedFrom}, specs.declared.old_deck.OldCards.OldCards, specs.declared.old_deck.OldDeck.OldDeck, specs.declared.sized_statement.SizedStatement.SizedStatement, proofs.AgreementLaws.between, proofs.CutLaws.cut-front, proofs.DueLaws.filled-short, proofs.ForwardLaws.stood-more, proofs.HeadLaws.deck-in-front, proofs.NeutralLaws.{AreNeutral, IsNeutral, base-same, counted, front-neutral, neutral-known, neutral-open, neutral-settles, neutral-told, neutral-view}, proofs.OntoLaws.{append-none, reverse-onto}}
 
 -- a neutral statement that was sized behind neutral ones is so in a deck of another kind, with other counters
 recounted-sized : (first second : DeckKind) (earlier : List Statement) (stood : ℕ) (ahead other : List Card) (sized made : SizedStatement) (statement : Statement) → AreNeutral earlier → IsNeutral statement →

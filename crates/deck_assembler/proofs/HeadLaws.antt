@@ -1,30 +1,9 @@
 -- The statements in front of an edited card are sized behind the same statements in both decks.
-use Rattle.std.proofs.Common.{◌≡◌, ℕ, ◌+◌, ◌-◌, ◌≤◌, List, [], ◌∷◌, ◌++◌, take, drop, length, refl, sym, ap, ◌∙◌, subst, arith, length-take-le}
-use Rattle.std.specs.Prelude.{reverse}
-use Rattle.std.proofs.lemmas.List.{take-take, drop-take, length-take, length-drop, reverse-reverse}
-use Rattle.cards.specs.Joins.Spans.{statement_at}
-use Rattle.cards.specs.declared.statement_list.Span.{Span}
-use Rattle.definitions.specs.Cards.{Card}
-use Rattle.definitions.specs.DeckKinds.{up_to_end, behind_end}
-use Rattle.definitions.specs.Forms.{Form}
-use Rattle.definitions.specs.Settled.{defined}
-use Rattle.definitions.specs.Settling.{View, settled_all}
-use Rattle.definitions.specs.Statements.{Statement, statements_of}
-use Rattle.definitions.specs.Laws.States.{state_after}
-use Rattle.definitions.specs.declared.deck_kind.DeckKind.{DeckKind}
-use Rattle.deck_assembler.specs.Joins.Agreements.{left, HasFront, IsSameFront}
-use Rattle.deck_assembler.specs.Joins.DeckParts.{DeckParts, sized_in}
-use Rattle.deck_assembler.specs.Joins.FirstSymbols.{symbol_in}
-use Rattle.deck_assembler.specs.Joins.OldDecks.{IsAtStage, IsInFront, IsOnSpan}
-use Rattle.deck_assembler.specs.Joins.SizedDecks.{IsSizedStatement, AreSizedFrom, IsSizedDeck}
-use Rattle.deck_assembler.specs.Joins.Sizers.{stood, ahead, IsNext, IsSizer}
-use Rattle.deck_assembler.specs.declared.old_deck.OldDeck.{OldDeck}
+use Rattle.std.{proofs.Common.{◌≡◌, ℕ, ◌+◌, ◌-◌, ◌≤◌, List, [], ◌∷◌, ◌++◌, take, drop, length, refl, sym, ap, ◌∙◌, subst, arith, length-take-le}, specs.Prelude.reverse, proofs.lemmas.List.{take-take, drop-take, length-take, length-drop, reverse-reverse}}
+use Rattle.cards.specs.{Joins.Spans.statement_at, declared.statement_list.Span.Span}
+use Rattle.definitions.specs.{Cards.Card, DeckKinds.{up_to_end, behind_end}, Forms.Form, Settled.defined, Settling.{View, settled_all}, Statements.{Statement, statements_of}, Laws.States.state_after, declared.deck_kind.DeckKind.DeckKind}
+use Rattle.deck_assembler.{specs.Joins.Agreements.{left, HasFront, IsSameFront}, specs.Joins.DeckParts.{DeckParts, sized_in}, specs.Joins.FirstSymbols.symbol_in, specs.Joins.OldDecks.{IsAtStage, IsInFront, IsOnSpan}, specs.Joins.SizedDecks.{IsSizedStatement, AreSizedFrom, IsSizedDeck}, specs.Joins.Sizers.{stood, ahead, IsNext, IsSizer}, specs.declared.old_deck.OldDeck.OldDeck, specs.declared.sized_statement.SizedStatement.SizedStatement, specs.declared.sizer.Sizer.Sizer, proofs.ForwardLaws.stood-more, proofs.OldLaws.{all-next, has-next}, proofs.OntoLaws.{append-none, drop-more}}
 use Rattle.deck_assembler.specs.declared.old_deck.Stage.TheVariants as stages
-use Rattle.deck_assembler.specs.declared.sized_statement.SizedStatement.{SizedStatement}
-use Rattle.deck_assembler.specs.declared.sizer.Sizer.{Sizer}
-use Rattle.deck_assembler.proofs.ForwardLaws.{stood-more}
-use Rattle.deck_assembler.proofs.OldLaws.{all-next, has-next}
-use Rattle.deck_assembler.proofs.OntoLaws.{append-none, drop-more}
 
 -- the first cards of two decks are the same: so are those between
 between : (count from before : ℕ) (cards : List Card) → from + count ≤ before → take count (drop from (take before cards)) ≡ take count (drop from cards)

@@ -1,36 +1,11 @@
 -- The lines of the neutral statements in front stay in the object of a deck of another kind.
-use Rattle.std.proofs.Common.{◌≡◌, ◌∙◌, ℕ, zero, suc, ◌+◌, ◌≤◌, true, List, [], ◌∷◌, ◌++◌, Option, Some, None, length, take, drop, refl, sym, ap, subst, arith, append-nil, length-take-le}
-use Rattle.std.specs.Prelude.{reverse}
-use Rattle.std.proofs.lemmas.List.{drop-take, length-drop, reverse-reverse, take-take}
-use Rattle.definitions.specs.Cards.{Card}
-use Rattle.definitions.specs.Forms.{Form}
-use Rattle.definitions.specs.Lengths.{BlockRow}
-use Rattle.definitions.specs.Letters.{in_order}
-use Rattle.definitions.specs.Objects.{shown_of, coded_of}
-use Rattle.definitions.specs.Operations.{is_neutral}
-use Rattle.definitions.specs.Laws.Rebound.{context_from}
-use Rattle.definitions.specs.Settled.{Settled}
-use Rattle.definitions.specs.Settling.{settle, settled_all}
-use Rattle.definitions.specs.StatementItems.{Context, Item, items_of}
-use Rattle.definitions.specs.Statements.{Statement, cards_in}
-use Rattle.definitions.specs.Words.{Coded}
-use Rattle.definitions.specs.declared.deck_kind.DeckKind.{DeckKind}
+use Rattle.std.{proofs.Common.{◌≡◌, ◌∙◌, ℕ, zero, suc, ◌+◌, ◌≤◌, true, List, [], ◌∷◌, ◌++◌, Option, Some, None, length, take, drop, refl, sym, ap, subst, arith, append-nil, length-take-le}, specs.Prelude.reverse, proofs.lemmas.List.{drop-take, length-drop, reverse-reverse, take-take}}
+use Rattle.definitions.specs.{Cards.Card, Forms.Form, Lengths.BlockRow, Letters.in_order, Objects.{shown_of, coded_of}, Operations.is_neutral, Laws.Rebound.context_from, Settled.Settled, Settling.{settle, settled_all}, StatementItems.{Context, Item, items_of}, Statements.{Statement, cards_in}, Words.Coded, declared.deck_kind.DeckKind.DeckKind}
 use Rattle.statement_coder.specs.declared.items.Item as code
-use Rattle.deck_objects.specs.Joins.CodedLines.{IsCoded, IsShown, IsStored, AreShown}
-use Rattle.deck_objects.specs.Joins.LineItems.{kept_from, kept_items, AreBitsOf, AreKept, AreShort}
-use Rattle.deck_objects.specs.declared.lines.CodedLine.{CodedLine}
-use Rattle.deck_objects.specs.declared.lines.Line.{Line}
+use Rattle.deck_objects.specs.{Joins.CodedLines.{IsCoded, IsShown, IsStored, AreShown}, Joins.LineItems.{kept_from, kept_items, AreBitsOf, AreKept, AreShort}, declared.lines.CodedLine.CodedLine, declared.lines.Line.Line}
 use Rattle.deck_objects.specs.declared.lines.LineFields as kept
 use Rattle.deck_objects.specs.declared.lines.LineFields.TheVariants as fields
-use Rattle.deck_assembler.specs.Joins.FormerLines.{shown_from, AreBeside}
-use Rattle.deck_assembler.specs.Joins.Formers.{known_in}
-use Rattle.deck_assembler.specs.Joins.Heads.{counter_of, cards_of_lines, AreHeadLines, IsLineOfHead}
-use Rattle.deck_assembler.specs.Joins.Rebindings.{AreBindings}
-use Rattle.deck_assembler.specs.declared.former_lines.FormerLines.{FormerLines}
-use Rattle.deck_assembler.proofs.ForwardLaws.{stood-more}
-use Rattle.deck_assembler.proofs.HeadDeckLaws.{DoStop, HasTop, head-top}
-use Rattle.deck_assembler.proofs.NeutralLaws.{AreNeutral, IsNeutral, counted, neutral-items, neutral-known, neutral-letters, neutral-settles, neutral-told}
-use Rattle.deck_assembler.proofs.OntoLaws.{reverse-onto}
+use Rattle.deck_assembler.{specs.Joins.FormerLines.{shown_from, AreBeside}, specs.Joins.Formers.known_in, specs.Joins.Heads.{counter_of, cards_of_lines, AreHeadLines, IsLineOfHead}, specs.Joins.Rebindings.AreBindings, specs.declared.former_lines.FormerLines.FormerLines, proofs.ForwardLaws.stood-more, proofs.HeadDeckLaws.{DoStop, HasTop, head-top}, proofs.NeutralLaws.{AreNeutral, IsNeutral, counted, neutral-items, neutral-known, neutral-letters, neutral-settles, neutral-told}, proofs.OntoLaws.reverse-onto}
 
 -- what is known of a deck, as if it were of another kind
 abbrev pub context_as : DeckKind → Context → Context

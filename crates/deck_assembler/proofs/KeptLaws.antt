@@ -1,35 +1,14 @@
 -- What a line keeps of fields is those fields to whoever links.
-use Rattle.std.proofs.Common.{◌≡◌, ◌∙◌, ℕ, ◌+◌, ◌-◌, ◌*◌, ◌≤◌, true, false, List, [], ◌∷◌, ◌++◌, length, take, drop, map, refl, ap, sym, subst, arith}
-use Rattle.std.specs.Prelude.{slice_get}
-use Rattle.std.proofs.lemmas.Bool.{true≢false}
-use Rattle.std.proofs.lemmas.List.{drop-map, drop_at, length-map, take_all, length-drop, take-take, drop-take}
-use Rattle.definitions.specs.Kinds.{unit_bits}
-use Rattle.definitions.specs.Lengths.{BlockRow}
-use Rattle.definitions.specs.Operands.{Operand}
+use Rattle.std.{proofs.Common.{◌≡◌, ◌∙◌, ℕ, ◌+◌, ◌-◌, ◌*◌, ◌≤◌, true, false, List, [], ◌∷◌, ◌++◌, length, take, drop, map, refl, ap, sym, subst, arith}, specs.Prelude.slice_get, proofs.lemmas.Bool.true≢false, proofs.lemmas.List.{drop-map, drop_at, length-map, take_all, length-drop, take-take, drop-take}}
+use Rattle.definitions.specs.{Kinds.unit_bits, Lengths.BlockRow, Operands.Operand, Operations.Operation, Settled.Settled, Settling.View, StatementItems.{Item, known}, Words.{Coded, width_of}, declared.deck_kind.DeckKind.DeckKind, Laws.Filling.{HasFields, DoFill}}
 use Rattle.definitions.specs.Operations as op
-use Rattle.definitions.specs.Operations.{Operation}
-use Rattle.definitions.specs.Settled.{Settled}
-use Rattle.definitions.specs.Settling.{View}
-use Rattle.definitions.specs.StatementItems.{Item, known}
-use Rattle.definitions.specs.Words.{Coded, width_of}
-use Rattle.definitions.specs.declared.deck_kind.DeckKind.{DeckKind}
-use Rattle.statement_coder.specs.Joins.Items.{item_as, items_as}
+use Rattle.statement_coder.{specs.Joins.Items.{item_as, items_as}, specs.declared.instruction_fields.InstructionItems.InstructionItems, specs.Joins.CodedItems.{IsKept, is_zeros, stores_zeros, zeros_of}, specs.Joins.WordItems.listed_fields, specs.declared.coded.CodedItems.CodedItems, specs.declared.sizing.Sizing.Sizing, proofs.ListLaws.kept-length}
 use Rattle.statement_coder.specs.declared.items.Item as code
-use Rattle.statement_coder.specs.declared.instruction_fields.InstructionItems.{InstructionItems}
 use Rattle.operations.specs.Joins.OperationsAs.{operation_as}
-use Rattle.statement_coder.specs.Joins.CodedItems.{IsKept, is_zeros, stores_zeros, zeros_of}
-use Rattle.statement_coder.specs.Joins.WordItems.{listed_fields}
-use Rattle.statement_coder.specs.declared.coded.CodedItems.{CodedItems}
-use Rattle.statement_coder.specs.declared.sizing.Sizing.{Sizing}
-use Rattle.statement_coder.proofs.ListLaws.{kept-length}
-use Rattle.definitions.specs.Laws.Filling.{HasFields, DoFill}
-use Rattle.deck_objects.specs.Joins.LineItems.{listed, kept_from, AreBitsOf, AreShort, AreKept}
-use Rattle.deck_objects.specs.Joins.CodedLines.{IsCoded, IsNamed}
+use Rattle.deck_objects.specs.{Joins.LineItems.{listed, kept_from, AreBitsOf, AreShort, AreKept}, Joins.CodedLines.{IsCoded, IsNamed}, declared.lines.LineFields.LineFields}
 use Rattle.deck_objects.specs.declared.lines.CodedLine as lines
-use Rattle.deck_objects.specs.declared.lines.LineFields.{LineFields}
 use Rattle.deck_objects.specs.declared.lines.LineFields.TheVariants as kept
-use Rattle.deck_assembler.specs.Joins.KeptFields.{IsNumber, AreKeptAs, IsTold, are_zeros}
-use Rattle.deck_assembler.proofs.ListedLaws.{bits-listed, none-listed}
+use Rattle.deck_assembler.{specs.Joins.KeptFields.{IsNumber, AreKeptAs, IsTold, are_zeros}, proofs.ListedLaws.{bits-listed, none-listed}}
 
 -- the end of a list
 listed-end : (items : List code.Item) (first : ℕ) → listed items first (length items - first) ≡ map item_as (drop first items)

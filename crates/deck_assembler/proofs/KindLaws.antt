@@ -1,15 +1,8 @@
 -- The kind that statements make is that of the statements up to END.
-use Rattle.std.proofs.Common.{◌≡◌, ◌||◌, Bool, true, false, true≢false, List, [], ◌∷◌, ◌++◌, Option, Some, None, is_some, codes, refl, sym, ap, ◌∙◌}
-use Rattle.std.specs.Prelude.{reverse}
-use Rattle.definitions.specs.DeckKinds.{is_end, has_end, up_to_end, kind_of, kind_of_statements}
-use Rattle.definitions.specs.Fields.{Fields, fields_of}
-use Rattle.definitions.specs.Operations.{Operation, pseudo_instructions, pseudo_among}
-use Rattle.definitions.specs.Statements.{Statement}
-use Rattle.definitions.specs.declared.deck_kind.DeckKind.{DeckKind}
-use Rattle.definitions.proofs.TextLaws.{same_text-true}
-use Rattle.deck_assembler.proofs.ReverseLaws.{map-reverse}
+use Rattle.std.{proofs.Common.{◌≡◌, ◌||◌, Bool, true, false, true≢false, List, [], ◌∷◌, ◌++◌, Option, Some, None, is_some, codes, refl, sym, ap, ◌∙◌}, specs.Prelude.reverse}
+use Rattle.definitions.{specs.DeckKinds.{is_end, has_end, up_to_end, kind_of, kind_of_statements}, specs.Fields.{Fields, fields_of}, specs.Operations.{Operation, pseudo_instructions, pseudo_among}, specs.Statements.Statement, specs.declared.deck_kind.DeckKind.DeckKind, proofs.TextLaws.same_text-true}
+use Rattle.deck_assembler.{proofs.ReverseLaws.map-reverse, specs.Joins.FirstStatements.fields_in}
 use Rattle.operations.specs.Joins.KindsFound.{kind_made_by, or_kind, kind_found}
-use Rattle.deck_assembler.specs.Joins.FirstStatements.{fields_in}
 
 or_kind-some : (found : Option DeckKind) (operation : Option Operation) → is_some found ≡ true → or_kind found operation ≡ found
 or_kind-some None operation h = absurd (true≢false (sym h))

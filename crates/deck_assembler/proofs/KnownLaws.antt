@@ -1,13 +1,6 @@
 -- Known fields as one number: fields more behind them.
-use Rattle.std.proofs.Common.{◌≡◌, ◌∙◌, ℕ, ◌+◌, ◌*◌, ◌/◌, ◌^◌, ◌<◌, ◌≤◌, List, [], ◌∷◌, ◌++◌, ap, ap₂, sym, subst, arith, append_assoc, if◌then◌else◌}
-use Rattle.std.proofs.Math.Nat.{pow-le-pow_right}
-use Rattle.std.proofs.lemmas.Nat.{pow-add, mul-add-lt}
-use Rattle.definitions.specs.Kinds.{word_bits}
-use Rattle.definitions.specs.Layout.{Layout, Based}
-use Rattle.definitions.specs.LinkValues.{is_unfit}
-use Rattle.definitions.specs.LinkLines.{unfit_words}
-use Rattle.definitions.specs.StatementItems.{Item, Content, Known}
-use Rattle.definitions.specs.Words.{content_bits, width_of}
+use Rattle.std.proofs.{Common.{◌≡◌, ◌∙◌, ℕ, ◌+◌, ◌*◌, ◌/◌, ◌^◌, ◌<◌, ◌≤◌, List, [], ◌∷◌, ◌++◌, ap, ap₂, sym, subst, arith, append_assoc, if◌then◌else◌}, Math.Nat.pow-le-pow_right, lemmas.Nat.{pow-add, mul-add-lt}}
+use Rattle.definitions.specs.{Kinds.word_bits, Layout.{Layout, Based}, LinkValues.is_unfit, LinkLines.unfit_words, StatementItems.{Item, Content, Known}, Words.{content_bits, width_of}}
 use Rattle.statement_coder.proofs.JoinLaws.{width-append, joined-append}
 use Rattle.deck_assembler.specs.Joins.KeptFields.{AreTogether}
 

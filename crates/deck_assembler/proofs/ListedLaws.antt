@@ -1,18 +1,7 @@
 -- Fields listed word by word are the same fields to whoever links.
-use Rattle.std.proofs.Common.{◌≡◌, ◌∙◌, ℕ, ◌+◌, ◌/◌, ◌%◌, ◌^◌, ◌<◌, Bool, true, false, ◌&&◌, List, [], ◌∷◌, ◌++◌, flat_map, refl, ap, ap₂, sym, arith, if◌then◌else◌}
-use Rattle.std.specs.Prelude.{nat_lt, nat_eq}
-use Rattle.std.proofs.lemmas.Bool.{and_parts, ltb-true}
-use Rattle.definitions.specs.Kinds.{word_bits}
-use Rattle.definitions.specs.Layout.{Layout, Based}
-use Rattle.definitions.specs.LinkLines.{unfit_words}
-use Rattle.definitions.specs.Operands.{Operand, WordsOperand, TextOperand}
-use Rattle.definitions.specs.StatementItems.{Item, Content, Known, Linked}
-use Rattle.definitions.specs.Words.{width_of, cut}
-use Rattle.definitions.specs.declared.deck_kind.DeckKind.{DeckKind}
-use Rattle.definitions.specs.declared.letter.Letter.{Letter}
-use Rattle.statement_coder.specs.Joins.WordItems.{is_several, known_words, words_of, in_words, listed_fields}
-use Rattle.statement_coder.proofs.JoinLaws.{width-listed, joined-listed, same-words_of}
-use Rattle.definitions.specs.Laws.Filling.{HasFields}
+use Rattle.std.{proofs.Common.{◌≡◌, ◌∙◌, ℕ, ◌+◌, ◌/◌, ◌%◌, ◌^◌, ◌<◌, Bool, true, false, ◌&&◌, List, [], ◌∷◌, ◌++◌, flat_map, refl, ap, ap₂, sym, arith, if◌then◌else◌}, specs.Prelude.{nat_lt, nat_eq}, proofs.lemmas.Bool.{and_parts, ltb-true}}
+use Rattle.definitions.specs.{Kinds.word_bits, Layout.{Layout, Based}, LinkLines.unfit_words, Operands.{Operand, WordsOperand, TextOperand}, StatementItems.{Item, Content, Known, Linked}, Words.{width_of, cut}, declared.deck_kind.DeckKind.DeckKind, declared.letter.Letter.Letter, Laws.Filling.HasFields}
+use Rattle.statement_coder.{specs.Joins.WordItems.{is_several, known_words, words_of, in_words, listed_fields}, proofs.JoinLaws.{width-listed, joined-listed, same-words_of}}
 use Rattle.deck_objects.specs.Joins.LineItems.{AreBitsOf}
 use Rattle.deck_assembler.proofs.KnownLaws.{unfit-append, unfit-known}
 

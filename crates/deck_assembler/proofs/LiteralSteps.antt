@@ -1,7 +1,6 @@
 -- Literals that are taken in one list behind the other.
 use Rattle.std.proofs.Common.{◌≡◌, ℕ, List, [], ◌∷◌, ◌++◌, refl}
-use Rattle.definitions.specs.Expressions.{Literal}
-use Rattle.definitions.specs.Literals.{literal_word, with_word, with_literals}
+use Rattle.definitions.specs.{Expressions.Literal, Literals.{literal_word, with_word, with_literals}}
 
 pub with_literals-append : (literals others : List Literal) (words : List ℕ) → with_literals (literals ++ others) words ≡ with_literals others (with_literals literals words)
 with_literals-append [] others words = refl

@@ -1,30 +1,9 @@
 -- Where an old deck and an edited one agree, all that is left of the old one stays.
-use Rattle.std.proofs.Common.{◌≡◌, ℕ, ◌+◌, ◌-◌, ◌<◌, ◌≤◌, ◌⊎◌, inl, inr, List, [], ◌∷◌, ◌++◌, drop, length, refl, sym, ap, ◌∙◌, subst, arith, length-append}
-use Rattle.std.specs.Prelude.{Option, Some, None, Result, Ok, Err, IfOk, IfSome, reverse}
-use Rattle.std.proofs.lemmas.List.{length-drop}
-use Rattle.cards.specs.Joins.Spans.{statement_at}
-use Rattle.cards.specs.declared.statement_list.Span.{Span}
-use Rattle.definitions.specs.Cards.{Card}
-use Rattle.definitions.specs.Settling.{View, settled_all}
-use Rattle.definitions.specs.Statements.{Statement}
-use Rattle.definitions.specs.declared.deck_kind.DeckKind.{DeckKind}
-use Rattle.deck_assembler.specs.Joins.Agreements.{left, AreAlikeFrom, HasFront, HaveSameEnd, IsAgreeing, IsOfSameDeck}
-use Rattle.deck_assembler.specs.Joins.Formers.{known_in}
-use Rattle.deck_assembler.specs.Joins.Meetings.{IsSoon, WillAgreeAt}
-use Rattle.deck_assembler.specs.Joins.OldDecks.{AreKeptFrom, IsAtStage, IsInTail, IsKeptOn, IsOnSpan}
-use Rattle.deck_assembler.specs.Joins.SizedDecks.{IsSizedStatement, AreSizedFrom}
-use Rattle.deck_assembler.specs.Joins.Sizers.{stood, ahead, IsNext, IsSizer}
-use Rattle.deck_assembler.specs.Joins.Tails.{AreKeptAlike, HasTailIfAny, HasTailWithin, HaveOneTail, IsSettledAlike}
-use Rattle.deck_assembler.specs.Stays.{IsAsBefore}
-use Rattle.deck_assembler.specs.declared.old_deck.OldDeck.{OldDeck}
-use Rattle.deck_assembler.specs.declared.old_deck.Stage.{Stage}
+use Rattle.std.{proofs.Common.{◌≡◌, ℕ, ◌+◌, ◌-◌, ◌<◌, ◌≤◌, ◌⊎◌, inl, inr, List, [], ◌∷◌, ◌++◌, drop, length, refl, sym, ap, ◌∙◌, subst, arith, length-append}, specs.Prelude.{Option, Some, None, Result, Ok, Err, IfOk, IfSome, reverse}, proofs.lemmas.List.length-drop}
+use Rattle.cards.specs.{Joins.Spans.statement_at, declared.statement_list.Span.Span}
+use Rattle.definitions.specs.{Cards.Card, Settling.{View, settled_all}, Statements.Statement, declared.deck_kind.DeckKind.DeckKind}
+use Rattle.deck_assembler.{specs.Joins.Agreements.{left, AreAlikeFrom, HasFront, HaveSameEnd, IsAgreeing, IsOfSameDeck}, specs.Joins.Formers.known_in, specs.Joins.Meetings.{IsSoon, WillAgreeAt}, specs.Joins.OldDecks.{AreKeptFrom, IsAtStage, IsInTail, IsKeptOn, IsOnSpan}, specs.Joins.SizedDecks.{IsSizedStatement, AreSizedFrom}, specs.Joins.Sizers.{stood, ahead, IsNext, IsSizer}, specs.Joins.Tails.{AreKeptAlike, HasTailIfAny, HasTailWithin, HaveOneTail, IsSettledAlike}, specs.Stays.IsAsBefore, specs.declared.old_deck.OldDeck.OldDeck, specs.declared.old_deck.Stage.Stage, specs.declared.sized_statement.SizedStatement.SizedStatement, specs.declared.sizer.Sizer.Sizer, proofs.AgreeLaws.tail-kept, proofs.ForwardLaws.stood-more, proofs.OldLaws.same-ahead, proofs.OntoLaws.{reverse-onto, rest-of}}
 use Rattle.deck_assembler.specs.declared.old_deck.Stage.TheVariants as stages
-use Rattle.deck_assembler.specs.declared.sized_statement.SizedStatement.{SizedStatement}
-use Rattle.deck_assembler.specs.declared.sizer.Sizer.{Sizer}
-use Rattle.deck_assembler.proofs.AgreeLaws.{tail-kept}
-use Rattle.deck_assembler.proofs.ForwardLaws.{stood-more}
-use Rattle.deck_assembler.proofs.OldLaws.{same-ahead}
-use Rattle.deck_assembler.proofs.OntoLaws.{reverse-onto, rest-of}
 
 pub meet-kept : (kind : DeckKind) (old cards : List Card) (earlier : List Statement) (sizer : Sizer) (deck : OldDeck) →
     IsSizer kind cards earlier sizer → deck.kind ≡ kind → (has : HasFront old (left deck) deck) → HaveSameEnd deck.behind old cards → stood earlier ≤ length cards →

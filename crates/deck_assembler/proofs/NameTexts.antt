@@ -1,12 +1,7 @@
 -- A symbol, and so the name of an external, is a name of bytes.
-use Rattle.std.proofs.Common.{◌≡◌, ℕ, ◌==◌, ◌&&◌, ◌||◌, not, Bool, true, false, true≢false, List, [], ◌∷◌, codes, length, nat_lt, nat_le, refl, sym, ap, ap₂, ◌∙◌, arith}
-use Rattle.std.specs.List.{list_all}
-use Rattle.std.proofs.lemmas.Bool.{eqb-true, lt-ltb}
-use Rattle.std.proofs.lemmas.Bool.Decides.{nat_tests}
-use Rattle.definitions.specs.Characters.{is_among, is_digit, is_letter, is_symbol_character}
-use Rattle.definitions.specs.Symbols.{begins_symbol, is_register, is_symbol, is_linked_name}
-use Rattle.deck_assembler.specs.Joins.FirstSymbols.{is_known_name}
-use Rattle.deck_assembler.proofs.SymbolLaws.{both_first, both_second}
+use Rattle.std.{proofs.Common.{◌≡◌, ℕ, ◌==◌, ◌&&◌, ◌||◌, not, Bool, true, false, true≢false, List, [], ◌∷◌, codes, length, nat_lt, nat_le, refl, sym, ap, ap₂, ◌∙◌, arith}, specs.List.list_all, proofs.lemmas.Bool.{eqb-true, lt-ltb}, proofs.lemmas.Bool.Decides.nat_tests}
+use Rattle.definitions.specs.{Characters.{is_among, is_digit, is_letter, is_symbol_character}, Symbols.{begins_symbol, is_register, is_symbol, is_linked_name}}
+use Rattle.deck_assembler.{specs.Joins.FirstSymbols.is_known_name, proofs.SymbolLaws.{both_first, both_second}}
 
 either : (x y : Bool) {A : Type 0} → (x || y) ≡ true → (x ≡ true → A) → (y ≡ true → A) → A
 either true y h f g = f refl

@@ -1,30 +1,7 @@
 -- Neutral statements settle alike in every kind of deck but for their two counters, and decks of two kinds begin alike by neutral ones alone.
-use Rattle.std.proofs.Common.{◌≡◌, ◌∙◌, ℕ, codes, ◌⊎◌, inl, inr, Bool, true, false, ◌&&◌, List, [], ◌∷◌, ◌++◌, Option, Some, None, map, flat_map, refl, sym, ap, ap₂, subst, if◌then◌else◌, append_assoc}
-use Rattle.std.specs.Prelude.{reverse, nat_le, ◌||◌}
-use Rattle.std.specs.List.{AllByRecursion}
-use Rattle.std.proofs.lemmas.Bool.{true≢false}
-use Rattle.std.proofs.lemmas.List.{map-append, reverse-append}
-use Rattle.definitions.specs.Blocks.{changes, open_names, block_in_use, blocks_used, nominal}
-use Rattle.definitions.specs.Characters.{same_text}
-use Rattle.definitions.specs.Counters.{counting_in, counters_at}
-use Rattle.definitions.specs.DeckKinds.{is_end, has_end, kind_made, kind_of, kind_of_statements, number_base_after}
-use Rattle.definitions.specs.EarlyValues.{early_names, early_value}
-use Rattle.definitions.specs.Fields.{Fields, fields_of}
-use Rattle.definitions.specs.Forms.{Form}
-use Rattle.definitions.specs.Letters.{entry_letters, letters_of}
-use Rattle.definitions.specs.Operands.{Operand, Unread, BadOperand, base_operand, operand_of}
+use Rattle.std.{proofs.Common.{◌≡◌, ◌∙◌, ℕ, codes, ◌⊎◌, inl, inr, Bool, true, false, ◌&&◌, List, [], ◌∷◌, ◌++◌, Option, Some, None, map, flat_map, refl, sym, ap, ap₂, subst, if◌then◌else◌, append_assoc}, specs.Prelude.{reverse, nat_le, ◌||◌}, specs.List.AllByRecursion, proofs.lemmas.Bool.true≢false, proofs.lemmas.List.{map-append, reverse-append}}
+use Rattle.definitions.{specs.Blocks.{changes, open_names, block_in_use, blocks_used, nominal}, specs.Characters.same_text, specs.Counters.{counting_in, counters_at}, specs.DeckKinds.{is_end, has_end, kind_made, kind_of, kind_of_statements, number_base_after}, specs.EarlyValues.{early_names, early_value}, specs.Fields.{Fields, fields_of}, specs.Forms.Form, specs.Letters.{entry_letters, letters_of}, specs.Operands.{Operand, Unread, BadOperand, base_operand, operand_of}, specs.Operations.{Operation, is_neutral, operation_of, or_instruction, is_instruction_name, pseudo_among, pseudo_instructions}, specs.Places.{no_position, position_in}, specs.Settled.{ReadStatement, Settled, NoChange, Unchanged, defined, defined_in, or_form}, specs.Settling.{Seen, View, seen_of, number_base_of, all_neutral, settle, settled_all, settled_from, settled_with, place_of}, specs.StatementItems.{Context, Item, items_of, operand_items}, specs.Statements.Statement, specs.declared.deck_kind.DeckKind.DeckKind, specs.declared.deck_kind.DeckKind.TheVariants.{Rel, Abs, Periph}, specs.declared.letter.Letter.Letter, specs.declared.number_base.NumberBase.NumberBase, proofs.TextLaws.same_text-true}
 use Rattle.definitions.specs.Operations as op
-use Rattle.definitions.specs.Operations.{Operation, is_neutral, operation_of, or_instruction, is_instruction_name, pseudo_among, pseudo_instructions}
-use Rattle.definitions.specs.Places.{no_position, position_in}
-use Rattle.definitions.specs.Settled.{ReadStatement, Settled, NoChange, Unchanged, defined, defined_in, or_form}
-use Rattle.definitions.specs.Settling.{Seen, View, seen_of, number_base_of, all_neutral, settle, settled_all, settled_from, settled_with, place_of}
-use Rattle.definitions.specs.StatementItems.{Context, Item, items_of, operand_items}
-use Rattle.definitions.specs.Statements.{Statement}
-use Rattle.definitions.specs.declared.deck_kind.DeckKind.{DeckKind}
-use Rattle.definitions.specs.declared.deck_kind.DeckKind.TheVariants.{Rel, Abs, Periph}
-use Rattle.definitions.specs.declared.letter.Letter.{Letter}
-use Rattle.definitions.specs.declared.number_base.NumberBase.{NumberBase}
-use Rattle.definitions.proofs.TextLaws.{same_text-true}
 use Rattle.deck_assembler.specs.Joins.Heads.{counter_of}
 
 -- whether a statement may stand in front of ABS and PERIPH

@@ -1,25 +1,7 @@
 -- One statement after the other of a deck that an edited one is made of.
-use Rattle.std.proofs.Common.{◌≡◌, ℕ, ◌+◌, ◌-◌, ◌≤◌, List, [], ◌∷◌, ◌++◌, drop, length, sym, ap, ap₂, ◌∙◌, subst, arith, append_assoc}
-use Rattle.std.specs.Prelude.{reverse}
-use Rattle.std.proofs.lemmas.List.{length-drop, reverse-append}
-use Rattle.definitions.specs.Cards.{Card}
-use Rattle.definitions.specs.Settled.{defined}
-use Rattle.definitions.specs.Forms.{Form}
-use Rattle.definitions.specs.Settling.{View, settle, settled_all}
-use Rattle.definitions.specs.Statements.{Statement}
-use Rattle.definitions.specs.Laws.States.{Effect, state_after, effect_of, advanced}
-use Rattle.definitions.specs.declared.deck_kind.DeckKind.{DeckKind}
-use Rattle.definitions.proofs.StateSteps.{state_after-step, settled_all-in_use}
-use Rattle.deck_assembler.specs.Joins.Agreements.{HasFront, HaveSameEnd, IsOfSameDeck, IsSameFront}
-use Rattle.deck_assembler.specs.Joins.FirstSymbols.{symbol_in, with_defined, IsLawfulOperand}
-use Rattle.deck_assembler.specs.Joins.Formers.{known_in}
-use Rattle.deck_assembler.specs.Joins.SizedDecks.{IsSizedStatement, AreSizedFrom}
-use Rattle.deck_assembler.specs.declared.old_deck.OldDeck.{OldDeck}
-use Rattle.deck_assembler.specs.declared.old_deck.Stage.{Stage}
-use Rattle.deck_assembler.specs.declared.sized_statement.SizedStatement.{SizedStatement}
-use Rattle.deck_assembler.proofs.DefinitionLaws.{defined-step}
-use Rattle.deck_assembler.proofs.ForwardLaws.{stood-more}
-use Rattle.deck_assembler.proofs.OntoLaws.{drop-more}
+use Rattle.std.{proofs.Common.{◌≡◌, ℕ, ◌+◌, ◌-◌, ◌≤◌, List, [], ◌∷◌, ◌++◌, drop, length, sym, ap, ap₂, ◌∙◌, subst, arith, append_assoc}, specs.Prelude.reverse, proofs.lemmas.List.{length-drop, reverse-append}}
+use Rattle.definitions.{specs.Cards.Card, specs.Settled.defined, specs.Forms.Form, specs.Settling.{View, settle, settled_all}, specs.Statements.Statement, specs.Laws.States.{Effect, state_after, effect_of, advanced}, specs.declared.deck_kind.DeckKind.DeckKind, proofs.StateSteps.{state_after-step, settled_all-in_use}}
+use Rattle.deck_assembler.{specs.Joins.Agreements.{HasFront, HaveSameEnd, IsOfSameDeck, IsSameFront}, specs.Joins.FirstSymbols.{symbol_in, with_defined, IsLawfulOperand}, specs.Joins.Formers.known_in, specs.Joins.SizedDecks.{IsSizedStatement, AreSizedFrom}, specs.declared.old_deck.OldDeck.OldDeck, specs.declared.old_deck.Stage.Stage, specs.declared.sized_statement.SizedStatement.SizedStatement, proofs.DefinitionLaws.defined-step, proofs.ForwardLaws.stood-more, proofs.OntoLaws.drop-more}
 
 -- a statement that was sized, and those behind it
 pub record HasNext (kind : DeckKind) (front : List Statement) (stood : ℕ) (ahead : List Card) (sized : SizedStatement) (later : List SizedStatement) (behind : List ℕ) (others : List Statement) : Type 0 where

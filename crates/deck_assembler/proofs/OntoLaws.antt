@@ -1,8 +1,5 @@
 -- A list that is put, one item after the other, in front of another.
-use Rattle.std.proofs.Common.{◌≡◌, ℕ, zero, suc, ◌+◌, List, [], ◌∷◌, ◌++◌, length, drop, refl, sym, ap, ap₂, ◌∙◌, append_assoc, arith}
-use Rattle.std.specs.Prelude.{reverse}
-use Rattle.std.proofs.Math.Seq.{drop-append_seam}
-use Rattle.std.proofs.lemmas.List.{reverse-append, reverse-reverse, length-reverse}
+use Rattle.std.{proofs.Common.{◌≡◌, ℕ, zero, suc, ◌+◌, List, [], ◌∷◌, ◌++◌, length, drop, refl, sym, ap, ap₂, ◌∙◌, append_assoc, arith}, specs.Prelude.reverse, proofs.Math.Seq.drop-append_seam, proofs.lemmas.List.{reverse-append, reverse-reverse, length-reverse}}
 
 abbrev pub onto : {A : Type 0} → List A → List A → List A
 onto [] others = others

@@ -1,36 +1,9 @@
 -- What a walk over a deck made are the parts of its object.
-use Rattle.std.proofs.Common.{◌≡◌, ◌∙◌, ℕ, ◌+◌, List, [], ◌∷◌, ◌++◌, Option, Some, None, map, drop, reverse, refl, ap, ap₂, sym, subst, append-nil}
-use Rattle.std.specs.Prelude.{filter_map}
-use Rattle.std.proofs.lemmas.List.{reverse-append}
-use Rattle.std.proofs.lemmas.List.Elements.{filter_map-append}
-use Rattle.deck_objects.specs.Joins.CodedLines.{IsCoded, IsStored, AreShown, AreCoded}
-use Rattle.deck_objects.specs.Joins.PartsOf.{ArePartsOf}
-use Rattle.deck_objects.specs.declared.lines.CodedLine.{CodedLine}
-use Rattle.deck_objects.specs.declared.lines.Line.{Line}
-use Rattle.deck_objects.specs.declared.object.ObjectParts.{ObjectParts}
-use Rattle.deck_assembler.proofs.ReverseLaws.{map-reverse}
-use Rattle.definitions.specs.Cards.{Card}
-use Rattle.definitions.specs.DeckInput.{Deck}
-use Rattle.definitions.specs.DeckKinds.{up_to_end, behind_end, kind_of_statements}
-use Rattle.definitions.specs.Entries.{entries_of}
-use Rattle.definitions.specs.Lengths.{BlockRow}
-use Rattle.definitions.specs.Objects.{Shown, shown_of, only_listed, coded_of, context_of, object_in, object_of}
-use Rattle.definitions.specs.Settled.{Settled}
-use Rattle.definitions.specs.Settling.{settled_all}
-use Rattle.definitions.specs.StatementItems.{Context}
-use Rattle.definitions.specs.Statements.{Statement, statements_of}
-use Rattle.definitions.specs.Words.{Coded}
-use Rattle.definitions.specs.declared.deck_kind.DeckKind.{DeckKind}
-use Rattle.definitions.specs.declared.deck_kind.DeckKind.TheVariants.{Rel, Abs, Periph}
+use Rattle.std.{proofs.Common.{◌≡◌, ◌∙◌, ℕ, ◌+◌, List, [], ◌∷◌, ◌++◌, Option, Some, None, map, drop, reverse, refl, ap, ap₂, sym, subst, append-nil}, specs.Prelude.filter_map, proofs.lemmas.List.reverse-append, proofs.lemmas.List.Elements.filter_map-append}
+use Rattle.deck_objects.specs.{Joins.CodedLines.{IsCoded, IsStored, AreShown, AreCoded}, Joins.PartsOf.ArePartsOf, declared.lines.CodedLine.CodedLine, declared.lines.Line.Line, declared.object.ObjectParts.ObjectParts}
+use Rattle.deck_assembler.{proofs.ReverseLaws.map-reverse, specs.Joins.SizedDecks.AreListedFrom, specs.Joins.SharedNames.entries_to, specs.Joins.Walks.{Whole, IsWhole, all_settled, context_in, AreShownTo, AreLinedAs}, specs.Joins.DeckWalks.{IsDone, IsListing, shown_with}, specs.declared.deck_lines.DeckLines.DeckLines, specs.declared.deck_walk.Making.Making}
+use Rattle.definitions.{specs.Cards.Card, specs.DeckInput.Deck, specs.DeckKinds.{up_to_end, behind_end, kind_of_statements}, specs.Entries.entries_of, specs.Lengths.BlockRow, specs.Objects.{Shown, shown_of, only_listed, coded_of, context_of, object_in, object_of}, specs.Settled.Settled, specs.Settling.settled_all, specs.StatementItems.Context, specs.Statements.{Statement, statements_of}, specs.Words.Coded, specs.declared.deck_kind.DeckKind.DeckKind, specs.declared.deck_kind.DeckKind.TheVariants.{Rel, Abs, Periph}, proofs.ReachLaws.statements-reach, proofs.RiseLaws.statements-laid_out}
 use Rattle.statement_coder.specs.declared.items.Item as code
-use Rattle.definitions.proofs.ReachLaws.{statements-reach}
-use Rattle.definitions.proofs.RiseLaws.{statements-laid_out}
-use Rattle.deck_assembler.specs.Joins.SizedDecks.{AreListedFrom}
-use Rattle.deck_assembler.specs.Joins.SharedNames.{entries_to}
-use Rattle.deck_assembler.specs.Joins.Walks.{Whole, IsWhole, all_settled, context_in, AreShownTo, AreLinedAs}
-use Rattle.deck_assembler.specs.Joins.DeckWalks.{IsDone, IsListing, shown_with}
-use Rattle.deck_assembler.specs.declared.deck_lines.DeckLines.{DeckLines}
-use Rattle.deck_assembler.specs.declared.deck_walk.Making.{Making}
 
 -- lines behind which no card is left
 shown-all : (kind : DeckKind) (rows : List BlockRow) (items : List code.Item) (before : ℕ) (cards : List Card) (lines : List Line) (shown : List Shown) (stood : ℕ) (ahead : List Card) →

@@ -1,11 +1,7 @@
 -- The statements of pieces, counted.
 use Rattle.std.proofs.Common.{◌≡◌, ℕ, zero, suc, ◌+◌, ◌<◌, ◌≤◌, List, [], ◌∷◌, length, take, drop, get_or, ap, arith, length-append}
-use Rattle.definitions.specs.Cards.{Card}
-use Rattle.definitions.specs.Statements.{Statement}
-use Rattle.definitions.specs.declared.deck_kind.DeckKind.{DeckKind}
-use Rattle.deck_assembler.specs.Joins.DeckParts.{DeckPiece, sized_in}
-use Rattle.deck_assembler.specs.Joins.SizedDecks.{AreSizedFrom}
-use Rattle.deck_assembler.specs.declared.sized_statement.SizedStatement.{SizedStatement}
+use Rattle.definitions.specs.{Cards.Card, Statements.Statement, declared.deck_kind.DeckKind.DeckKind}
+use Rattle.deck_assembler.specs.{Joins.DeckParts.{DeckPiece, sized_in}, Joins.SizedDecks.AreSizedFrom, declared.sized_statement.SizedStatement.SizedStatement}
 
 -- those of a piece and of those before it are among all
 pub pieces-within : (pieces : List DeckPiece) (i : ℕ) (piece : DeckPiece) → i < length pieces → piece ≡ get_or pieces i piece → length (sized_in (take i pieces)) + length piece.statements ≤ length (sized_in pieces)

@@ -1,10 +1,6 @@
 -- The pieces in order, and newest first.
-use Rattle.std.proofs.Common.{ℕ, suc, ◌≡◌, ◌-◌, ◌<◌, List, [], ◌∷◌, ◌++◌, length, take, get_or, set, sym, ap, ◌∙◌, arith}
-use Rattle.std.specs.Prelude.{reverse}
-use Rattle.std.proofs.lemmas.List.{set_split, set-get_or, drop_all, reverse-append}
-use Rattle.deck_assembler.specs.Joins.DeckParts.{DeckPiece}
-use Rattle.deck_assembler.specs.Joins.PieceSteps.{with_pushed, onto_latest}
-use Rattle.deck_assembler.specs.declared.sized_statement.SizedStatement.{SizedStatement}
+use Rattle.std.{proofs.Common.{ℕ, suc, ◌≡◌, ◌-◌, ◌<◌, List, [], ◌∷◌, ◌++◌, length, take, get_or, set, sym, ap, ◌∙◌, arith}, specs.Prelude.reverse, proofs.lemmas.List.{set_split, set-get_or, drop_all, reverse-append}}
+use Rattle.deck_assembler.specs.{Joins.DeckParts.DeckPiece, Joins.PieceSteps.{with_pushed, onto_latest}, declared.sized_statement.SizedStatement.SizedStatement}
 
 set-last : (pieces : List DeckPiece) (count : ℕ) (piece : DeckPiece) → count ≡ length pieces → 0 < count → set pieces (count - 1) piece ≡ take (count - 1) pieces ++ piece ∷ []
 set-last pieces count piece all some =

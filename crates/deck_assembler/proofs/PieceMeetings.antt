@@ -1,21 +1,7 @@
 -- A piece of the old deck that is left: how it is chosen, and that it stays ahead until the walk comes to it.
-use Rattle.std.proofs.Common.{◌≡◌, ℕ, suc, ◌+◌, ◌<◌, ◌≤◌, inl, inr, ◌⊎◌, List, [], ◌∷◌, ◌++◌, drop, length, refl, sym, ap, ◌∙◌, subst, arith, append_assoc, length-append}
-use Rattle.std.specs.List.{AllByRecursion}
-use Rattle.std.specs.Prelude.{reverse}
-use Rattle.std.proofs.lemmas.Bool.{cases_lt}
-use Rattle.std.proofs.lemmas.List.{length-drop, reverse-append}
-use Rattle.definitions.specs.Cards.{Card}
-use Rattle.definitions.specs.Statements.{Statement, cards_in}
-use Rattle.definitions.specs.declared.deck_kind.DeckKind.{DeckKind}
-use Rattle.deck_assembler.specs.Joins.Agreements.{left}
-use Rattle.deck_assembler.specs.Joins.DeckParts.{DeckPiece, sized_in}
-use Rattle.deck_assembler.specs.Joins.Meetings.{cards_of, HasPiece, IsNextOf, IsShort}
-use Rattle.deck_assembler.specs.Joins.SizedDecks.{AreSizedFrom}
-use Rattle.deck_assembler.specs.declared.old_deck.OldDeck.{OldDeck}
-use Rattle.deck_assembler.specs.declared.sized_statement.SizedStatement.{SizedStatement}
-use Rattle.deck_assembler.proofs.AlikeLaws.{sized_in-append}
-use Rattle.deck_assembler.proofs.ForwardLaws.{stood-more}
-use Rattle.deck_assembler.proofs.OntoLaws.{drop-more}
+use Rattle.std.{proofs.Common.{◌≡◌, ℕ, suc, ◌+◌, ◌<◌, ◌≤◌, inl, inr, ◌⊎◌, List, [], ◌∷◌, ◌++◌, drop, length, refl, sym, ap, ◌∙◌, subst, arith, append_assoc, length-append}, specs.List.AllByRecursion, specs.Prelude.reverse, proofs.lemmas.Bool.cases_lt, proofs.lemmas.List.{length-drop, reverse-append}}
+use Rattle.definitions.specs.{Cards.Card, Statements.{Statement, cards_in}, declared.deck_kind.DeckKind.DeckKind}
+use Rattle.deck_assembler.{specs.Joins.Agreements.left, specs.Joins.DeckParts.{DeckPiece, sized_in}, specs.Joins.Meetings.{cards_of, HasPiece, IsNextOf, IsShort}, specs.Joins.SizedDecks.AreSizedFrom, specs.declared.old_deck.OldDeck.OldDeck, specs.declared.sized_statement.SizedStatement.SizedStatement, proofs.AlikeLaws.sized_in-append, proofs.ForwardLaws.stood-more, proofs.OntoLaws.drop-more}
 
 pub cards_of-append : (a b : List SizedStatement) → cards_of (a ++ b) ≡ cards_of a + cards_of b
 cards_of-append [] b = omega arith

@@ -1,16 +1,7 @@
 -- One statement more in pieces that are read newest first.
-use Rattle.std.proofs.Common.{◌≡◌, suc, ◌<◌, ◌≤◌, Bool, true, false, not, nat_lt, List, [], ◌∷◌, ◌++◌, length, drop, refl, sym, ap, ◌∙◌, subst, arith, if◌then◌else◌, length-append}
-use Rattle.std.specs.Prelude.{reverse}
-use Rattle.std.proofs.lemmas.Bool.Decides.{nat_tests}
-use Rattle.std.proofs.lemmas.List.{reverse-append}
-use Rattle.definitions.specs.Settling.{settled_all}
-use Rattle.definitions.specs.Statements.{Statement}
-use Rattle.definitions.specs.Laws.States.{BlockState, state_after}
-use Rattle.definitions.specs.declared.deck_kind.DeckKind.{DeckKind}
-use Rattle.deck_assembler.specs.Joins.DeckParts.{DeckPiece}
-use Rattle.deck_assembler.specs.Joins.PieceSteps.{most_statements, is_full, with_pushed, onto_latest, with_statement, sized_newest}
-use Rattle.deck_assembler.specs.Joins.Sizers.{HaveStates, IsFilled, AreFilledNewest}
-use Rattle.deck_assembler.specs.declared.sized_statement.SizedStatement.{SizedStatement}
+use Rattle.std.{proofs.Common.{◌≡◌, suc, ◌<◌, ◌≤◌, Bool, true, false, not, nat_lt, List, [], ◌∷◌, ◌++◌, length, drop, refl, sym, ap, ◌∙◌, subst, arith, if◌then◌else◌, length-append}, specs.Prelude.reverse, proofs.lemmas.Bool.Decides.nat_tests, proofs.lemmas.List.reverse-append}
+use Rattle.definitions.specs.{Settling.settled_all, Statements.Statement, Laws.States.{BlockState, state_after}, declared.deck_kind.DeckKind.DeckKind}
+use Rattle.deck_assembler.specs.{Joins.DeckParts.DeckPiece, Joins.PieceSteps.{most_statements, is_full, with_pushed, onto_latest, with_statement, sized_newest}, Joins.Sizers.{HaveStates, IsFilled, AreFilledNewest}, declared.sized_statement.SizedStatement.SizedStatement}
 
 -- a piece is begun with one statement
 abbrev begun : BlockState → SizedStatement → DeckPiece

@@ -1,42 +1,19 @@
 -- The test of what a statement reads shows whether it is bound otherwise.
-use Rattle.std.proofs.Common.{◌≡◌, ◌∙◌, ℕ, Bool, true, false, not, ◌||◌, List, [], ◌∷◌, ◌++◌, Option, Some, None, flat_map, refl, ap, ap₂, sym}
-use Rattle.std.specs.Prelude.{Result, Ok, Err, ◌&&◌, pos, length, nat_le, if◌then◌else◌}
-use Rattle.std.specs.List.{list_any}
-use Rattle.std.proofs.lemmas.Bool.Decides.{Decides-int_eq}
-use Rattle.definitions.specs.CountedItems.{CountedItem}
-use Rattle.definitions.specs.Expressions.{Element, Expression, elements_of, LocationCounter}
-use Rattle.definitions.specs.Forms.{Form, Names, absolute, characters_number, number_form, counted_item_form, element_form}
-use Rattle.definitions.specs.Lengths.{BlockRow}
-use Rattle.definitions.specs.Literals.{literal_form}
-use Rattle.definitions.specs.Matching.{NoField, OfK, OfN}
+use Rattle.std.{proofs.Common.{◌≡◌, ◌∙◌, ℕ, Bool, true, false, not, ◌||◌, List, [], ◌∷◌, ◌++◌, Option, Some, None, flat_map, refl, ap, ap₂, sym}, specs.Prelude.{Result, Ok, Err, ◌&&◌, pos, length, nat_le, if◌then◌else◌}, specs.List.list_any, proofs.lemmas.Bool.Decides.Decides-int_eq}
+use Rattle.definitions.specs.{CountedItems.CountedItem, Expressions.{Element, Expression, elements_of, LocationCounter}, Forms.{Form, Names, absolute, characters_number, number_form, counted_item_form, element_form}, Lengths.BlockRow, Literals.literal_form, Matching.{NoField, OfK, OfN}, Operands.Operand, Operations.Operation, PeripheralTable.PeripheralForm, Laws.Rebound.{field_elements, form_elements, value_elements, coded_elements, same_value, bound_alike, is_rebound}, Settled.Settled, StatementItems.{Context, final_names}, Symbols.{Number, Value, TooGreat}, declared.letter.Letter.Letter}
 use Rattle.definitions.specs.Matching as matching
 use Rattle.definitions.specs.Operands as operands
-use Rattle.definitions.specs.Operands.{Operand}
-use Rattle.definitions.specs.Operations.{Operation}
-use Rattle.definitions.specs.PeripheralTable.{PeripheralForm}
-use Rattle.definitions.specs.Laws.Rebound.{field_elements, form_elements, value_elements, coded_elements, same_value, bound_alike, is_rebound}
-use Rattle.definitions.specs.Settled.{Settled}
-use Rattle.definitions.specs.StatementItems.{Context, final_names}
-use Rattle.definitions.specs.Symbols.{Number, Value, TooGreat}
-use Rattle.definitions.specs.declared.letter.Letter.{Letter}
 use Rattle.definitions.specs.declared.letter.Letter.TheVariants as letter
-use Rattle.expr_forms.specs.Joins.Shapes.{field_as, instruction_with, long_values, HasForm}
+use Rattle.expr_forms.specs.{Joins.Shapes.{field_as, instruction_with, long_values, HasForm}, declared.shapes.Shape.Shape, Joins.Readings.use_as}
 use Rattle.expr_forms.specs.declared.shapes.Field as code
 use Rattle.expr_forms.specs.declared.shapes.Field.TheVariants as field
-use Rattle.expr_forms.specs.declared.shapes.Shape.{Shape}
-use Rattle.statement_coder.specs.Joins.ReadOperands.{IsReadOperand}
-use Rattle.statement_coder.specs.Joins.Readings.{IsReading, IsInstruction}
-use Rattle.statement_coder.specs.declared.read_operands.ReadOperand.{ReadOperand}
+use Rattle.statement_coder.specs.{Joins.ReadOperands.IsReadOperand, Joins.Readings.{IsReading, IsInstruction}, declared.read_operands.ReadOperand.ReadOperand}
 use Rattle.statement_coder.specs.declared.readings.Reading as readings
 use Rattle.statement_coder.specs.declared.readings.Reading.TheVariants as reading
 use Rattle.expr_forms.specs.declared.use_fields.UseField as uses
 use Rattle.expr_forms.specs.declared.use_fields.UseField.TheVariants as use_field
-use Rattle.expr_forms.specs.Joins.Readings.{use_as}
 use Rattle.operations.specs.Joins.OperationsAs.{operation_as}
-use Rattle.deck_assembler.specs.Joins.Rebindings.{names_in, context_at, differs, shape_elements, reading_elements, AreBindings, IsRebinding}
-use Rattle.deck_assembler.specs.declared.rebinding.Bindings.{Bindings}
-use Rattle.deck_assembler.specs.declared.rebinding.Rebinding.{Rebinding}
-use Rattle.deck_assembler.proofs.OntoLaws.{append-none}
+use Rattle.deck_assembler.{specs.Joins.Rebindings.{names_in, context_at, differs, shape_elements, reading_elements, AreBindings, IsRebinding}, specs.declared.rebinding.Bindings.Bindings, specs.declared.rebinding.Rebinding.Rebinding, proofs.OntoLaws.append-none}
 
 -- an absolute number is itself in both decks
 absolute-same : (old new : Context) (n : ℕ) → same_value old new (Ok (absolute (pos n))) (Ok (absolute (pos n))) ≡ true

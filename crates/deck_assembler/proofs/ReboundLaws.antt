@@ -1,24 +1,8 @@
 -- A walk over an edited deck counts each statement that is bound otherwise, one after the other.
-use Rattle.std.proofs.Common.{◌≡◌, ◌∙◌, ℕ, ◌+◌, ◌-◌, ◌^◌, ◌<◌, ◌≤◌, inl, inr, Bool, true, false, List, [], ◌∷◌, ◌++◌, Option, Some, None, drop, length, min, reverse, refl, sym, subst, arith}
-use Rattle.std.proofs.lemmas.List.{drop-drop, reverse-reverse}
-use Rattle.definitions.specs.Cards.{Card}
-use Rattle.definitions.specs.Laws.Rebound.{is_rebound}
-use Rattle.definitions.specs.Settling.{settle, settled_all}
-use Rattle.definitions.specs.StatementItems.{Context}
-use Rattle.definitions.specs.Statements.{Statement}
-use Rattle.definitions.specs.declared.deck_kind.DeckKind.{DeckKind}
+use Rattle.std.proofs.{Common.{◌≡◌, ◌∙◌, ℕ, ◌+◌, ◌-◌, ◌^◌, ◌<◌, ◌≤◌, inl, inr, Bool, true, false, List, [], ◌∷◌, ◌++◌, Option, Some, None, drop, length, min, reverse, refl, sym, subst, arith}, lemmas.List.{drop-drop, reverse-reverse}}
+use Rattle.definitions.specs.{Cards.Card, Laws.Rebound.is_rebound, Settling.{settle, settled_all}, StatementItems.Context, Statements.Statement, declared.deck_kind.DeckKind.DeckKind}
 use Rattle.statement_coder.specs.Meters.{RisesBy}
-use Rattle.deck_assembler.specs.Joins.DeckParts.{sized_in}
-use Rattle.deck_assembler.specs.Joins.DueCodes.{one_where, IsWalkedAnew, RisesRebound}
-use Rattle.deck_assembler.specs.Joins.FormerLines.{IsNextInFront, IsNextInTail, IsNextLine}
-use Rattle.deck_assembler.specs.Joins.Rebindings.{AreBindings}
-use Rattle.deck_assembler.specs.Joins.SizedDecks.{AreSizedFrom, IsSizedStatement}
-use Rattle.deck_assembler.specs.Joins.Walks.{Whole, IsWhole, context_in}
-use Rattle.deck_assembler.specs.declared.former_lines.FormerLine.{FormerLine}
-use Rattle.deck_assembler.specs.declared.former_lines.FormerLines.{FormerLines}
-use Rattle.deck_assembler.specs.declared.sized_statement.SizedStatement.{SizedStatement}
-use Rattle.deck_assembler.proofs.FormerLaws.{at-or-not}
-use Rattle.deck_assembler.proofs.OntoLaws.{append-none, reverse-onto}
+use Rattle.deck_assembler.{specs.Joins.DeckParts.sized_in, specs.Joins.DueCodes.{one_where, IsWalkedAnew, RisesRebound}, specs.Joins.FormerLines.{IsNextInFront, IsNextInTail, IsNextLine}, specs.Joins.Rebindings.AreBindings, specs.Joins.SizedDecks.{AreSizedFrom, IsSizedStatement}, specs.Joins.Walks.{Whole, IsWhole, context_in}, specs.declared.former_lines.FormerLine.FormerLine, specs.declared.former_lines.FormerLines.FormerLines, specs.declared.sized_statement.SizedStatement.SizedStatement, proofs.FormerLaws.at-or-not, proofs.OntoLaws.{append-none, reverse-onto}}
 
 -- the names of a line that is found mean what those of all lines do
 in-front-bound : (old after : FormerLines) (stood count : ℕ) (found : Option FormerLine) → IsNextInFront old after stood count found → (context : Context) → AreBindings old.bindings context → (one : FormerLine) → found ≡ Some one → AreBindings one.bindings context

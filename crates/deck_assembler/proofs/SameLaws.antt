@@ -1,24 +1,8 @@
 -- Where all names mean the same in two decks, no statement is bound otherwise.
-use Rattle.std.proofs.Common.{◌≡◌, ◌∙◌, Bool, true, false, not, List, [], ◌∷◌, Option, Some, None, refl, ap, ap₂, sym}
-use Rattle.std.specs.Prelude.{Result, Ok, Err, ◌&&◌, ◌||◌}
-use Rattle.std.specs.List.{list_any}
-use Rattle.std.proofs.lemmas.Bool.Decides.{Decides-eqb, Decides-int_eq}
-use Rattle.definitions.specs.Forms.{Form, Names, Part, Added, Subtracted, element_form}
-use Rattle.definitions.specs.Lengths.{BlockRow}
-use Rattle.definitions.specs.Literals.{literal_form}
-use Rattle.definitions.specs.Laws.Rebound.{part_base, same_part, same_form, same_value, coded_elements, is_rebound}
-use Rattle.definitions.specs.Settled.{Settled, defined}
-use Rattle.definitions.specs.Settling.{View}
-use Rattle.definitions.specs.StatementItems.{Context, final_names}
-use Rattle.definitions.specs.Statements.{Statement}
-use Rattle.definitions.specs.declared.letter.Letter.{Letter}
+use Rattle.std.{proofs.Common.{◌≡◌, ◌∙◌, Bool, true, false, not, List, [], ◌∷◌, Option, Some, None, refl, ap, ap₂, sym}, specs.Prelude.{Result, Ok, Err, ◌&&◌, ◌||◌}, specs.List.list_any, proofs.lemmas.Bool.Decides.{Decides-eqb, Decides-int_eq}}
+use Rattle.definitions.specs.{Forms.{Form, Names, Part, Added, Subtracted, element_form}, Lengths.BlockRow, Literals.literal_form, Laws.Rebound.{part_base, same_part, same_form, same_value, coded_elements, is_rebound}, Settled.{Settled, defined}, Settling.View, StatementItems.{Context, final_names}, Statements.Statement, declared.letter.Letter.Letter}
 use Rattle.use_blocks.proofs.SameLaws.{same_relocation-Decides}
-use Rattle.deck_assembler.specs.Joins.FirstSymbols.{symbol_in}
-use Rattle.deck_assembler.specs.Joins.FormerLines.{MeanAsViewed}
-use Rattle.deck_assembler.specs.Joins.Rebindings.{AreBindings}
-use Rattle.deck_assembler.specs.Joins.Walks.{IsWhole, context_in, whole_of}
-use Rattle.deck_assembler.specs.declared.deck_view.DeckView.{DeckView}
-use Rattle.deck_assembler.specs.declared.rebinding.Bindings.{Bindings}
+use Rattle.deck_assembler.specs.{Joins.FirstSymbols.symbol_in, Joins.FormerLines.MeanAsViewed, Joins.Rebindings.AreBindings, Joins.Walks.{IsWhole, context_in, whole_of}, declared.deck_view.DeckView.DeckView, declared.rebinding.Bindings.Bindings}
 
 part-itself : (part : Option Part) → same_part part part ≡ true
 part-itself None = refl

@@ -1,34 +1,9 @@
 -- The fields of a statement, as a list has them, are short; but for the zeros of a BSSZ.
-use Rattle.std.proofs.Common.{◌≡◌, ◌∙◌, ℕ, zero, suc, ◌+◌, ◌-◌, ◌*◌, ◌/◌, ◌%◌, ◌^◌, ◌<◌, ◌≤◌, Bool, true, false, ◌&&◌, List, [], ◌∷◌, ◌++◌, Option, Some, None, map, flat_map, refl, ap, ap₂, sym, subst, arith, if◌then◌else◌}
-use Rattle.std.specs.Prelude.{nat_le}
-use Rattle.std.proofs.Math.Nat.{mod-lt}
-use Rattle.std.proofs.lemmas.Bool.{lt-ltb, eq-eqb, leb-true, leb-false, true≢false}
-use Rattle.std.proofs.lemmas.Nat.{pow_pos}
-use Rattle.definitions.specs.Expressions.{Expression}
-use Rattle.definitions.specs.Kinds.{word_bits, unit_bits}
+use Rattle.std.{proofs.Common.{◌≡◌, ◌∙◌, ℕ, zero, suc, ◌+◌, ◌-◌, ◌*◌, ◌/◌, ◌%◌, ◌^◌, ◌<◌, ◌≤◌, Bool, true, false, ◌&&◌, List, [], ◌∷◌, ◌++◌, Option, Some, None, map, flat_map, refl, ap, ap₂, sym, subst, arith, if◌then◌else◌}, specs.Prelude.nat_le, proofs.Math.Nat.mod-lt, proofs.lemmas.Bool.{lt-ltb, eq-eqb, leb-true, leb-false, true≢false}, proofs.lemmas.Nat.pow_pos}
+use Rattle.definitions.{specs.Expressions.Expression, specs.Kinds.{word_bits, unit_bits}, specs.Operands.{Operand, CentralOperand, PeripheralOperand, WordsOperand, BitsOperand, TextOperand, Datum, ZeroWord, NumberWord, CountedItemWords, ExpressionWord, BitField}, specs.Operations.Operation, specs.PeripheralTable.{PeripheralForm, Ignored, Short, ShortJump, Shift, Wide, Long}, specs.Matching.{Field, NoField, OfK, OfN}, specs.Settled.Settled, specs.Settling.{settle, seen_of}, specs.Sizes.{field_width, form_units, bits_of}, specs.Statements.Statement, specs.StatementItems.{Item, Content, Known, Linked, Context, known, datum_item, vfd_value, zeros_to_word, operand_items, items_of}, specs.Words.{width_of, cut}, specs.declared.deck_kind.DeckKind.DeckKind, specs.declared.deck_kind.DeckKind.TheVariants.{Rel, Abs, Periph}, specs.declared.letter.Letter.Letter, proofs.WordLaws.{pow_positive, picked_cond}, specs.Laws.Filling.{HasRoom, DoFit, IsWholeWords, AreLongWhole}, proofs.FieldRoomLaws.operand-fields, proofs.ItemLaws.{IsField, expression_item-field, number_item-field}, proofs.OperandLaws.operand_of-made, proofs.OperandShapes.{HaveWidths, IsMade}}
 use Rattle.definitions.specs.Operands as operands
-use Rattle.definitions.specs.Operands.{Operand, CentralOperand, PeripheralOperand, WordsOperand, BitsOperand, TextOperand, Datum, ZeroWord, NumberWord, CountedItemWords, ExpressionWord, BitField}
 use Rattle.definitions.specs.Operations as op
-use Rattle.definitions.specs.Operations.{Operation}
-use Rattle.definitions.specs.PeripheralTable.{PeripheralForm, Ignored, Short, ShortJump, Shift, Wide, Long}
-use Rattle.definitions.specs.Matching.{Field, NoField, OfK, OfN}
-use Rattle.definitions.specs.Settled.{Settled}
-use Rattle.definitions.specs.Settling.{settle, seen_of}
-use Rattle.definitions.specs.Sizes.{field_width, form_units, bits_of}
-use Rattle.definitions.specs.Statements.{Statement}
-use Rattle.definitions.specs.StatementItems.{Item, Content, Known, Linked, Context, known, datum_item, vfd_value, zeros_to_word, operand_items, items_of}
-use Rattle.definitions.specs.Words.{width_of, cut}
-use Rattle.definitions.specs.declared.deck_kind.DeckKind.{DeckKind}
-use Rattle.definitions.specs.declared.deck_kind.DeckKind.TheVariants.{Rel, Abs, Periph}
-use Rattle.definitions.specs.declared.letter.Letter.{Letter}
-use Rattle.definitions.proofs.WordLaws.{pow_positive, picked_cond}
-use Rattle.statement_coder.specs.Joins.CodedItems.{stores_zeros}
-use Rattle.statement_coder.specs.Joins.WordItems.{is_several, known_words, words_of, in_words, listed_fields}
-use Rattle.definitions.specs.Laws.Filling.{HasRoom, DoFit, IsWholeWords, AreLongWhole}
-use Rattle.definitions.proofs.FieldRoomLaws.{operand-fields}
-use Rattle.definitions.proofs.ItemLaws.{IsField, expression_item-field, number_item-field}
-use Rattle.definitions.proofs.OperandLaws.{operand_of-made}
-use Rattle.definitions.proofs.OperandShapes.{HaveWidths, IsMade}
+use Rattle.statement_coder.specs.Joins.{CodedItems.stores_zeros, WordItems.{is_several, known_words, words_of, in_words, listed_fields}}
 use Rattle.deck_objects.specs.Joins.LineItems.{AreShort}
 use Rattle.deck_assembler.proofs.ListedLaws.{none-listed}
 

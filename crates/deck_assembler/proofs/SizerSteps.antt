@@ -1,38 +1,12 @@
 -- One statement more, sized behind those before it.
-use Rattle.std.proofs.Common.{◌≡◌, ℕ, Bool, true, false, List, [], ◌∷◌, refl, sym, ap, ap₂, ◌∙◌, subst, if◌then◌else◌}
-use Rattle.std.specs.Prelude.{IfSome, reverse}
-use Rattle.definitions.specs.Blocks.{block_in_use, is_accepted, change_of}
-use Rattle.definitions.specs.Cards.{Card}
-use Rattle.definitions.specs.Literals.{operand_literals, with_literals}
-use Rattle.definitions.specs.Operands.{Operand, UseName, UseBefore, operand_of}
-use Rattle.definitions.specs.Settled.{BlockChange, NoChange, Opens, defined}
-use Rattle.definitions.specs.Settling.{View, Seen, seen_of, number_base_of, settle, settled_all, settled_from}
-use Rattle.definitions.specs.Statements.{Statement}
-use Rattle.definitions.specs.Laws.States.{BlockState, Effect, state_after, seen_from, effect_of, advanced, lengths_advanced, names_of_blocks}
-use Rattle.definitions.specs.declared.deck_kind.DeckKind.{DeckKind}
-use Rattle.definitions.specs.declared.number_base.NumberBase.{NumberBase}
-use Rattle.definitions.proofs.StateSteps.{seen_of-state, state_after-step, lengths_of-step, settled_all-in_use}
+use Rattle.std.{proofs.Common.{◌≡◌, ℕ, Bool, true, false, List, [], ◌∷◌, refl, sym, ap, ap₂, ◌∙◌, subst, if◌then◌else◌}, specs.Prelude.{IfSome, reverse}}
+use Rattle.definitions.{specs.Blocks.{block_in_use, is_accepted, change_of}, specs.Cards.Card, specs.Literals.{operand_literals, with_literals}, specs.Operands.{Operand, UseName, UseBefore, operand_of}, specs.Settled.{BlockChange, NoChange, Opens, defined}, specs.Settling.{View, Seen, seen_of, number_base_of, settle, settled_all, settled_from}, specs.Statements.Statement, specs.Laws.States.{BlockState, Effect, state_after, seen_from, effect_of, advanced, lengths_advanced, names_of_blocks}, specs.declared.deck_kind.DeckKind.DeckKind, specs.declared.number_base.NumberBase.NumberBase, proofs.StateSteps.{seen_of-state, state_after-step, lengths_of-step, settled_all-in_use}}
 use Rattle.operations.specs.Joins.OperationsAs.{operation_as}
-use Rattle.use_blocks.specs.Joins.Changes.{IsAccepted}
-use Rattle.use_blocks.specs.Joins.EffectsAs.{change_as}
-use Rattle.statement_coder.specs.Joins.KeptReadings.{IsKeptReading}
-use Rattle.statement_coder.specs.Joins.Readings.{IsReading}
-use Rattle.statement_coder.specs.Joins.Sizings.{read_as, settled_read, IsSizing}
-use Rattle.statement_coder.specs.Joins.StatementsRead.{IsRead}
+use Rattle.use_blocks.specs.Joins.{Changes.IsAccepted, EffectsAs.change_as}
+use Rattle.statement_coder.{specs.Joins.KeptReadings.IsKeptReading, specs.Joins.Readings.IsReading, specs.Joins.Sizings.{read_as, settled_read, IsSizing}, specs.Joins.StatementsRead.IsRead, specs.declared.sizing.Sizing.Sizing, proofs.ReadLaws.settled-sizing}
 use Rattle.statement_coder.specs.declared.readings.Reading as readings
-use Rattle.statement_coder.specs.declared.sizing.Sizing.{Sizing}
 use Rattle.statement_coder.specs.declared.statement.Statement as statements
-use Rattle.statement_coder.proofs.ReadLaws.{settled-sizing}
-use Rattle.deck_assembler.specs.Joins.FirstSymbols.{with_defined}
-use Rattle.deck_assembler.specs.Joins.PieceSteps.{with_statement, sized_newest}
-use Rattle.deck_assembler.specs.Joins.Sizers.{stood, ahead, IsNext, IsNoted, AreSized, HaveStates, AreFilledNewest, IsSizer}
-use Rattle.deck_assembler.specs.Joins.SharedNames.{with_new_by}
-use Rattle.deck_assembler.specs.Joins.SizedDecks.{IsSizedStatement}
-use Rattle.deck_assembler.specs.declared.sized_statement.SizedStatement.{SizedStatement}
-use Rattle.deck_assembler.specs.declared.sizer.Sizer.{Sizer}
-use Rattle.deck_assembler.proofs.DefinitionLaws.{defined-step}
-use Rattle.deck_assembler.proofs.ExternalLaws.{externals-step}
-use Rattle.deck_assembler.proofs.PieceSteps.{sized-step, states-step, filled-step}
+use Rattle.deck_assembler.{specs.Joins.FirstSymbols.with_defined, specs.Joins.PieceSteps.{with_statement, sized_newest}, specs.Joins.Sizers.{stood, ahead, IsNext, IsNoted, AreSized, HaveStates, AreFilledNewest, IsSizer}, specs.Joins.SharedNames.with_new_by, specs.Joins.SizedDecks.IsSizedStatement, specs.declared.sized_statement.SizedStatement.SizedStatement, specs.declared.sizer.Sizer.Sizer, proofs.DefinitionLaws.defined-step, proofs.ExternalLaws.externals-step, proofs.PieceSteps.{sized-step, states-step, filled-step}}
 
 -- the operand that the code reads of a statement
 abbrev pub operand_in : statements.Statement → NumberBase → readings.Reading → Type 0

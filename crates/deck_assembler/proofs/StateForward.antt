@@ -1,17 +1,7 @@
 -- The state of each piece, and how many statements it has, in the order of the deck.
-use Rattle.std.proofs.Common.{◌≡◌, ℕ, zero, suc, ◌+◌, List, [], ◌∷◌, ◌++◌, length, take, drop, refl, sym, ap, ◌∙◌, subst, arith, length-append}
-use Rattle.std.specs.Prelude.{reverse}
-use Rattle.std.specs.List.{AllByRecursion}
-use Rattle.std.proofs.lemmas.List.{reverse-append, length-reverse, length-drop}
-use Rattle.definitions.specs.Settling.{settled_all}
-use Rattle.definitions.specs.Statements.{Statement}
-use Rattle.definitions.specs.Laws.States.{state_after}
-use Rattle.definitions.specs.declared.deck_kind.DeckKind.{DeckKind}
-use Rattle.deck_assembler.specs.Joins.DeckParts.{DeckPiece}
-use Rattle.deck_assembler.specs.Joins.PieceSteps.{most_statements, sized_newest}
-use Rattle.deck_assembler.specs.Joins.SizedDecks.{passed, HaveStatesFrom, AreFilled}
-use Rattle.deck_assembler.specs.Joins.Sizers.{HaveStates, AreFilledNewest}
-use Rattle.deck_assembler.proofs.OntoLaws.{onto, onto-reverse, onto-back, drop-onto, drop-more, append-none}
+use Rattle.std.{proofs.Common.{◌≡◌, ℕ, zero, suc, ◌+◌, List, [], ◌∷◌, ◌++◌, length, take, drop, refl, sym, ap, ◌∙◌, subst, arith, length-append}, specs.Prelude.reverse, specs.List.AllByRecursion, proofs.lemmas.List.{reverse-append, length-reverse, length-drop}}
+use Rattle.definitions.specs.{Settling.settled_all, Statements.Statement, Laws.States.state_after, declared.deck_kind.DeckKind.DeckKind}
+use Rattle.deck_assembler.{specs.Joins.DeckParts.DeckPiece, specs.Joins.PieceSteps.{most_statements, sized_newest}, specs.Joins.SizedDecks.{passed, HaveStatesFrom, AreFilled}, specs.Joins.Sizers.{HaveStates, AreFilledNewest}, proofs.OntoLaws.{onto, onto-reverse, onto-back, drop-onto, drop-more, append-none}}
 
 -- how many statements pieces have
 abbrev total : List DeckPiece → ℕ

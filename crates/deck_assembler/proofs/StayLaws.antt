@@ -1,7 +1,6 @@
 -- What an edited deck has of the one before, one statement after the other.
 use Rattle.std.proofs.Common.{◌≡◌, ◌∙◌, ℕ, ◌+◌, ◌-◌, ◌≤◌, inl, inr, List, [], ◌∷◌, ◌++◌, length, refl, ap, sym, subst, arith, append_assoc}
-use Rattle.definitions.specs.Statements.{Statement}
-use Rattle.definitions.specs.declared.deck_kind.DeckKind.{DeckKind}
+use Rattle.definitions.specs.{Statements.Statement, declared.deck_kind.DeckKind.DeckKind}
 use Rattle.deck_assembler.specs.Stays.{AreAsBeforeBut, IsAsBefore, IsCountedOrStays, RisesAnew}
 
 -- the same statement behind the same ones

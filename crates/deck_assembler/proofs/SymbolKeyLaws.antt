@@ -1,10 +1,5 @@
 -- A name's number gives its characters back.
-use Rattle.std.proofs.Common.{◌≡◌, ℕ, ◌-◌, ◌<◌, ◌≤◌, ◌==◌, nat_lt, nat_le, Bool, true, false, not, ◌&&◌, true≢false, suc, zero, List, [], ◌∷◌, ◌++◌, length, get_or, replicate, refl, ap, sym, ◌∙◌, arith, lit<, if◌then◌else◌}
-use Rattle.std.proofs.lemmas.Bool.Decides.{nat_tests}
-use Rattle.std.proofs.lemmas.List.{length-append, length-replicate}
-use Rattle.std.proofs.lemmas.Nat.{be_bytes_8}
-use Rattle.std.specs.Int.{w64, from_be_bytes, to_be_bytes}
-use Rattle.std.specs.List.{list_all}
+use Rattle.std.{proofs.Common.{◌≡◌, ℕ, ◌-◌, ◌<◌, ◌≤◌, ◌==◌, nat_lt, nat_le, Bool, true, false, not, ◌&&◌, true≢false, suc, zero, List, [], ◌∷◌, ◌++◌, length, get_or, replicate, refl, ap, sym, ◌∙◌, arith, lit<, if◌then◌else◌}, proofs.lemmas.Bool.Decides.nat_tests, proofs.lemmas.List.{length-append, length-replicate}, proofs.lemmas.Nat.be_bytes_8, specs.Int.{w64, from_be_bytes, to_be_bytes}, specs.List.list_all}
 use Rattle.deck_assembler.specs.Joins.SymbolKeys.{is_name, padded}
 
 and_first : (x y : Bool) → (x && y) ≡ true → x ≡ true

@@ -1,19 +1,7 @@
 -- A table by number gives each name its own value.
-use Rattle.std.proofs.Common.{◌≡◌, ℕ, ◌<◌, ◌==◌, ◌&&◌, not, Bool, true, false, true≢false, suc, zero, List, [], ◌∷◌, Option, Some, None, nat_lt, cond, inl, inr, refl, sym, ap, ◌∙◌, subst, arith, if◌then◌else◌}
-use Rattle.std.specs.Prelude.{nat_eq, slice_index_or}
-use Rattle.std.specs.List.{list_all}
-use Rattle.std.specs.Map.{lookup}
-use Rattle.std.specs.Option.{is_some}
-use Rattle.std.proofs.lemmas.Bool.Decides.{eqb_tells}
-use Rattle.std.proofs.lemmas.Bool.{lt-ltb, eq-eqb, eqb-true, ltb-true}
-use Rattle.definitions.specs.Characters.{same_text}
-use Rattle.definitions.specs.Forms.{Form}
-use Rattle.definitions.specs.Settled.{or_form}
-use Rattle.definitions.proofs.TextLaws.{same_text-true, same_text-refl}
-use Rattle.deck_assembler.specs.Joins.SymbolKeys.{is_name, key_of}
-use Rattle.deck_assembler.specs.declared.symbol_key.SymbolKey.{SymbolKey}
-use Rattle.deck_assembler.proofs.SymbolKeyLaws.{same-name}
-use Rattle.deck_assembler.specs.Joins.FirstSymbols.{is_known_name, number_of_name, symbol_in, with_symbol}
+use Rattle.std.{proofs.Common.{◌≡◌, ℕ, ◌<◌, ◌==◌, ◌&&◌, not, Bool, true, false, true≢false, suc, zero, List, [], ◌∷◌, Option, Some, None, nat_lt, cond, inl, inr, refl, sym, ap, ◌∙◌, subst, arith, if◌then◌else◌}, specs.Prelude.{nat_eq, slice_index_or}, specs.List.list_all, specs.Map.lookup, specs.Option.is_some, proofs.lemmas.Bool.Decides.eqb_tells, proofs.lemmas.Bool.{lt-ltb, eq-eqb, eqb-true, ltb-true}}
+use Rattle.definitions.{specs.Characters.same_text, specs.Forms.Form, specs.Settled.or_form, proofs.TextLaws.{same_text-true, same_text-refl}}
+use Rattle.deck_assembler.{specs.Joins.SymbolKeys.{is_name, key_of}, specs.declared.symbol_key.SymbolKey.SymbolKey, proofs.SymbolKeyLaws.same-name, specs.Joins.FirstSymbols.{is_known_name, number_of_name, symbol_in, with_symbol}}
 
 pub both_first : (x y : Bool) → (x && y) ≡ true → x ≡ true
 both_first true y h = refl

@@ -1,36 +1,19 @@
 -- What was kept of an operand shows its literals, and that it gives no names.
-use Rattle.std.proofs.Common.{◌≡◌, ℕ, true, true≢false, Option, Some, None, List, [], refl, sym, ap, ◌∙◌, subst}
-use Rattle.std.specs.Prelude.{flat_map}
-use Rattle.definitions.specs.Expressions.{Expression, Literal}
-use Rattle.definitions.specs.Literals.{datum_literals, field_literals}
-use Rattle.definitions.specs.Matching.{Instruction}
+use Rattle.std.{proofs.Common.{◌≡◌, ℕ, true, true≢false, Option, Some, None, List, [], refl, sym, ap, ◌∙◌, subst}, specs.Prelude.flat_map}
+use Rattle.definitions.specs.{Expressions.{Expression, Literal}, Literals.{datum_literals, field_literals}, Matching.Instruction, Operands.{Datum, Operand, CentralOperand, PeripheralOperand, all_words, data_word, operand_of, words_operand}, Operations.Operation, PeripheralTable.PeripheralForm, Pieces.{pieces_of, subfields_of}, Settling.View, declared.deck_kind.DeckKind.DeckKind, declared.number_base.NumberBase.NumberBase}
 use Rattle.definitions.specs.Operands as operands
-use Rattle.definitions.specs.Operands.{Datum, Operand, CentralOperand, PeripheralOperand, all_words, data_word, operand_of, words_operand}
 use Rattle.definitions.specs.Operations as op
-use Rattle.definitions.specs.Operations.{Operation}
-use Rattle.definitions.specs.PeripheralTable.{PeripheralForm}
-use Rattle.definitions.specs.Pieces.{pieces_of, subfields_of}
-use Rattle.definitions.specs.Settling.{View}
-use Rattle.definitions.specs.declared.deck_kind.DeckKind.{DeckKind}
-use Rattle.definitions.specs.declared.number_base.NumberBase.{NumberBase}
-use Rattle.expr_forms.specs.Joins.Kept.{shape_of}
-use Rattle.expr_forms.specs.Joins.Readings.{use_as}
+use Rattle.expr_forms.specs.{Joins.Kept.shape_of, Joins.Readings.use_as, Joins.Shapes.{field_as, instruction_with, HasForm}, declared.shapes.Shape.Shape}
 use Rattle.expr_forms.specs.declared.use_fields.UseField as uses
 use Rattle.expr_forms.specs.declared.use_fields.UseField.TheVariants as use_field
-use Rattle.expr_forms.specs.Joins.Shapes.{field_as, instruction_with, HasForm}
 use Rattle.expr_forms.specs.declared.shapes.Field as code
 use Rattle.expr_forms.specs.declared.shapes.Field.TheVariants as field
-use Rattle.expr_forms.specs.declared.shapes.Shape.{Shape}
-use Rattle.statement_coder.specs.Joins.KeptReadings.{IsKeptReading}
-use Rattle.statement_coder.specs.Joins.Readings.{IsInstruction}
+use Rattle.statement_coder.{specs.Joins.KeptReadings.IsKeptReading, specs.Joins.Readings.IsInstruction, proofs.LawfulLaws.data-lawful}
 use Rattle.statement_coder.specs.declared.definitions_made.Defines as made
 use Rattle.statement_coder.specs.declared.definitions_made.Defines.TheVariants as defines
 use Rattle.statement_coder.specs.declared.kept_readings.KeptReading as readings
 use Rattle.statement_coder.specs.declared.kept_readings.KeptReading.TheVariants as kept
-use Rattle.statement_coder.proofs.LawfulLaws.{data-lawful}
-use Rattle.deck_assembler.specs.Joins.FirstSymbols.{with_defined}
-use Rattle.deck_assembler.specs.Joins.LiteralsRead.{is_data_words, is_told, kept_literals, shape_literals, IsTold}
-use Rattle.deck_assembler.specs.Joins.SharedNames.{with_new_by}
+use Rattle.deck_assembler.specs.Joins.{FirstSymbols.with_defined, LiteralsRead.{is_data_words, is_told, kept_literals, shape_literals, IsTold}, SharedNames.with_new_by}
 
 -- the literals of an instruction, if there is one
 literals_found : Option Instruction → List Literal

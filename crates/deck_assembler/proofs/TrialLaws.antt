@@ -1,20 +1,8 @@
 -- A trial goes over the statements that are left, one after the other.
-use Rattle.std.proofs.Common.{◌≡◌, ℕ, ◌+◌, ◌≤◌, List, [], ◌∷◌, ◌++◌, drop, length, sym, subst}
-use Rattle.std.specs.List.{AllByRecursion}
-use Rattle.definitions.specs.Cards.{Card}
-use Rattle.definitions.specs.Forms.{Form}
-use Rattle.definitions.specs.Operations.{Operation}
-use Rattle.definitions.specs.Settled.{ReadStatement}
-use Rattle.definitions.specs.Settling.{View}
-use Rattle.definitions.specs.Statements.{Statement}
-use Rattle.definitions.specs.Laws.Agreement.{Agree, own_symbols, operand_symbols}
-use Rattle.definitions.specs.declared.deck_kind.DeckKind.{DeckKind}
+use Rattle.std.{proofs.Common.{◌≡◌, ℕ, ◌+◌, ◌≤◌, List, [], ◌∷◌, ◌++◌, drop, length, sym, subst}, specs.List.AllByRecursion}
+use Rattle.definitions.specs.{Cards.Card, Forms.Form, Operations.Operation, Settled.ReadStatement, Settling.View, Statements.Statement, Laws.Agreement.{Agree, own_symbols, operand_symbols}, declared.deck_kind.DeckKind.DeckKind}
 use Rattle.statement_coder.specs.declared.definitions_made.Defines as code
-use Rattle.deck_assembler.specs.Joins.Agreements.{AreExternalsAlike, IsAlike, AreAlikeFrom, IsNextAlike, AreTried}
-use Rattle.deck_assembler.specs.Joins.FirstSymbols.{symbol_in}
-use Rattle.deck_assembler.specs.Joins.SizedDecks.{AreSizedFrom}
-use Rattle.deck_assembler.specs.declared.early_trial.Trial.{Trial}
-use Rattle.deck_assembler.specs.declared.sized_statement.SizedStatement.{SizedStatement}
+use Rattle.deck_assembler.specs.{Joins.Agreements.{AreExternalsAlike, IsAlike, AreAlikeFrom, IsNextAlike, AreTried}, Joins.FirstSymbols.symbol_in, Joins.SizedDecks.AreSizedFrom, declared.early_trial.Trial.Trial, declared.sized_statement.SizedStatement.SizedStatement}
 
 pub tried-none : (trial : Trial) (left : List SizedStatement) → AreTried trial trial left left
 tried-none trial left = λ earlier stood statements behind others are turns. turns earlier stood statements are

@@ -1,14 +1,6 @@
 -- The block of a statement is among the blocks of its deck.
-use Rattle.std.proofs.Common.{◌≡◌, ◌∙◌, ℕ, ◌||◌, Bool, true, false, true≢false, List, [], ◌∷◌, ◌++◌, map, drop, refl, ap, sym, if◌then◌else◌}
-use Rattle.std.proofs.lemmas.List.Folds.{list_any-append}
-use Rattle.definitions.specs.Blocks.{nominal, open_names, block_in_use, changes, is_named, with_opened, blocks_used}
-use Rattle.definitions.specs.Characters.{same_text}
-use Rattle.definitions.specs.Lengths.{BlockRow, rows_from, block_rows, length_of}
-use Rattle.definitions.specs.Settled.{BlockChange, NoChange, Opens, Closes}
-use Rattle.definitions.specs.Settling.{settle, settled_all}
-use Rattle.definitions.specs.Statements.{Statement}
-use Rattle.definitions.specs.declared.deck_kind.DeckKind.{DeckKind}
-use Rattle.definitions.proofs.TextLaws.{same_text-refl}
+use Rattle.std.proofs.{Common.{◌≡◌, ◌∙◌, ℕ, ◌||◌, Bool, true, false, true≢false, List, [], ◌∷◌, ◌++◌, map, drop, refl, ap, sym, if◌then◌else◌}, lemmas.List.Folds.list_any-append}
+use Rattle.definitions.{specs.Blocks.{nominal, open_names, block_in_use, changes, is_named, with_opened, blocks_used}, specs.Characters.same_text, specs.Lengths.{BlockRow, rows_from, block_rows, length_of}, specs.Settled.{BlockChange, NoChange, Opens, Closes}, specs.Settling.{settle, settled_all}, specs.Statements.Statement, specs.declared.deck_kind.DeckKind.DeckKind, proofs.TextLaws.same_text-refl}
 use Rattle.deck_assembler.specs.Joins.Walks.{has_row}
 
 or-true : (b : Bool) → (b || true) ≡ true

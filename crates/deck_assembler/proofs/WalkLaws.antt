@@ -1,35 +1,12 @@
 -- One statement more: its line behind the others, and its names.
-use Rattle.std.proofs.Common.{◌≡◌, ◌∙◌, ℕ, ◌+◌, ◌-◌, ◌^◌, ◌<◌, ◌≤◌, true, false, true≢false, List, [], ◌∷◌, ◌++◌, Option, Some, None, min, drop, length, reverse, refl, ap, sym, subst, arith}
-use Rattle.std.specs.Prelude.{slice_get}
-use Rattle.std.proofs.lemmas.List.{drop-drop, length-drop, reverse-append}
-use Rattle.definitions.specs.Cards.{Card}
-use Rattle.definitions.specs.Entries.{entries_by, entries_among}
-use Rattle.definitions.specs.Lengths.{BlockRow}
-use Rattle.definitions.specs.Objects.{Shown}
-use Rattle.definitions.specs.Operands.{Operand}
+use Rattle.std.{proofs.Common.{◌≡◌, ◌∙◌, ℕ, ◌+◌, ◌-◌, ◌^◌, ◌<◌, ◌≤◌, true, false, true≢false, List, [], ◌∷◌, ◌++◌, Option, Some, None, min, drop, length, reverse, refl, ap, sym, subst, arith}, specs.Prelude.slice_get, proofs.lemmas.List.{drop-drop, length-drop, reverse-append}}
+use Rattle.definitions.specs.{Cards.Card, Entries.{entries_by, entries_among}, Lengths.BlockRow, Objects.Shown, Operands.Operand, Operations.Operation, Settled.{Settled, Definition, read_of}, Settling.{number_base_of, settle, settled_all}, Statements.Statement, Words.Coded, declared.deck_kind.DeckKind.DeckKind, declared.deck_kind.DeckKind.TheVariants.{Rel, Abs, Periph}, declared.number_base.NumberBase.NumberBase}
 use Rattle.definitions.specs.Operations as op
-use Rattle.definitions.specs.Operations.{Operation}
-use Rattle.definitions.specs.Settled.{Settled, Definition, read_of}
-use Rattle.definitions.specs.Settling.{number_base_of, settle, settled_all}
-use Rattle.definitions.specs.Statements.{Statement}
-use Rattle.definitions.specs.Words.{Coded}
-use Rattle.definitions.specs.declared.deck_kind.DeckKind.{DeckKind}
-use Rattle.definitions.specs.declared.deck_kind.DeckKind.TheVariants.{Rel, Abs, Periph}
-use Rattle.definitions.specs.declared.number_base.NumberBase.{NumberBase}
 use Rattle.statement_coder.specs.declared.items.Item as code
-use Rattle.statement_coder.specs.Joins.CodedItems.{IsKept}
-use Rattle.statement_coder.specs.Joins.Sizings.{IsCodable}
-use Rattle.statement_coder.specs.Joins.StatementsRead.{IsRead}
-use Rattle.statement_coder.specs.declared.sizing.Sizing.{Sizing}
+use Rattle.statement_coder.{specs.Joins.CodedItems.IsKept, specs.Joins.Sizings.IsCodable, specs.Joins.StatementsRead.IsRead, specs.declared.sizing.Sizing.Sizing, proofs.CodingLaws.codable}
 use Rattle.statement_coder.specs.declared.statement.Statement as statements
-use Rattle.statement_coder.proofs.CodingLaws.{codable}
-use Rattle.deck_objects.specs.Joins.CodedLines.{IsNamed, IsShown, IsStored}
-use Rattle.deck_objects.specs.declared.lines.CodedLine.{CodedLine}
-use Rattle.deck_objects.specs.declared.lines.Line.{Line}
-use Rattle.deck_assembler.specs.Joins.SharedNames.{enters, entries_to}
-use Rattle.deck_assembler.specs.Joins.Walks.{Whole, all_settled, has_row, AreNoted, AreShownTo, AreLinedAs}
-use Rattle.deck_assembler.specs.declared.deck_lines.DeckLines.{DeckLines}
-use Rattle.deck_assembler.proofs.KeptLaws.{coded-longer}
+use Rattle.deck_objects.specs.{Joins.CodedLines.{IsNamed, IsShown, IsStored}, declared.lines.CodedLine.CodedLine, declared.lines.Line.Line}
+use Rattle.deck_assembler.{specs.Joins.SharedNames.{enters, entries_to}, specs.Joins.Walks.{Whole, all_settled, has_row, AreNoted, AreShownTo, AreLinedAs}, specs.declared.deck_lines.DeckLines.DeckLines, proofs.KeptLaws.coded-longer}
 
 -- a statement that was read, as it is settled
 pub settle-codable : (kind : DeckKind) (earlier : List Settled) (given : Statement) (statement : statements.Statement) (sizing : Sizing) → IsRead kind given.cards statement → sizing.number_base ≡ number_base_of earlier →

@@ -1,10 +1,7 @@
 -- Which statements of an edited deck are settled as in the deck before, and how many are not (ours).
 -- Lists of statements are newest first, up to END.
 use Rattle.std.specs.Prelude.{ℕ, ⊤, ◌≡◌, ◌+◌, ◌-◌, ◌^◌, ◌<◌, ◌⊎◌, List, [], ◌∷◌, ◌++◌, length, min}
-use Rattle.definitions.specs.Laws.Agreement.{unnumbered}
-use Rattle.definitions.specs.Settling.{settle, settled_all}
-use Rattle.definitions.specs.Statements.{Statement}
-use Rattle.definitions.specs.declared.deck_kind.DeckKind.{DeckKind}
+use Rattle.definitions.specs.{Laws.Agreement.unnumbered, Settling.{settle, settled_all}, Statements.Statement, declared.deck_kind.DeckKind.DeckKind}
 
 -- a statement behind these is settled as one of the old deck is in its place, but for the number of cards before it
 pub record IsAsBefore (kind : DeckKind) (old earlier : List Statement) (statement : Statement) : Type 0 where

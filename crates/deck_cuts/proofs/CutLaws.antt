@@ -1,12 +1,7 @@
 -- What a fault of the cut shows, and the cut of cards one by one.
-use Rattle.std.proofs.Common.{ℕ, ◌≡◌, ◌+◌, ◌<◌, ◌≤◌, List, [], ◌∷◌, ◌++◌, Option, None, Some, Result, Ok, Err, length, reverse, take, drop, get_or, sym, ap, subst, ◌∙◌, arith, length-take, take-append-drop, IfErr, IfSome}
-use Rattle.std.specs.Prelude.{IsErrAnd, MatchOption}
-use Rattle.std.proofs.lemmas.List.{reverse-append, length-reverse, take_more, take_all}
-use Rattle.definitions.specs.Cards.{Card}
-use Rattle.definitions.specs.DeckInput.{Deck, Input, Decks, Faulty, InputFault, with_card}
-use Rattle.deck_cuts.specs.Cuts.{newest_first, input_with, input_of_cards, input_fault, IsSound, IsFaultOf, TellsFaultOf}
-use Rattle.deck_cuts.specs.declared.cut_fault.CutFault.{CutFault}
-use Rattle.deck_cuts.specs.declared.cut_fault.CutFault.TheVariants.{OutOfMemory}
+use Rattle.std.{proofs.Common.{ℕ, ◌≡◌, ◌+◌, ◌<◌, ◌≤◌, List, [], ◌∷◌, ◌++◌, Option, None, Some, Result, Ok, Err, length, reverse, take, drop, get_or, sym, ap, subst, ◌∙◌, arith, length-take, take-append-drop, IfErr, IfSome}, specs.Prelude.{IsErrAnd, MatchOption}, proofs.lemmas.List.{reverse-append, length-reverse, take_more, take_all}}
+use Rattle.definitions.specs.{Cards.Card, DeckInput.{Deck, Input, Decks, Faulty, InputFault, with_card}}
+use Rattle.deck_cuts.specs.{Cuts.{newest_first, input_with, input_of_cards, input_fault, IsSound, IsFaultOf, TellsFaultOf}, declared.cut_fault.CutFault.CutFault, declared.cut_fault.CutFault.TheVariants.OutOfMemory}
 
 -- what holds of the fault that a step passes on
 pub IfErr-passed : {T F : Type 0} (r : Result T F) (fault : F) (P : F → Type 0) → IsErrAnd r (λ passed. passed ≡ fault) → P fault → IfErr r P

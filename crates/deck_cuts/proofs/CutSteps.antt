@@ -1,17 +1,7 @@
 -- The steps of the cut into decks, which the code does in order and the definitions newest first.
-use Rattle.std.proofs.Common.{ℕ, suc, ◌≡◌, ◌-◌, ◌<◌, ◌≤◌, List, [], ◌∷◌, ◌++◌, Bool, true, false, if◌then◌else◌, nat_le, length, take, get_or, set, codes, not, refl, sym, ap, ◌∙◌, arith}
-use Rattle.std.proofs.lemmas.Bool.{cond-true, cond-false, le-leb, lt-leb}
-use Rattle.std.proofs.lemmas.List.{set_split, set-get_or, drop_all, length-reverse}
-use Rattle.definitions.specs.Characters.{same_text}
-use Rattle.definitions.specs.Cards.{Card}
-use Rattle.definitions.specs.Fields.{fields_of}
-use Rattle.definitions.specs.DeckInput.{Deck}
-use Rattle.definitions.specs.DeckInput.{Input, Decks, Faulty, BadName, NameTaken, TooManyDecks, DeckFull, most_decks, most_cards, is_deck_name, name_on, is_taken, in_card_order, continued, with_card}
-use Rattle.deck_cuts.specs.Cuts.{newest_first}
-use Rattle.deck_cuts.specs.declared.cutting.CardRole.{CardRole}
-use Rattle.deck_cuts.specs.declared.cutting.CardRole.TheVariants.{Begins, Misnamed, Continues}
-use Rattle.deck_cuts.specs.Joins.CardRoles.{role_of, begun_named}
-use Rattle.deck_cuts.proofs.DeckLaws.{newest_first-push, in_card_order-push, length-newest_first, is_taken-newest_first}
+use Rattle.std.proofs.{Common.{ℕ, suc, ◌≡◌, ◌-◌, ◌<◌, ◌≤◌, List, [], ◌∷◌, ◌++◌, Bool, true, false, if◌then◌else◌, nat_le, length, take, get_or, set, codes, not, refl, sym, ap, ◌∙◌, arith}, lemmas.Bool.{cond-true, cond-false, le-leb, lt-leb}, lemmas.List.{set_split, set-get_or, drop_all, length-reverse}}
+use Rattle.definitions.specs.{Characters.same_text, Cards.Card, Fields.fields_of, DeckInput.{Deck, Input, Decks, Faulty, BadName, NameTaken, TooManyDecks, DeckFull, most_decks, most_cards, is_deck_name, name_on, is_taken, in_card_order, continued, with_card}}
+use Rattle.deck_cuts.{specs.Cuts.newest_first, specs.declared.cutting.CardRole.CardRole, specs.declared.cutting.CardRole.TheVariants.{Begins, Misnamed, Continues}, specs.Joins.CardRoles.{role_of, begun_named}, proofs.DeckLaws.{newest_first-push, in_card_order-push, length-newest_first, is_taken-newest_first}}
 
 -- a deck that is begun with its card
 abbrev pub begun_deck : List ℕ → Card → Deck

@@ -1,11 +1,6 @@
 -- Decks in order, and as the definitions collect them: newest first.
-use Rattle.std.proofs.Common.{ℕ, ◌≡◌, ◌||◌, List, [], ◌∷◌, ◌++◌, Bool, length, map, reverse, refl, sym, ap, ap₂, ◌∙◌}
-use Rattle.std.proofs.lemmas.List.{reverse-append, reverse-reverse, length-reverse, length-map, map_push}
-use Rattle.std.proofs.lemmas.List.Sorted.{IsPermutation-reverse, list_any-IsPermutation}
-use Rattle.definitions.specs.Characters.{same_text}
-use Rattle.definitions.specs.Cards.{Card}
-use Rattle.definitions.specs.DeckInput.{Deck}
-use Rattle.definitions.specs.DeckInput.{is_taken, in_card_order, in_input_order}
+use Rattle.std.proofs.{Common.{ℕ, ◌≡◌, ◌||◌, List, [], ◌∷◌, ◌++◌, Bool, length, map, reverse, refl, sym, ap, ap₂, ◌∙◌}, lemmas.List.{reverse-append, reverse-reverse, length-reverse, length-map, map_push}, lemmas.List.Sorted.{IsPermutation-reverse, list_any-IsPermutation}}
+use Rattle.definitions.specs.{Characters.same_text, Cards.Card, DeckInput.{Deck, is_taken, in_card_order, in_input_order}}
 use Rattle.deck_cuts.specs.Cuts.{newest_first}
 
 -- one deck more

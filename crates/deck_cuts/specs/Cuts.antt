@@ -1,12 +1,8 @@
 -- Decks of cards, in order and as the definitions collect them, and why cards are none (ours).
 use Rattle.std.specs.Prelude.{ℕ, ◌≡◌, ◌+◌, ⊤, Bool, List, [], ◌∷◌, Option, Some, None, codes, length, map, reverse, IfSome, MatchOption}
-use Rattle.definitions.specs.Cards.{Card}
-use Rattle.definitions.specs.Characters.{same_text}
-use Rattle.definitions.specs.Fields.{fields_of}
-use Rattle.definitions.specs.DeckInput.{Deck, Input, Decks, Faulty, InputFault, in_card_order, with_card}
+use Rattle.definitions.specs.{Cards.Card, Characters.same_text, Fields.fields_of, DeckInput.{Deck, Input, Decks, Faulty, InputFault, in_card_order, with_card}}
 use Rattle.definitions.specs.DeckInput as input
-use Rattle.deck_cuts.specs.declared.cut_fault.CutFault.{CutFault}
-use Rattle.deck_cuts.specs.declared.cut_fault.CutFault.TheVariants.{OutOfMemory, DeckFull, NameTaken, TooManyDecks, BadName}
+use Rattle.deck_cuts.specs.declared.cut_fault.CutFault.{CutFault, TheVariants.{OutOfMemory, DeckFull, NameTaken, TooManyDecks, BadName}}
 
 -- decks as the definitions collect them: newest first, each with its cards newest first
 abbrev pub newest_first : List Deck → List Deck

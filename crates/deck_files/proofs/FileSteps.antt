@@ -1,7 +1,5 @@
 -- Things under names: a map of names shows as the list of names and things.
-use Rattle.std.proofs.Common.{ℕ, ◌≡◌, List, [], ◌∷◌, Bool, true, false, cond, ◌&&◌, Option, Some, eqb, refl, sym, ap, ◌∙◌, map, is_some, true≢false}
-use Rattle.std.specs.Option.{option_map}
-use Rattle.std.specs.Map.{lookup, set_value}
+use Rattle.std.{proofs.Common.{ℕ, ◌≡◌, List, [], ◌∷◌, Bool, true, false, cond, ◌&&◌, Option, Some, eqb, refl, sym, ap, ◌∙◌, map, is_some, true≢false}, specs.Option.option_map, specs.Map.{lookup, set_value}}
 use Rattle.indexmap.specs.IndexMap.{insert_entry}
 use lib.Pointwise.{pointwise}
 use Rattle.definitions.specs.Characters.{same_text}

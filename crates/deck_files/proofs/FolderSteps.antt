@@ -1,17 +1,7 @@
 -- Steps of a folder: they go on from each other, and change no other paths together than each.
-use Rattle.std.proofs.Common.{ℕ, zero, suc, ◌≡◌, inl, inr, List, [], ◌∷◌, ◌++◌, Option, Result, Ok, Err, IfErr, OnOk, IsOk, refl, sym, subst, append_assoc}
-use Rattle.std.proofs.KnownBytes.{Consumes-nil}
+use Rattle.std.proofs.{Common.{ℕ, zero, suc, ◌≡◌, inl, inr, List, [], ◌∷◌, ◌++◌, Option, Result, Ok, Err, IfErr, OnOk, IsOk, refl, sym, subst, append_assoc}, KnownBytes.Consumes-nil}
 use Rattle.definitions.specs.Cards.{Card}
-use Rattle.deck_files.specs.declared.load_fault.LoadFault.{LoadFault}
-use Rattle.deck_files.specs.declared.load_fault.LoadFault.TheVariants.{OutOfMemory}
-use Rattle.deck_files.specs.declared.deck_shelf.ShelfLoadFault.{ShelfLoadFault}
-use Rattle.deck_files.specs.declared.deck_shelf.ShelfSaveFault.{ShelfSaveFault}
-use Rattle.deck_files.specs.declared.file_sums.FileSum.{FileSum}
-use Rattle.deck_files.specs.Loads.{LoadsFault}
-use Rattle.deck_files.specs.Folders.{Place, deck_path}
-use Rattle.deck_files.specs.Steps.{Asked, Answered, Step, Refused, Done, Found, Gave, Holds, changed_by, AreAmong, ChangesAmong, ChangeAmong, TakesSteps, ChangesOnly}
-use Rattle.deck_files.specs.FolderLoads.{IsUnopened, DoesNotOpen, HasFault, LoadsFile, LoadFails, read, not_opened, opened_steps}
-use Rattle.deck_files.specs.FolderSaves.{IsFaultOfFolder, IsFaultOfNew, refused_links, refused_tries}
+use Rattle.deck_files.specs.{declared.load_fault.LoadFault.LoadFault, declared.load_fault.LoadFault.TheVariants.OutOfMemory, declared.deck_shelf.ShelfLoadFault.ShelfLoadFault, declared.deck_shelf.ShelfSaveFault.ShelfSaveFault, declared.file_sums.FileSum.FileSum, Loads.LoadsFault, Folders.{Place, deck_path}, Steps.{Asked, Answered, Step, Refused, Done, Found, Gave, Holds, changed_by, AreAmong, ChangesAmong, ChangeAmong, TakesSteps, ChangesOnly}, FolderLoads.{IsUnopened, DoesNotOpen, HasFault, LoadsFile, LoadFails, read, not_opened, opened_steps}, FolderSaves.{IsFaultOfFolder, IsFaultOfNew, refused_links, refused_tries}}
 
 -- what each fault says it says of a weaker relation too
 pub err-map : {T E : Type 0} {P Q : E → Type 0} (result : Result T E) → ((error : E) → P error → Q error) → IfErr result P → IfErr result Q

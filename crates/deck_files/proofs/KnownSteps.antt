@@ -1,11 +1,7 @@
 -- A place makes nothing known; what is noted is known.
 use Rattle.std.proofs.Common.{ℕ, ◌≡◌, List, [], ◌∷◌, Bool, true, false, cond, Option, Some, None, refl, ap, is_some, true≢false}
-use Rattle.definitions.specs.Characters.{same_text}
-use Rattle.definitions.proofs.TextLaws.{same_text-refl}
-use Rattle.deck_files.specs.declared.file_sums.FileSum.{FileSum}
-use Rattle.deck_files.specs.declared.known_rows.Known.{Known}
-use Rattle.deck_files.specs.Files.{Named, named, with_named}
-use Rattle.deck_files.specs.KnownFiles.{IsSaved, after_place, file_known, known_at, version_at}
+use Rattle.definitions.{specs.Characters.same_text, proofs.TextLaws.same_text-refl}
+use Rattle.deck_files.specs.{declared.file_sums.FileSum.FileSum, declared.known_rows.Known.Known, Files.{Named, named, with_named}, KnownFiles.{IsSaved, after_place, file_known, known_at, version_at}}
 
 known-none : (t : Bool) → known_at (cond t (Some None) None) ≡ None
 known-none true = refl

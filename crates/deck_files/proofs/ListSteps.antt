@@ -1,12 +1,6 @@
 -- The steps of listing the files of decks: the first of them were read.
-use Rattle.std.proofs.Common.{ℕ, ◌≡◌, ◌+◌, ◌<◌, List, [], ◌∷◌, ◌++◌, Option, length, take, get_or, sym, ap, subst, ◌∙◌}
-use Rattle.std.proofs.lemmas.List.{take_more}
-use Rattle.deck_files.specs.declared.file_rows.DeckEntry.{DeckEntry}
-use Rattle.deck_files.specs.declared.file_rows.FileRow.{FileRow}
-use Rattle.deck_files.specs.FileRows.{row_of, with_row}
-use Rattle.deck_files.specs.Folders.{place}
-use Rattle.deck_files.specs.FolderLists.{Counts, ReadsRows, StopsAt, StopsWithin, no_file, next_file}
-use Rattle.deck_files.specs.Steps.{Step}
+use Rattle.std.proofs.{Common.{ℕ, ◌≡◌, ◌+◌, ◌<◌, List, [], ◌∷◌, ◌++◌, Option, length, take, get_or, sym, ap, subst, ◌∙◌}, lemmas.List.take_more}
+use Rattle.deck_files.specs.{declared.file_rows.DeckEntry.DeckEntry, declared.file_rows.FileRow.FileRow, FileRows.{row_of, with_row}, Folders.place, FolderLists.{Counts, ReadsRows, StopsAt, StopsWithin, no_file, next_file}, Steps.Step}
 
 module _ {F : Type 0} (has_done : F → List Step → Type 0) (folder : List ℕ) (number : ℕ) where
   -- no file was read

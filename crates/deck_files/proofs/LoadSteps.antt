@@ -1,20 +1,10 @@
 -- The steps of loading a file: the lines so far show these cards, whatever follows.
-use Rattle.std.proofs.Common.{ℕ, ◌≡◌, ◌+◌, ◌*◌, ◌≤◌, List, [], ◌∷◌, ◌++◌, Option, Result, Ok, Err, IsOk, length, refl, sym, ap, subst, ◌∙◌, arith, append_assoc, append-nil, length-append}
-use Rattle.std.specs.Io.KnownBytes.{Consumes}
-use Rattle.std.proofs.KnownBytes.{Consumes-nil, Consumes-trans}
-use Rattle.definitions.specs.Cards.{Card}
-use Rattle.definitions.specs.InputLines.{InputLine, Line, TooLong, lines_of, without_cr}
-use Rattle.text_ports.specs.Lines.{ReadsLine, ReadsWholeLine}
+use Rattle.std.{proofs.Common.{ℕ, ◌≡◌, ◌+◌, ◌*◌, ◌≤◌, List, [], ◌∷◌, ◌++◌, Option, Result, Ok, Err, IsOk, length, refl, sym, ap, subst, ◌∙◌, arith, append_assoc, append-nil, length-append}, specs.Io.KnownBytes.Consumes, proofs.KnownBytes.{Consumes-nil, Consumes-trans}}
+use Rattle.definitions.specs.{Cards.Card, InputLines.{InputLine, Line, TooLong, lines_of, without_cr}}
+use Rattle.text_ports.{specs.Lines.{ReadsLine, ReadsWholeLine}, proofs.LineLaws.{lines_of-taken, lines_of-cut, lines_of-few, lines_of-long}}
 use Rattle.text_ports.specs.declared.lines.LineIs.TheVariants as is
-use Rattle.text_ports.proofs.LineLaws.{lines_of-taken, lines_of-cut, lines_of-few, lines_of-long}
 use Rattle.cards.specs.declared.card.CardFault.TheVariants as card
-use Rattle.deck_files.specs.declared.load_fault.LoadFault.{LoadFault}
-use Rattle.deck_files.specs.declared.load_fault.LoadFault.TheVariants.{ReadFault, BadLine, LastLineCut, DeckFull, OutOfMemory}
-use Rattle.deck_files.specs.DeckFiles.{card_in, in_front, with_first, cards_behind, cards_of_file}
-use Rattle.deck_files.specs.declared.file_sums.FileSum.{FileSum}
-use Rattle.deck_files.specs.declared.file_sums.Summing.{Summing}
-use Rattle.deck_files.specs.FileSums.{Sums, sum_of}
-use Rattle.deck_files.specs.Loads.{GaveFault, LoadsFault, LoadsSummed, IsFaultOf, count_after_load}
+use Rattle.deck_files.specs.{declared.load_fault.LoadFault.LoadFault, declared.load_fault.LoadFault.TheVariants.{ReadFault, BadLine, LastLineCut, DeckFull, OutOfMemory}, DeckFiles.{card_in, in_front, with_first, cards_behind, cards_of_file}, declared.file_sums.FileSum.FileSum, declared.file_sums.Summing.Summing, FileSums.{Sums, sum_of}, Loads.{GaveFault, LoadsFault, LoadsSummed, IsFaultOf, count_after_load}}
 
 -- no cards in front
 in_front-nil : (read : Result (List Card) LoadFault) → in_front [] read ≡ read

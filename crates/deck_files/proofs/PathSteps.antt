@@ -1,9 +1,6 @@
 -- Paths in one folder are distinguished by what stands behind the deck's name.
-use Rattle.std.proofs.Common.{ℕ, ◌≡◌, ◌≢◌, List, [], ◌∷◌, ◌++◌, sym, ap, ◌∙◌, arith}
-use Rattle.std.specs.Prelude.{codes, decimal, slice_index}
-use Rattle.std.proofs.lemmas.List.{append_cancel_left}
-use Rattle.deck_files.specs.Folders.{Place, path_in, deck_path, old_path}
-use Rattle.deck_files.specs.FolderSaves.{IsNew}
+use Rattle.std.{proofs.Common.{ℕ, ◌≡◌, ◌≢◌, List, [], ◌∷◌, ◌++◌, sym, ap, ◌∙◌, arith}, specs.Prelude.{codes, decimal, slice_index}, proofs.lemmas.List.append_cancel_left}
+use Rattle.deck_files.specs.{Folders.{Place, path_in, deck_path, old_path}, FolderSaves.IsNew}
 
 -- the file behind a folder
 file-in : (folder first second : List ℕ) → path_in folder first ≡ path_in folder second → first ≡ second

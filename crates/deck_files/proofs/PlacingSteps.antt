@@ -1,9 +1,6 @@
 -- The steps of a file that is written whole: where one fails, the new file's path alone was changed.
-use Rattle.std.proofs.Common.{ℕ, ◌≡◌, List, [], ◌∷◌, Option, refl}
-use Rattle.std.specs.Io.KnownBytes.{Appends}
-use Rattle.deck_files.specs.Steps.{Step, Answered, Keep, Make, Put, Remove, Done, Gave, Refused, TakesStep, TakesSteps, ChangesOnly}
-use Rattle.deck_files.specs.WholeFiles.{Replaces, made_anew, placed}
-use Rattle.deck_files.proofs.FolderSteps.{ChangesAmong-asked, only-join, takes-join}
+use Rattle.std.{proofs.Common.{ℕ, ◌≡◌, List, [], ◌∷◌, Option, refl}, specs.Io.KnownBytes.Appends}
+use Rattle.deck_files.{specs.Steps.{Step, Answered, Keep, Make, Put, Remove, Done, Gave, Refused, TakesStep, TakesSteps, ChangesOnly}, specs.WholeFiles.{Replaces, made_anew, placed}, proofs.FolderSteps.{ChangesAmong-asked, only-join, takes-join}}
 
 -- a new file's path
 abbrev pub IsAt : List ℕ → List ℕ → Type 0

@@ -1,14 +1,9 @@
 -- The rows of known files, line by line: what is left to be read, with what is known so far, is what all lines show.
 use Rattle.std.proofs.Common.{ℕ, ◌≡◌, List, [], ◌∷◌, ◌++◌, Option, Some, None, refl, sym, ap, ◌∙◌, arith, append-nil}
 use Rattle.definitions.specs.InputLines.{InputLine, lines_of}
-use Rattle.text_ports.specs.Lines.{ReadsLine}
+use Rattle.text_ports.{specs.Lines.ReadsLine, proofs.LineLaws.{lines_of-taken, lines_of-cut, lines_of-long}}
 use Rattle.text_ports.specs.declared.lines.LineIs.TheVariants as is
-use Rattle.text_ports.proofs.LineLaws.{lines_of-taken, lines_of-cut, lines_of-long}
-use Rattle.deck_files.specs.declared.known_rows.Known.{Known}
-use Rattle.deck_files.specs.declared.known_texts.KnownRow.{KnownRow}
-use Rattle.deck_files.specs.Files.{Named, with_named}
-use Rattle.deck_files.specs.KnownFiles.{known_up_to}
-use Rattle.deck_files.specs.KnownTexts.{row_in, rows_behind, with_row}
+use Rattle.deck_files.specs.{declared.known_rows.Known.Known, declared.known_texts.KnownRow.KnownRow, Files.{Named, with_named}, KnownFiles.known_up_to, KnownTexts.{row_in, rows_behind, with_row}}
 
 -- behind a line that is no row nothing is known
 pub rows-none : (last : ℕ) (lines : List InputLine) → rows_behind last None lines ≡ None

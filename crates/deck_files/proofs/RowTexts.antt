@@ -1,18 +1,8 @@
 -- What is written of a known file is read back.
-use Rattle.std.proofs.Common.{ℕ, zero, suc, ◌≡◌, ◌-◌, ◌*◌, ◌%◌, ◌<◌, ◌^◌, ◌==◌, List, ◌∷◌, ◌++◌, Bool, true, Option, Some, None, Result, Ok, IfSome, if◌then◌else◌, length, take, drop, min, refl, ap, ◌∙◌, arith, length-append}
-use Rattle.std.specs.Prelude.{codes, slice_index, ◌/◌}
-use Rattle.std.specs.Option.{option_map}
-use Rattle.std.specs.Int.{w64, from_be_bytes, to_be_bytes}
-use Rattle.std.proofs.lemmas.List.{drop_at, take_at}
-use Rattle.std.proofs.lemmas.Nat.{from_be_bytes-to_be_bytes_8}
-use Rattle.hex.specs.declared.error.FromHexError.{FromHexError}
-use Rattle.hex.specs.Hex.{IsBytes, decode_pairs, decode_sized, encode_lower, lower_digits}
-use Rattle.hex.proofs.HexLemmas.{decode_of-encode_lower, decode_sized-twice, length-encode_with}
-use Rattle.definitions.specs.Characters.{same_text}
-use Rattle.definitions.specs.DeckInput.{is_deck_name}
-use Rattle.deck_files.specs.declared.known_rows.Known.{Known}
-use Rattle.deck_files.specs.FileRows.{deck_named}
-use Rattle.deck_files.specs.KnownTexts.{IsWritable, bytes_if, digest_in, known_in, known_of, known_text, number_in, row_behind, row_in, row_line, row_of, version_text}
+use Rattle.std.{proofs.Common.{ℕ, zero, suc, ◌≡◌, ◌-◌, ◌*◌, ◌%◌, ◌<◌, ◌^◌, ◌==◌, List, ◌∷◌, ◌++◌, Bool, true, Option, Some, None, Result, Ok, IfSome, if◌then◌else◌, length, take, drop, min, refl, ap, ◌∙◌, arith, length-append}, specs.Prelude.{codes, slice_index, ◌/◌}, specs.Option.option_map, specs.Int.{w64, from_be_bytes, to_be_bytes}, proofs.lemmas.List.{drop_at, take_at}, proofs.lemmas.Nat.from_be_bytes-to_be_bytes_8}
+use Rattle.hex.{specs.declared.error.FromHexError.FromHexError, specs.Hex.{IsBytes, decode_pairs, decode_sized, encode_lower, lower_digits}, proofs.HexLemmas.{decode_of-encode_lower, decode_sized-twice, length-encode_with}}
+use Rattle.definitions.specs.{Characters.same_text, DeckInput.is_deck_name}
+use Rattle.deck_files.specs.{declared.known_rows.Known.Known, FileRows.deck_named, KnownTexts.{IsWritable, bytes_if, digest_in, known_in, known_of, known_text, number_in, row_behind, row_in, row_line, row_of, version_text}}
 
 -- what is left of a number by 256
 left : (n : ℕ) → n % 256 < 256

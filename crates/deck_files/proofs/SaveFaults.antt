@@ -1,17 +1,6 @@
 -- What a save that failed left of the deck's file.
-use Rattle.std.proofs.Common.{ℕ, ◌≡◌, ◌⊎◌, inl, inr, List, [], ◌∷◌, ◌++◌, Bool, true, false, Option, Some, refl, subst, is_some}
-use Rattle.deck_files.specs.declared.deck_shelf.SaveOver.{SaveOver}
-use Rattle.deck_files.specs.declared.deck_shelf.SaveOver.TheVariants.{Known}
-use Rattle.deck_files.specs.declared.deck_shelf.ShelfSaveFault.TheVariants.{FileExists}
-use Rattle.deck_files.specs.declared.deck_shelf.ShelfSaveFault.{ShelfSaveFault}
-use Rattle.deck_files.specs.declared.folders.Standing.{Standing}
-use Rattle.deck_files.specs.declared.folders.Standing.TheVariants.{Nothing, PlainFile}
-use Rattle.std.specs.Io.KnownBytes.{Appends}
-use Rattle.deck_files.specs.declared.file_sums.FileSum.{FileSum}
-use Rattle.deck_files.specs.Folders.{Place, deck_path, new_path, old_path}
-use Rattle.deck_files.specs.Steps.{Step, Answered, Look, Open, Make, Put, Remove, Found, Gave, Refused, TakesStep, TakesSteps, ChangesOnly}
-use Rattle.deck_files.specs.FolderSaves.{BarsWay, Compares, GivesWay, IsFaultOfFolder, IsFaultOfNew, IsNew, LeavesInPlace, MakesAnew, MakesWay, barred, filled, is_any, is_changed, is_free, is_given, is_known, linked, looked, put_in_place, refused_tries, untouched}
-use Rattle.deck_files.proofs.FolderSteps.{ChangeAmong-links, ChangeAmong-tries, ChangesAmong-asked, fault-of-new, only-join, only-more, takes-join}
+use Rattle.std.{proofs.Common.{ℕ, ◌≡◌, ◌⊎◌, inl, inr, List, [], ◌∷◌, ◌++◌, Bool, true, false, Option, Some, refl, subst, is_some}, specs.Io.KnownBytes.Appends}
+use Rattle.deck_files.{specs.declared.deck_shelf.SaveOver.SaveOver, specs.declared.deck_shelf.SaveOver.TheVariants.Known, specs.declared.deck_shelf.ShelfSaveFault.TheVariants.FileExists, specs.declared.deck_shelf.ShelfSaveFault.ShelfSaveFault, specs.declared.folders.Standing.Standing, specs.declared.folders.Standing.TheVariants.{Nothing, PlainFile}, specs.declared.file_sums.FileSum.FileSum, specs.Folders.{Place, deck_path, new_path, old_path}, specs.Steps.{Step, Answered, Look, Open, Make, Put, Remove, Found, Gave, Refused, TakesStep, TakesSteps, ChangesOnly}, specs.FolderSaves.{BarsWay, Compares, GivesWay, IsFaultOfFolder, IsFaultOfNew, IsNew, LeavesInPlace, MakesAnew, MakesWay, barred, filled, is_any, is_changed, is_free, is_given, is_known, linked, looked, put_in_place, refused_tries, untouched}, proofs.FolderSteps.{ChangeAmong-links, ChangeAmong-tries, ChangesAmong-asked, fault-of-new, only-join, only-more, takes-join}}
 
 module _ {F : Type 0} (has_done : F → List Step → Type 0) where
   -- what was found stands at the deck's path

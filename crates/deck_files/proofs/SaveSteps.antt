@@ -1,10 +1,5 @@
 -- The steps of saving cards: the lines of the first cards went out.
-use Rattle.std.proofs.Common.{ℕ, ◌≡◌, ◌+◌, ◌<◌, ◌≤◌, List, [], ◌∷◌, ◌++◌, Option, length, take, drop, get_or, refl, sym, ap, subst, ◌∙◌, arith, append-nil, length-append, take-append-drop}
-use Rattle.std.specs.Io.KnownBytes.{Appends}
-use Rattle.std.proofs.KnownBytes.{Appends-trans}
-use Rattle.std.proofs.lemmas.Grind.{flat_map-append}
-use Rattle.std.proofs.lemmas.List.{take_more, at_drop_more, take-append-le, take_at, drop_at}
-use Rattle.std.proofs.Math.Seq.{take-add}
+use Rattle.std.{proofs.Common.{ℕ, ◌≡◌, ◌+◌, ◌<◌, ◌≤◌, List, [], ◌∷◌, ◌++◌, Option, length, take, drop, get_or, refl, sym, ap, subst, ◌∙◌, arith, append-nil, length-append, take-append-drop}, specs.Io.KnownBytes.Appends, proofs.KnownBytes.Appends-trans, proofs.lemmas.Grind.flat_map-append, proofs.lemmas.List.{take_more, at_drop_more, take-append-le, take_at, drop_at}, proofs.Math.Seq.take-add}
 use Rattle.definitions.specs.Cards.{Card}
 use Rattle.deck_files.specs.DeckFiles.{line_of_card, file_of}
 

@@ -1,18 +1,7 @@
 -- What one call made of a shelf over a folder: the folder and who knows its files did as they did, and the rest stayed.
 use Rattle.std.proofs.Common.{ℕ, ◌≡◌, ◌⊎◌, inr, List, Option, Some, None, Err, refl, subst}
 use Rattle.definitions.specs.Cards.{Card}
-use Rattle.deck_files.specs.declared.deck_shelf.ShelfLoadFault.{ShelfLoadFault}
-use Rattle.deck_files.specs.declared.deck_shelf.ShelfSaveFault.{ShelfSaveFault}
-use Rattle.deck_files.specs.declared.file_sums.FileSum.{FileSum}
-use Rattle.deck_files.specs.declared.known_rows.Known.{Known}
-use Rattle.deck_files.specs.declared.save_turns.Turn.{Turn}
-use Rattle.deck_files.specs.FolderLists.{ListFails}
-use Rattle.deck_files.specs.FolderLoads.{LoadFails, LoadsFile}
-use Rattle.deck_files.specs.FolderShelves.{FolderShelf, ListsDecks, LoadsDeck, LoadsNoDeck, SavesDeck, SavesNoDeck, place_on}
-use Rattle.deck_files.specs.Folders.{Place, deck_path}
-use Rattle.deck_files.specs.Savings.{Saving}
-use Rattle.deck_files.specs.Steps.{Step}
-use Rattle.deck_files.specs.TurnSaves.{FailsInTurn, SavesInTurn}
+use Rattle.deck_files.specs.{declared.deck_shelf.ShelfLoadFault.ShelfLoadFault, declared.deck_shelf.ShelfSaveFault.ShelfSaveFault, declared.file_sums.FileSum.FileSum, declared.known_rows.Known.Known, declared.save_turns.Turn.Turn, FolderLists.ListFails, FolderLoads.{LoadFails, LoadsFile}, FolderShelves.{FolderShelf, ListsDecks, LoadsDeck, LoadsNoDeck, SavesDeck, SavesNoDeck, place_on}, Folders.{Place, deck_path}, Savings.Saving, Steps.Step, TurnSaves.{FailsInTurn, SavesInTurn}}
 
 module _ {F K : Type 0} (has_done : F → List Step → Type 0) (turns : K → List ℕ → ℕ → Turn → K → Type 0) (lacks : K → K → Type 0) (notes : K → List ℕ → Known → K → Type 0) where
   pub shelf-saves : (at : Place) (shelf old : FolderShelf F K) (saved : Saving) (next : F) (after : K) → shelf ≡ old → at ≡ place_on shelf saved.name →

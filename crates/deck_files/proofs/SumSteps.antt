@@ -1,12 +1,8 @@
 -- What is read of a file shows whether it has a sum, as all of it would.
-use Rattle.std.proofs.Common.{ℕ, ◌≡◌, ◌+◌, ◌-◌, ◌<◌, ◌≤◌, ◌^◌, ◌&&◌, ◌⊎◌, inl, inr, List, Bool, true, false, eqb, length, take, sym, ap, ◌∙◌, arith}
-use Rattle.std.proofs.lemmas.Bool.{cases_lt}
-use Rattle.std.proofs.lemmas.Bool.Decides.{eqb_tells}
-use Rattle.std.proofs.lemmas.List.{length-take-le, take_all}
+use Rattle.std.proofs.{Common.{ℕ, ◌≡◌, ◌+◌, ◌-◌, ◌<◌, ◌≤◌, ◌^◌, ◌&&◌, ◌⊎◌, inl, inr, List, Bool, true, false, eqb, length, take, sym, ap, ◌∙◌, arith}, lemmas.Bool.cases_lt, lemmas.Bool.Decides.eqb_tells, lemmas.List.{length-take-le, take_all}}
 use Rattle.sha2.specs.Sha256.{sha256}
 use Rattle.definitions.specs.Characters.{same_text}
-use Rattle.deck_files.specs.declared.file_sums.FileSum.{FileSum}
-use Rattle.deck_files.specs.FileSums.{has_just, is_same_sum, most_read, sum_of}
+use Rattle.deck_files.specs.{declared.file_sums.FileSum.FileSum, FileSums.{has_just, is_same_sum, most_read, sum_of}}
 
 differs : (a b : ℕ) → (a ≡ b → ⊥) → ((eqb a b ≡ true) × (a ≡ b)) ⊎ ((eqb a b ≡ false) × (a ≡ b → ⊥)) → eqb a b ≡ false
 differs a b other (inl same) = absurd (other same.1)

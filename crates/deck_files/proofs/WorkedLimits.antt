@@ -1,6 +1,5 @@
 -- Limits of the size of files, computed from the definitions.
-use Rattle.std.proofs.Common.{◌≡◌, Some, None, refl}
-use Rattle.std.specs.Prelude.{codes}
+use Rattle.std.{proofs.Common.{◌≡◌, Some, None, refl}, specs.Prelude.codes}
 use Rattle.deck_files.specs.SizeLimits.{limit_in, number_at}
 
 limit_of_a_shell : limit_in (codes "Limit\nMax cpu time\nMax file size             1024                 unlimited            bytes     \n") ≡ Some 1024

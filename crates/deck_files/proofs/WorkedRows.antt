@@ -1,9 +1,6 @@
 -- Names of files and rows of decks, computed from the definitions.
-use Rattle.std.proofs.Common.{◌≡◌, ℕ, List, [], ◌∷◌, true, false, Some, None, refl}
-use Rattle.std.specs.Prelude.{codes}
-use Rattle.deck_files.specs.declared.file_rows.FileRow.{FileRow}
-use Rattle.deck_files.specs.FileRows.{deck_in, is_before, with_row}
-use Rattle.deck_files.specs.NewNames.{is_of_a_save}
+use Rattle.std.{proofs.Common.{◌≡◌, ℕ, List, [], ◌∷◌, true, false, Some, None, refl}, specs.Prelude.codes}
+use Rattle.deck_files.specs.{declared.file_rows.FileRow.FileRow, FileRows.{deck_in, is_before, with_row}, NewNames.is_of_a_save}
 
 file_of_a_deck : deck_in (codes "M.DECK") ≡ Some (codes "M")
 file_of_a_deck = refl

@@ -1,11 +1,8 @@
 -- Files of cards (ours): a line for each card, at most 20,000; the first fault in line order counts.
 use Rattle.std.specs.Prelude.{ℕ, ◌+◌, List, [], ◌∷◌, ◌++◌, Result, Ok, Err, nat_le, flat_map, if◌then◌else◌}
-use Rattle.definitions.specs.Cards.{Card, CardRead, IsCard, TooWide, BadCharacter, card_of}
-use Rattle.definitions.specs.InputLines.{InputLine, Line, TooLong, Cut, lines_of}
-use Rattle.definitions.specs.DeckInput.{most_cards}
+use Rattle.definitions.specs.{Cards.{Card, CardRead, IsCard, TooWide, BadCharacter, card_of}, InputLines.{InputLine, Line, TooLong, Cut, lines_of}, DeckInput.most_cards}
 use Rattle.cards.specs.declared.card.CardFault.TheVariants as card
-use Rattle.deck_files.specs.declared.load_fault.LoadFault.{LoadFault}
-use Rattle.deck_files.specs.declared.load_fault.LoadFault.TheVariants.{BadLine, LastLineCut, DeckFull}
+use Rattle.deck_files.specs.declared.load_fault.LoadFault.{LoadFault, TheVariants.{BadLine, LastLineCut, DeckFull}}
 
 -- the card of a line with this number, or its fault; one card too many is one
 abbrev pub card_at : ℕ → CardRead → Result Card LoadFault

@@ -1,8 +1,7 @@
 -- The texts of faults in files (ours).
 use Rattle.std.specs.Prelude.{ℕ, List, ◌++◌, codes, decimal}
 use Rattle.cards.specs.CardReads.{card_fault_text}
-use Rattle.deck_files.specs.declared.load_fault.LoadFault.{LoadFault}
-use Rattle.deck_files.specs.declared.load_fault.LoadFault.TheVariants.{ReadFault, BadLine, LastLineCut, DeckFull, OutOfMemory}
+use Rattle.deck_files.specs.declared.load_fault.LoadFault.{LoadFault, TheVariants.{ReadFault, BadLine, LastLineCut, DeckFull, OutOfMemory}}
 
 -- the name, and the line and the fault of its card, each after one blank
 abbrev pub load_fault_text : LoadFault → List ℕ

@@ -1,11 +1,7 @@
 -- The rows of the files of decks, in the order of their names, byte by byte (ours).
-use Rattle.std.specs.Prelude.{ℕ, ◌-◌, Bool, List, Option, Some, None, codes, length, take, drop, insert, position, if◌then◌else◌}
-use Rattle.std.specs.Ordering.{is_lt, nat_cmp}
-use Rattle.std.specs.Cmp.Lexicographic.{slice_cmp}
-use Rattle.definitions.specs.Characters.{same_text}
-use Rattle.definitions.specs.DeckInput.{is_deck_name}
-use Rattle.deck_files.specs.declared.file_rows.DeckEntry.{DeckEntry}
-use Rattle.deck_files.specs.declared.file_rows.FileRow.{FileRow}
+use Rattle.std.specs.{Prelude.{ℕ, ◌-◌, Bool, List, Option, Some, None, codes, length, take, drop, insert, position, if◌then◌else◌}, Ordering.{is_lt, nat_cmp}, Cmp.Lexicographic.slice_cmp}
+use Rattle.definitions.specs.{Characters.same_text, DeckInput.is_deck_name}
+use Rattle.deck_files.specs.declared.file_rows.{DeckEntry.DeckEntry, FileRow.FileRow}
 
 -- how many files of decks are listed at most
 abbrev pub most_files : ℕ

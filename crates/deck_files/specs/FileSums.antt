@@ -1,10 +1,8 @@
 -- What a file has, known by its length and its digest (FIPS 180-4), and how much is read of a file to compare it (ours).
 use Rattle.std.specs.Prelude.{ℕ, ◌≡◌, ◌+◌, ◌-◌, ◌^◌, ◌==◌, ◌&&◌, Bool, List, length, min, take}
 use Rattle.definitions.specs.Characters.{same_text}
-use Rattle.sha2.specs.Sha256.{sha256}
-use Rattle.sha2.specs.Hashers.{Holds256}
-use Rattle.deck_files.specs.declared.file_sums.FileSum.{FileSum}
-use Rattle.deck_files.specs.declared.file_sums.Summing.{Summing}
+use Rattle.sha2.specs.{Sha256.sha256, Hashers.Holds256}
+use Rattle.deck_files.specs.declared.file_sums.{FileSum.FileSum, Summing.Summing}
 
 -- the sum of a file that has these bytes
 abbrev pub sum_of : List ℕ → FileSum

@@ -1,16 +1,7 @@
 -- FILES of a folder (ours): the folder lists which decks have files, and each of these files is read.
 use Rattle.std.specs.Prelude.{ℕ, ◌≡◌, ◌⊎◌, List, [], ◌∷◌, ◌++◌, Option, Some, None, length}
 use Rattle.definitions.specs.Cards.{Card}
-use Rattle.deck_files.specs.declared.load_fault.LoadFault.TheVariants.{OutOfMemory}
-use Rattle.deck_files.specs.declared.deck_shelf.ShelfLoadFault.{ShelfLoadFault}
-use Rattle.deck_files.specs.declared.deck_shelf.ShelfLoadFault.TheVariants.{BadFile}
-use Rattle.deck_files.specs.declared.file_rows.DeckEntry.{DeckEntry}
-use Rattle.deck_files.specs.declared.file_rows.FileRow.{FileRow}
-use Rattle.deck_files.specs.declared.file_sums.FileSum.{FileSum}
-use Rattle.deck_files.specs.FileRows.{row_of, with_row}
-use Rattle.deck_files.specs.Folders.{Place, place, deck_path, folder_path}
-use Rattle.deck_files.specs.FolderLoads.{IsUnopened, LoadsFile, LoadFails}
-use Rattle.deck_files.specs.Steps.{Step, Decks, Refused, Holds, TakesStep}
+use Rattle.deck_files.specs.{declared.load_fault.LoadFault.TheVariants.OutOfMemory, declared.deck_shelf.ShelfLoadFault.ShelfLoadFault, declared.deck_shelf.ShelfLoadFault.TheVariants.BadFile, declared.file_rows.DeckEntry.DeckEntry, declared.file_rows.FileRow.FileRow, declared.file_sums.FileSum.FileSum, FileRows.{row_of, with_row}, Folders.{Place, place, deck_path, folder_path}, FolderLoads.{IsUnopened, LoadsFile, LoadFails}, Steps.{Step, Decks, Refused, Holds, TakesStep}}
 
 -- no memory was left
 abbrev pub is_lacking : ShelfLoadFault

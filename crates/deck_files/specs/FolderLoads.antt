@@ -1,15 +1,7 @@
 -- LOAD from a folder (ours): the deck's file is looked at, opened where it is a plain file, and read. No link is followed.
 use Rattle.std.specs.Prelude.{ℕ, ◌≡◌, ◌⊎◌, List, [], ◌∷◌, Option, IsUtf8}
 use Rattle.definitions.specs.Cards.{Card}
-use Rattle.deck_files.specs.declared.load_fault.LoadFault.{LoadFault}
-use Rattle.deck_files.specs.declared.load_fault.LoadFault.TheVariants.{OutOfMemory}
-use Rattle.deck_files.specs.declared.deck_shelf.ShelfLoadFault.{ShelfLoadFault}
-use Rattle.deck_files.specs.declared.deck_shelf.ShelfLoadFault.TheVariants.{CannotOpen, BadFile}
-use Rattle.deck_files.specs.declared.folders.Standing.TheVariants.{Nothing, PlainFile, Other}
-use Rattle.deck_files.specs.declared.file_sums.FileSum.{FileSum}
-use Rattle.deck_files.specs.Loads.{LoadsFault, LoadsSummed}
-use Rattle.deck_files.specs.Folders.{Place, deck_path}
-use Rattle.deck_files.specs.Steps.{Step, Look, Open, Refused, Found, Gave, TakesStep, TakesSteps}
+use Rattle.deck_files.specs.{declared.load_fault.LoadFault.LoadFault, declared.load_fault.LoadFault.TheVariants.OutOfMemory, declared.deck_shelf.ShelfLoadFault.ShelfLoadFault, declared.deck_shelf.ShelfLoadFault.TheVariants.{CannotOpen, BadFile}, declared.folders.Standing.TheVariants.{Nothing, PlainFile, Other}, declared.file_sums.FileSum.FileSum, Loads.{LoadsFault, LoadsSummed}, Folders.{Place, deck_path}, Steps.{Step, Look, Open, Refused, Found, Gave, TakesStep, TakesSteps}}
 
 -- a plain file was opened, whose reader has these bytes left
 abbrev pub opened_steps : List ℕ → Option (List ℕ) → List Step

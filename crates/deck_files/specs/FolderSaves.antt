@@ -1,18 +1,6 @@
 -- SAVE in a folder (ours): what stands at the deck's path is looked at, and read where it is to be what is known; the text goes to a new file with owner and mode of the old one, and is kept there; where any file may be written over, what stands there gets a second name; the new file gets the deck's path; what stood there is renamed to NAME.OLD; and the folder is kept.
-use Rattle.std.specs.Prelude.{ℕ, zero, suc, ◌≡◌, ◌<◌, ⊤, ◌⊎◌, List, [], ◌∷◌, ◌++◌, Bool, true, false, Option, Some, None, IfSome, IsTrue, length, is_some, string_bytes}
-use Rattle.std.specs.Option.{option_map}
-use Rattle.std.specs.Io.KnownBytes.{Appends}
-use Rattle.deck_files.specs.declared.deck_shelf.SaveOver.{SaveOver}
-use Rattle.deck_files.specs.declared.deck_shelf.SaveOver.TheVariants.{Known, Any}
-use Rattle.deck_files.specs.declared.deck_shelf.ShelfSaveFault.{ShelfSaveFault}
-use Rattle.deck_files.specs.declared.deck_shelf.ShelfSaveFault.TheVariants.{CannotOpen, FileExists, WriteFault, OutOfMemory}
-use Rattle.deck_files.specs.declared.second_names.Aside.{Aside}
-use Rattle.deck_files.specs.declared.folders.Standing.{Standing}
-use Rattle.deck_files.specs.declared.folders.Standing.TheVariants.{Nothing, PlainFile, Other}
-use Rattle.deck_files.specs.declared.file_sums.FileSum.{FileSum}
-use Rattle.deck_files.specs.FileSums.{has_just}
-use Rattle.deck_files.specs.Folders.{Place, deck_path, old_path, new_path, folder_path}
-use Rattle.deck_files.specs.Steps.{Step, Answered, Look, Open, Make, Keep, TakeAfter, Put, Rename, Link, KeepFolder, Refused, Done, Found, Gave, TakesStep, TakesSteps, ChangesOnly}
+use Rattle.std.specs.{Prelude.{ℕ, zero, suc, ◌≡◌, ◌<◌, ⊤, ◌⊎◌, List, [], ◌∷◌, ◌++◌, Bool, true, false, Option, Some, None, IfSome, IsTrue, length, is_some, string_bytes}, Option.option_map, Io.KnownBytes.Appends}
+use Rattle.deck_files.specs.{declared.deck_shelf.SaveOver.SaveOver, declared.deck_shelf.SaveOver.TheVariants.{Known, Any}, declared.deck_shelf.ShelfSaveFault.ShelfSaveFault, declared.deck_shelf.ShelfSaveFault.TheVariants.{CannotOpen, FileExists, WriteFault, OutOfMemory}, declared.second_names.Aside.Aside, declared.folders.Standing.Standing, declared.folders.Standing.TheVariants.{Nothing, PlainFile, Other}, declared.file_sums.FileSum.FileSum, FileSums.has_just, Folders.{Place, deck_path, old_path, new_path, folder_path}, Steps.{Step, Answered, Look, Open, Make, Keep, TakeAfter, Put, Rename, Link, KeepFolder, Refused, Done, Found, Gave, TakesStep, TakesSteps, ChangesOnly}}
 
 -- whether another file may have the name NAME.OLD: where nothing has it, or a plain file
 abbrev pub may_be_old : Standing → Bool

@@ -1,20 +1,7 @@
 -- What contracts see of a shelf over a folder, and what one load or save makes of it (ours).
 use Rattle.std.specs.Prelude.{ℕ, ◌≡◌, ◌⊎◌, Bool, List, Option, Some, None, Result, Ok, Err, IfSome, IsUtf8, is_some}
 use Rattle.definitions.specs.Cards.{Card}
-use Rattle.deck_files.specs.declared.deck_shelf.ShelfLoadFault.{ShelfLoadFault}
-use Rattle.deck_files.specs.declared.deck_shelf.ShelfSaveFault.{ShelfSaveFault}
-use Rattle.deck_files.specs.declared.deck_shelf.ShelfSaveFault.TheVariants.{CannotOpen}
-use Rattle.deck_files.specs.declared.file_sums.FileSum.{FileSum}
-use Rattle.deck_files.specs.declared.known_rows.Known.{Known}
-use Rattle.deck_files.specs.declared.save_turns.Turn.{Turn}
-use Rattle.deck_files.specs.Folders.{Place, place, deck_path}
-use Rattle.deck_files.specs.FolderLoads.{LoadsFile, LoadFails}
-use Rattle.deck_files.specs.TurnSaves.{FailsInTurn, SavesInTurn}
-use Rattle.deck_files.specs.FolderLists.{ListsFiles, ListFails}
-use Rattle.deck_files.specs.declared.file_rows.FileRow.{FileRow}
-use Rattle.deck_files.specs.SavedVersions.{SavedVersion, saved_version}
-use Rattle.deck_files.specs.Savings.{Saving}
-use Rattle.deck_files.specs.Steps.{Step}
+use Rattle.deck_files.specs.{declared.deck_shelf.ShelfLoadFault.ShelfLoadFault, declared.deck_shelf.ShelfSaveFault.ShelfSaveFault, declared.deck_shelf.ShelfSaveFault.TheVariants.CannotOpen, declared.file_sums.FileSum.FileSum, declared.known_rows.Known.Known, declared.save_turns.Turn.Turn, Folders.{Place, place, deck_path}, FolderLoads.{LoadsFile, LoadFails}, TurnSaves.{FailsInTurn, SavesInTurn}, FolderLists.{ListsFiles, ListFails}, declared.file_rows.FileRow.FileRow, SavedVersions.{SavedVersion, saved_version}, Savings.Saving, Steps.Step}
 
 -- the folder, its text, the number of the shelf, and who knows the files; the version that was known of the deck loaded last before its file was read, and what that file had, none where the last load failed
 pub record FolderShelf (F K : Type 0) : Type 0 where

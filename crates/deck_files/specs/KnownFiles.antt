@@ -1,10 +1,6 @@
 -- The files of a folder that a service knows, since it saved them, or its desk took what it loaded (ours).
 use Rattle.std.specs.Prelude.{ℕ, ◌≡◌, ◌<◌, ◌==◌, Bool, List, Option, Some, None, false, true, nat_le, nat_lt, is_some, if◌then◌else◌}
-use Rattle.deck_files.specs.declared.file_sums.FileSum.{FileSum}
-use Rattle.deck_files.specs.declared.known_rows.Known.{Known}
-use Rattle.deck_files.specs.FileSums.{sum_of}
-use Rattle.deck_files.specs.Files.{Named, named, with_named}
-use Rattle.deck_files.specs.SavedVersions.{SavedVersion, saved_version}
+use Rattle.deck_files.specs.{declared.file_sums.FileSum.FileSum, declared.known_rows.Known.Known, FileSums.sum_of, Files.{Named, named, with_named}, SavedVersions.{SavedVersion, saved_version}}
 
 -- the names of the decks that have a place, each with what its file has and the newest version that was saved, or that the desk gave to what was loaded, and none where its file is not known; and how many more surely find memory
 pub record KnownRows : Type 0 where

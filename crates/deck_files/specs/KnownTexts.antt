@@ -1,15 +1,8 @@
 -- What is known of the files of a folder, as text (ours): a line for each file, with the deck's name, a blank, and 96 hexadecimal digits: the digest, the length, and the version, or hyphens where none is known.
-use Rattle.std.specs.Prelude.{ℕ, ◌≡◌, ◌<◌, ◌-◌, ◌^◌, ◌==◌, IfSome, List, [], ◌∷◌, ◌++◌, Option, Some, None, Result, Ok, Err, codes, drop, flat_map, length, min, take, if◌then◌else◌}
-use Rattle.std.specs.Option.{option_map}
-use Rattle.std.specs.Int.{w64, from_be_bytes, to_be_bytes}
+use Rattle.std.specs.{Prelude.{ℕ, ◌≡◌, ◌<◌, ◌-◌, ◌^◌, ◌==◌, IfSome, List, [], ◌∷◌, ◌++◌, Option, Some, None, Result, Ok, Err, codes, drop, flat_map, length, min, take, if◌then◌else◌}, Option.option_map, Int.{w64, from_be_bytes, to_be_bytes}}
 use Rattle.hex.specs.Hex.{IsBytes, decode_sized, encode_lower}
-use Rattle.definitions.specs.Characters.{same_text}
-use Rattle.definitions.specs.InputLines.{InputLine, Line, TooLong, Cut, lines_of}
-use Rattle.deck_files.specs.declared.known_rows.Known.{Known}
-use Rattle.deck_files.specs.declared.known_texts.KnownRow.{KnownRow}
-use Rattle.deck_files.specs.FileRows.{deck_named}
-use Rattle.deck_files.specs.Files.{Named, with_named}
-use Rattle.deck_files.specs.KnownFiles.{known_up_to}
+use Rattle.definitions.specs.{Characters.same_text, InputLines.{InputLine, Line, TooLong, Cut, lines_of}}
+use Rattle.deck_files.specs.{declared.known_rows.Known.Known, declared.known_texts.KnownRow.KnownRow, FileRows.deck_named, Files.{Named, with_named}, KnownFiles.known_up_to}
 
 -- ---- writing
 

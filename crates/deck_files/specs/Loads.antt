@@ -1,14 +1,8 @@
 -- What loading a file takes from its reader (ours).
-use Rattle.std.specs.Prelude.{ℕ, ◌≡◌, ◌≤◌, ⊤, List, ◌++◌, Option, Result, Ok, Err, IsOk, length}
-use Rattle.std.specs.Io.KnownBytes.{Consumes, IsAtEnd}
-use Rattle.definitions.specs.Cards.{Card}
-use Rattle.definitions.specs.InputLines.{lines_of}
+use Rattle.std.specs.{Prelude.{ℕ, ◌≡◌, ◌≤◌, ⊤, List, ◌++◌, Option, Result, Ok, Err, IsOk, length}, Io.KnownBytes.{Consumes, IsAtEnd}}
+use Rattle.definitions.specs.{Cards.Card, InputLines.lines_of}
 use Rattle.text_ports.specs.Faults.{count_up}
-use Rattle.deck_files.specs.declared.load_fault.LoadFault.{LoadFault}
-use Rattle.deck_files.specs.declared.load_fault.LoadFault.TheVariants.{ReadFault, BadLine, LastLineCut, DeckFull, OutOfMemory}
-use Rattle.deck_files.specs.DeckFiles.{cards_of_file}
-use Rattle.deck_files.specs.FileSums.{sum_of}
-use Rattle.deck_files.specs.declared.file_sums.FileSum.{FileSum}
+use Rattle.deck_files.specs.{declared.load_fault.LoadFault.LoadFault, declared.load_fault.LoadFault.TheVariants.{ReadFault, BadLine, LastLineCut, DeckFull, OutOfMemory}, DeckFiles.cards_of_file, FileSums.sum_of, declared.file_sums.FileSum.FileSum}
 
 -- the reader gave a whole file, which is this
 abbrev pub GaveFile : Option (List ℕ) → Option (List ℕ) → Result (List Card) LoadFault → Type 0

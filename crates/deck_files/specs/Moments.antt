@@ -1,6 +1,5 @@
 -- Moments of time as text (ISO 8601): year, month, day, hour, minute and second in UTC.
-use Rattle.std.specs.Prelude.{ℕ, ◌==◌, ◌&&◌, List, length, Option, Some, None, Bool, codes, if◌then◌else◌}
-use Rattle.std.specs.List.{list_all, zip}
+use Rattle.std.specs.{Prelude.{ℕ, ◌==◌, ◌&&◌, List, length, Option, Some, None, Bool, codes, if◌then◌else◌}, List.{list_all, zip}}
 use Rattle.definitions.specs.Characters.{is_digit, zero_digit}
 
 -- the form of a moment: a digit stands for any digit

@@ -1,6 +1,5 @@
 -- The names of files that a save writes first (ours): the deck's, .NEW, and two numbers with a point between.
-use Rattle.std.specs.Prelude.{ℕ, ◌==◌, ◌&&◌, Bool, List, codes, drop, is_some, length, min, nat_lt, position, take}
-use Rattle.std.specs.List.{list_all}
+use Rattle.std.specs.{Prelude.{ℕ, ◌==◌, ◌&&◌, Bool, List, codes, drop, is_some, length, min, nat_lt, position, take}, List.list_all}
 use Rattle.definitions.specs.Characters.{is_digit, same_text}
 use Rattle.deck_files.specs.FileRows.{deck_named, place_or_end}
 

@@ -1,12 +1,6 @@
 -- What a save may do, by what is known of the files of a folder (ours).
 use Rattle.std.specs.Prelude.{ℕ, ◌≡◌, ⊤, List, Option, Some, None}
-use Rattle.deck_files.specs.declared.file_sums.FileSum.{FileSum}
-use Rattle.deck_files.specs.declared.known_rows.Known.{Known}
-use Rattle.deck_files.specs.declared.save_turns.Turn.{Turn}
-use Rattle.deck_files.specs.declared.save_turns.Turn.TheVariants.{Newer, Older}
-use Rattle.deck_files.specs.Files.{Named}
-use Rattle.deck_files.specs.KnownFiles.{IsNewer, file_known, newer_saved, sum_at, version_known}
-use Rattle.deck_files.specs.SavedVersions.{SavedVersion}
+use Rattle.deck_files.specs.{declared.file_sums.FileSum.FileSum, declared.known_rows.Known.Known, declared.save_turns.Turn.Turn, declared.save_turns.Turn.TheVariants.{Newer, Older}, Files.Named, KnownFiles.{IsNewer, file_known, newer_saved, sum_at, version_known}, SavedVersions.SavedVersion}
 
 -- by the newer version that was saved, if one was, and by what is known of the file
 abbrev pub turn_behind : Option SavedVersion → Option FileSum → Turn

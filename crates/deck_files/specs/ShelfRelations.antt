@@ -1,9 +1,6 @@
 -- What the calls of a shelf make of it, whichever shelf it is (ours): each relation has the shelf before, what is asked, what is answered, and the shelf after.
 use Rattle.std.specs.Prelude.{ℕ, Bool, List, Result}
-use Rattle.deck_files.specs.Savings.{Saving}
-use Rattle.deck_files.specs.declared.deck_shelf.ShelfLoadFault.{ShelfLoadFault}
-use Rattle.deck_files.specs.declared.deck_shelf.ShelfSaveFault.{ShelfSaveFault}
-use Rattle.deck_files.specs.declared.file_rows.FileRow.{FileRow}
+use Rattle.deck_files.specs.{Savings.Saving, declared.deck_shelf.ShelfLoadFault.ShelfLoadFault, declared.deck_shelf.ShelfSaveFault.ShelfSaveFault, declared.file_rows.FileRow.FileRow}
 
 pub record ShelfRelations (S : Type 0) : Type 1 where
   -- the name, and the cards

@@ -1,8 +1,6 @@
 -- The limit of the size of files in the system's table of limits: its third line, whose number stands behind 26 columns (Linux).
-use Rattle.std.specs.Prelude.{ℕ, ◌+◌, ◌==◌, ◌^◌, List, [], Option, Some, None, codes, length, min, take, drop, position, nat_lt, if◌then◌else◌}
-use Rattle.std.specs.List.{prefix_len}
-use Rattle.definitions.specs.Characters.{is_digit, same_text}
-use Rattle.definitions.specs.Numerals.{number_of}
+use Rattle.std.specs.{Prelude.{ℕ, ◌+◌, ◌==◌, ◌^◌, List, [], Option, Some, None, codes, length, min, take, drop, position, nat_lt, if◌then◌else◌}, List.prefix_len}
+use Rattle.definitions.specs.{Characters.{is_digit, same_text}, Numerals.number_of}
 
 -- the number that a text begins with, or 2^60 where it is greater
 abbrev pub number_at : List ℕ → Option ℕ

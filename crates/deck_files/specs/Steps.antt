@@ -1,8 +1,6 @@
 -- What a shelf asks of a folder, step by step, and what the folder answers (ours).
-use Rattle.std.specs.Prelude.{ℕ, ⊤, List, [], ◌∷◌, ◌++◌, Option, Result, Ok, Err}
-use Rattle.std.specs.Global.{Vec}
-use Rattle.deck_files.specs.declared.folders.Standing.{Standing}
-use Rattle.deck_files.specs.declared.file_rows.DeckEntry.{DeckEntry}
+use Rattle.std.specs.{Prelude.{ℕ, ⊤, List, [], ◌∷◌, ◌++◌, Option, Result, Ok, Err}, Global.Vec}
+use Rattle.deck_files.specs.declared.{folders.Standing.Standing, file_rows.DeckEntry.DeckEntry}
 
 -- what is asked, each with its paths: what stands there, to open a file, to make one, to keep what a new file's writer has, to give the new file owner and mode of another or the path of another, a file a new path, a second one, to take it away, to keep which files the folder has, and which decks have files in it
 pub data Asked : Type 0 where

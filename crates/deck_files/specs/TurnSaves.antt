@@ -1,18 +1,6 @@
 -- SAVE of a deck among saves of others (ours): where a newer version was saved, nothing is written; else the file is made anew, by what is known of the one that is there, and what it has is noted once it has its place.
 use Rattle.std.specs.Prelude.{ℕ, ◌≡◌, ◌⊎◌, List, Option}
-use Rattle.deck_files.specs.declared.deck_shelf.ShelfSaveFault.{ShelfSaveFault}
-use Rattle.deck_files.specs.declared.deck_shelf.ShelfSaveFault.TheVariants.{OutOfMemory}
-use Rattle.deck_files.specs.declared.file_sums.FileSum.{FileSum}
-use Rattle.deck_files.specs.declared.known_rows.Known.{Known}
-use Rattle.deck_files.specs.declared.save_turns.Turn.{Turn}
-use Rattle.deck_files.specs.declared.save_turns.Turn.TheVariants.{Newer, Older}
-use Rattle.deck_files.specs.DeckFiles.{file_of}
-use Rattle.deck_files.specs.FolderSaves.{IsUnkept, LeavesInPlace, SavesSo}
-use Rattle.deck_files.specs.Folders.{Place}
-use Rattle.deck_files.specs.KnownFiles.{IsNewer, known_as}
-use Rattle.deck_files.specs.SavedVersions.{SavedVersion}
-use Rattle.deck_files.specs.Savings.{Saving}
-use Rattle.deck_files.specs.Steps.{Step, Done}
+use Rattle.deck_files.specs.{declared.deck_shelf.ShelfSaveFault.ShelfSaveFault, declared.deck_shelf.ShelfSaveFault.TheVariants.OutOfMemory, declared.file_sums.FileSum.FileSum, declared.known_rows.Known.Known, declared.save_turns.Turn.Turn, declared.save_turns.Turn.TheVariants.{Newer, Older}, DeckFiles.file_of, FolderSaves.{IsUnkept, LeavesInPlace, SavesSo}, Folders.Place, KnownFiles.{IsNewer, known_as}, SavedVersions.SavedVersion, Savings.Saving, Steps.{Step, Done}}
 
 module _ {K : Type 0} (turns : K → List ℕ → ℕ → Turn → K → Type 0) (lacks : K → K → Type 0) (notes : K → List ℕ → Known → K → Type 0) {F : Type 0} (has_done : F → List Step → Type 0) where
   -- it was noted what the deck's file has now

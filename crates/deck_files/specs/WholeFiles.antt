@@ -1,6 +1,5 @@
 -- A file that is written whole (ours): another one is written first, and kept; then it gets the path of the old one, in whose place it stands; and the folder is kept.
-use Rattle.std.specs.Prelude.{ℕ, List, [], ◌∷◌, ◌++◌, Option}
-use Rattle.std.specs.Io.KnownBytes.{Appends}
+use Rattle.std.specs.{Prelude.{ℕ, List, [], ◌∷◌, ◌++◌, Option}, Io.KnownBytes.Appends}
 use Rattle.deck_files.specs.Steps.{Step, Answered, Make, Keep, Put, Remove, KeepFolder, Done, Gave, TakesSteps}
 
 -- the new file is kept with what its writer has, and has the path

@@ -1,33 +1,11 @@
 -- Whether an object stores a word beyond its memory, by its lines and its literals.
-use Rattle.std.proofs.Common.{ℕ, zero, suc, ◌≡◌, ◌+◌, ◌≤◌, Bool, true, false, not, ◌&&◌, ◌||◌, cond, List, [], ◌∷◌, Option, Some, None, length, take, drop, refl, sym, ap, ap₂, ◌∙◌, arith}
-use Rattle.std.specs.Prelude.{map, nat_lt, nat_le, filter, flat_map, reverse, slice_get}
-use Rattle.std.specs.List.{list_any}
-use Rattle.std.proofs.lemmas.List.{length-drop, reverse-append}
-use Rattle.std.proofs.lemmas.List.Folds.{list_any-append}
-use Rattle.std.proofs.lemmas.Bool.Decides.{nat_tests}
-use Rattle.definitions.specs.Blocks.{is_common, literals_block}
-use Rattle.definitions.specs.Characters.{same_text}
-use Rattle.definitions.specs.Cards.{Card}
-use Rattle.definitions.specs.Kinds.{memory_end}
-use Rattle.definitions.specs.Lengths.{BlockRow}
-use Rattle.definitions.specs.Layout.{addressed, block_words, has_beyond, is_beyond, literal_stored}
-use Rattle.definitions.specs.Objects.{Object}
-use Rattle.definitions.specs.StatementItems.{Item}
-use Rattle.definitions.specs.Words.{Coded, Linking, StoredWord, stored_words}
-use Rattle.definitions.specs.declared.deck_kind.DeckKind.{DeckKind}
+use Rattle.std.{proofs.Common.{ℕ, zero, suc, ◌≡◌, ◌+◌, ◌≤◌, Bool, true, false, not, ◌&&◌, ◌||◌, cond, List, [], ◌∷◌, Option, Some, None, length, take, drop, refl, sym, ap, ap₂, ◌∙◌, arith}, specs.Prelude.{map, nat_lt, nat_le, filter, flat_map, reverse, slice_get}, specs.List.list_any, proofs.lemmas.List.{length-drop, reverse-append}, proofs.lemmas.List.Folds.list_any-append, proofs.lemmas.Bool.Decides.nat_tests}
+use Rattle.definitions.specs.{Blocks.{is_common, literals_block}, Characters.same_text, Cards.Card, Kinds.memory_end, Lengths.BlockRow, Layout.{addressed, block_words, has_beyond, is_beyond, literal_stored}, Objects.Object, StatementItems.Item, Words.{Coded, Linking, StoredWord, stored_words}, declared.deck_kind.DeckKind.DeckKind}
 use Rattle.statement_coder.specs.Joins.Items.{item_as}
 use Rattle.statement_coder.specs.declared.items.Item as code
-use Rattle.deck_objects.specs.Joins.CodedLines.{AreCoded, IsCoded, IsNamed}
-use Rattle.deck_objects.specs.Joins.LineItems.{AreBitsOf, AreKept, kept_from, kept_items}
-use Rattle.deck_objects.specs.Joins.PartsOf.{ArePartsOf}
-use Rattle.deck_objects.specs.declared.lines.CodedLine.{CodedLine}
-use Rattle.deck_objects.specs.declared.lines.Line.{Line}
-use Rattle.deck_objects.specs.declared.lines.LineFields.{LineFields}
+use Rattle.deck_objects.specs.{Joins.CodedLines.{AreCoded, IsCoded, IsNamed}, Joins.LineItems.{AreBitsOf, AreKept, kept_from, kept_items}, Joins.PartsOf.ArePartsOf, declared.lines.CodedLine.CodedLine, declared.lines.Line.Line, declared.lines.LineFields.LineFields, declared.object.ObjectParts.ObjectParts}
 use Rattle.deck_objects.specs.declared.lines.LineFields.TheVariants as fields
-use Rattle.deck_objects.specs.declared.object.ObjectParts.{ObjectParts}
-use Rattle.deck_linker.specs.Joins.Beyond.{coded_beyond, has_items, keeps_fields, literals_beyond, stores_beyond}
-use Rattle.deck_linker.proofs.TestLaws.{lt-true}
-use Rattle.deck_linker.proofs.WordLaws.{any-block, list_any-same}
+use Rattle.deck_linker.{specs.Joins.Beyond.{coded_beyond, has_items, keeps_fields, literals_beyond, stores_beyond}, proofs.TestLaws.lt-true, proofs.WordLaws.{any-block, list_any-same}}
 
 -- whether the block at an index has this name
 abbrev pub is_named_at : List BlockRow → ℕ → List ℕ → Bool

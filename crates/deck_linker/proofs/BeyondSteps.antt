@@ -1,26 +1,10 @@
 -- Whether an object stores a word beyond its memory, asked line by line in place of block by block.
-use Rattle.std.proofs.Common.{ℕ, zero, suc, ◌≡◌, Bool, true, false, not, ◌&&◌, ◌||◌, List, [], ◌∷◌, Option, Some, None, length, map, refl, sym, ap, ap₂, subst, ◌∙◌}
-use Rattle.std.specs.Prelude.{slice_get}
-use Rattle.std.specs.List.{AllByRecursion, list_any}
-use Rattle.std.proofs.lemmas.Map.Keys.{IsDistinct-head, IsDistinct-tail}
-use Rattle.definitions.specs.Blocks.{is_common, literals_block}
-use Rattle.definitions.specs.Cards.{Card}
-use Rattle.definitions.specs.Characters.{same_text}
-use Rattle.definitions.specs.Lengths.{BlockRow}
-use Rattle.definitions.specs.Layout.{has_beyond}
-use Rattle.definitions.specs.Objects.{Object}
-use Rattle.definitions.specs.declared.deck_kind.DeckKind.{DeckKind}
-use Rattle.definitions.proofs.TextLaws.{same_text-refl}
-use Rattle.deck_objects.specs.Joins.PartsOf.{ArePartsOf}
-use Rattle.deck_objects.specs.declared.lines.CodedLine.{CodedLine}
-use Rattle.deck_objects.specs.declared.lines.Line.{Line}
-use Rattle.deck_objects.specs.declared.object.ObjectParts.{ObjectParts}
-use Rattle.deck_listing.specs.Joins.Walking.{DoNamesDiffer}
-use Rattle.deck_listing.proofs.BlockSteps.{behind_other}
-use Rattle.deck_linker.specs.Joins.Beyond.{is_plain, keeps_fields, line_beyond, listed_beyond, literals_beyond, literals_row_beyond, parts_beyond, stores_beyond}
+use Rattle.std.{proofs.Common.{ℕ, zero, suc, ◌≡◌, Bool, true, false, not, ◌&&◌, ◌||◌, List, [], ◌∷◌, Option, Some, None, length, map, refl, sym, ap, ap₂, subst, ◌∙◌}, specs.Prelude.slice_get, specs.List.{AllByRecursion, list_any}, proofs.lemmas.Map.Keys.{IsDistinct-head, IsDistinct-tail}}
+use Rattle.definitions.{specs.Blocks.{is_common, literals_block}, specs.Cards.Card, specs.Characters.same_text, specs.Lengths.BlockRow, specs.Layout.has_beyond, specs.Objects.Object, specs.declared.deck_kind.DeckKind.DeckKind, proofs.TextLaws.same_text-refl}
+use Rattle.deck_objects.specs.{Joins.PartsOf.ArePartsOf, declared.lines.CodedLine.CodedLine, declared.lines.Line.Line, declared.object.ObjectParts.ObjectParts}
+use Rattle.deck_listing.{specs.Joins.Walking.DoNamesDiffer, proofs.BlockSteps.behind_other}
+use Rattle.deck_linker.{specs.Joins.Beyond.{is_plain, keeps_fields, line_beyond, listed_beyond, literals_beyond, literals_row_beyond, parts_beyond, stores_beyond}, proofs.BeyondLaws.{line_of_row, listed_of_row, row_beyond, rows-beyond}, proofs.WordLaws.list_any-same}
 use Rattle.use_blocks.specs.Joins.NameKeys.{same_text_equivalence}
-use Rattle.deck_linker.proofs.BeyondLaws.{line_of_row, listed_of_row, row_beyond, rows-beyond}
-use Rattle.deck_linker.proofs.WordLaws.{list_any-same}
 
 or-none : (a : Bool) → (a || false) ≡ a
 or-none true = refl

@@ -1,20 +1,9 @@
 -- Common blocks in a map of their lengths, and in a set.
-use Rattle.std.proofs.Common.{ℕ, ◌≡◌, ◌+◌, Bool, true, false, cond, ◌||◌, List, [], ◌∷◌, ◌++◌, Option, Some, refl, sym, ◌∙◌, ap, ap₂, subst, max, append_assoc}
-use Rattle.std.specs.Prelude.{if◌then◌else◌}
-use Rattle.std.specs.List.{AllByRecursion, IsDistinct, find, list_any, position_from}
-use Rattle.std.specs.Map.{keys_of, lookup}
-use Rattle.std.specs.Option.{option_map_or}
-use Rattle.std.proofs.lemmas.Map.Keys.{IsDistinct-head, IsDistinct-tail}
-use Rattle.indexmap.specs.IndexMap.{insert_entry}
-use Rattle.indexmap.specs.IndexSet.{insert_key}
-use Rattle.definitions.specs.Characters.{same_text}
-use Rattle.definitions.specs.Lengths.{BlockLength, BlockRow}
-use Rattle.definitions.specs.Layout.{Common, common_base, commons_from, end_after_common, placed_common, with_common}
-use Rattle.deck_linker.specs.Joins.CommonLengths.{lengths_shown, widened}
-use Rattle.deck_linker.specs.Joins.CommonSets.{are_named_alike}
+use Rattle.std.{proofs.Common.{ℕ, ◌≡◌, ◌+◌, Bool, true, false, cond, ◌||◌, List, [], ◌∷◌, ◌++◌, Option, Some, refl, sym, ◌∙◌, ap, ap₂, subst, max, append_assoc}, specs.Prelude.if◌then◌else◌, specs.List.{AllByRecursion, IsDistinct, find, list_any, position_from}, specs.Map.{keys_of, lookup}, specs.Option.option_map_or, proofs.lemmas.Map.Keys.{IsDistinct-head, IsDistinct-tail}}
+use Rattle.indexmap.specs.{IndexMap.insert_entry, IndexSet.insert_key}
+use Rattle.definitions.specs.{Characters.same_text, Lengths.{BlockLength, BlockRow}, Layout.{Common, common_base, commons_from, end_after_common, placed_common, with_common}}
+use Rattle.deck_linker.{specs.Joins.CommonLengths.{lengths_shown, widened}, specs.Joins.CommonSets.are_named_alike, specs.Joins.Placing.{names_of_commons, names_of_lengths}, proofs.PlaceLaws.names-commons}
 use Rattle.use_blocks.specs.Joins.NameKeys.{same_text_equivalence}
-use Rattle.deck_linker.specs.Joins.Placing.{names_of_commons, names_of_lengths}
-use Rattle.deck_linker.proofs.PlaceLaws.{names-commons}
 
 -- a common block is widened in its place, or joins the others
 pub with_common-shown : (row : BlockRow) (entries : List (List ℕ × ℕ)) →

@@ -1,17 +1,9 @@
 -- A deck that has no block of a name stores nothing there.
-use Rattle.std.proofs.Common.{◌≡◌, ℕ, zero, suc, List, [], ◌∷◌, Option, Some, None, Bool, true, false, ◌||◌, refl, sym, ap, ◌∙◌}
-use Rattle.std.specs.Prelude.{slice_get, reverse}
-use Rattle.std.specs.List.{list_any}
-use Rattle.std.proofs.lemmas.List.Folds.{list_any-append}
-use Rattle.std.proofs.lemmas.List.{reverse-append}
-use Rattle.definitions.specs.Characters.{same_text}
-use Rattle.definitions.specs.Lengths.{BlockRow}
-use Rattle.definitions.specs.Words.{Coded, Linking, Parcel, onto_runs, parcels_of, runs_of, stored, stored_words, words_in}
-use Rattle.definitions.specs.declared.deck_kind.DeckKind.{DeckKind}
+use Rattle.std.{proofs.Common.{◌≡◌, ℕ, zero, suc, List, [], ◌∷◌, Option, Some, None, Bool, true, false, ◌||◌, refl, sym, ap, ◌∙◌}, specs.Prelude.{slice_get, reverse}, specs.List.list_any, proofs.lemmas.List.Folds.list_any-append, proofs.lemmas.List.reverse-append}
+use Rattle.definitions.specs.{Characters.same_text, Lengths.BlockRow, Words.{Coded, Linking, Parcel, onto_runs, parcels_of, runs_of, stored, stored_words, words_in}, declared.deck_kind.DeckKind.DeckKind}
 use Rattle.statement_coder.specs.declared.items.Item as code
-use Rattle.deck_objects.specs.Joins.CodedLines.{IsNamed, AreCoded}
+use Rattle.deck_objects.specs.{Joins.CodedLines.{IsNamed, AreCoded}, declared.lines.Line.Line}
 use Rattle.deck_objects.specs.declared.lines.CodedLine as lines
-use Rattle.deck_objects.specs.declared.lines.Line.{Line}
 use Rattle.deck_linker.proofs.UnfitLaws.{IsGoingOn}
 
 -- whether a statement stands in the block of a name

@@ -1,13 +1,6 @@
 -- Names with the values that decks enter, a step at a time.
-use Rattle.std.proofs.Common.{ℕ, ◌≡◌, Bool, true, false, true≢false, cond, List, [], ◌∷◌, Option, Some, None, is_some, ◌||◌, refl, sym, ap, ap₂, ◌∙◌, ℤ}
-use Rattle.std.specs.Prelude.{if◌then◌else◌}
-use Rattle.std.specs.Map.{update}
-use Rattle.std.proofs.lemmas.List.Folds.{list_any-append}
-use Rattle.definitions.specs.Characters.{same_text}
-use Rattle.definitions.specs.Settled.{Definition}
-use Rattle.definitions.specs.Blocks.{is_named}
-use Rattle.definitions.specs.Layout.{Based, Common}
-use Rattle.definitions.specs.LinkValues.{entered, entered_in, entry_names, entry_value, names_of, or_value}
+use Rattle.std.{proofs.Common.{ℕ, ◌≡◌, Bool, true, false, true≢false, cond, List, [], ◌∷◌, Option, Some, None, is_some, ◌||◌, refl, sym, ap, ap₂, ◌∙◌, ℤ}, specs.Prelude.if◌then◌else◌, specs.Map.update, proofs.lemmas.List.Folds.list_any-append}
+use Rattle.definitions.specs.{Characters.same_text, Settled.Definition, Blocks.is_named, Layout.{Based, Common}, LinkValues.{entered, entered_in, entry_names, entry_value, names_of, or_value}}
 use Rattle.use_blocks.specs.Joins.NameKeys.{same_text_equivalence}
 use Rattle.deck_linker.specs.Joins.Placing.{entry_alone}
 use Rattle.expr_forms.proofs.NameLaws.{same_text-Decides}

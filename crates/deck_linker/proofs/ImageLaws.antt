@@ -1,15 +1,8 @@
 -- The sections of common blocks.
-use Rattle.std.proofs.Common.{◌≡◌, ℕ, zero, suc, ◌+◌, ◌-◌, ◌<◌, List, [], ◌∷◌, ◌++◌, Bool, false, eqb, length, refl, sym, ap, ap₂, ◌∙◌, append_assoc, append-nil, arith}
-use Rattle.std.specs.Prelude.{codes, flat_map, if◌then◌else◌}
-use Rattle.definitions.specs.Characters.{line_feed}
-use Rattle.definitions.specs.Numerals.{octal_of}
-use Rattle.definitions.specs.Layout.{Layout, Common, addressed}
-use Rattle.definitions.specs.Image.{word_line, common_words, common_section, common_section_by}
-use Rattle.definitions.specs.Words.{StoredWord}
-use Rattle.definitions.specs.declared.deck_kind.DeckKind.TheVariants.{Rel}
+use Rattle.std.{proofs.Common.{◌≡◌, ℕ, zero, suc, ◌+◌, ◌-◌, ◌<◌, List, [], ◌∷◌, ◌++◌, Bool, false, eqb, length, refl, sym, ap, ap₂, ◌∙◌, append_assoc, append-nil, arith}, specs.Prelude.{codes, flat_map, if◌then◌else◌}}
+use Rattle.definitions.specs.{Characters.line_feed, Numerals.octal_of, Layout.{Layout, Common, addressed}, Image.{word_line, common_words, common_section, common_section_by}, Words.StoredWord, declared.deck_kind.DeckKind.TheVariants.Rel}
 use Rattle.deck_listing.specs.Joins.Filling.{words_from}
-use Rattle.deck_linker.specs.Joins.Sections.{common_head, common_word, common_words_text}
-use Rattle.deck_linker.proofs.TextLaws.{four-ended}
+use Rattle.deck_linker.{specs.Joins.Sections.{common_head, common_word, common_words_text}, proofs.TextLaws.four-ended}
 
 -- a word of a span is written
 pub word-written : (before after all : List ℕ) (base offset count value address next left : ℕ) → address ≡ base + offset → next ≡ offset + 1 → left ≡ count - 1 → 0 < count →

@@ -1,27 +1,9 @@
 -- Parts of texts: how long they are together, that each fits in a room, and what of them went out.
-use Rattle.std.proofs.Common.{ℕ, ◌≡◌, ◌+◌, ◌<◌, ◌≤◌, ◌^◌, zero, suc, List, [], ◌∷◌, ◌++◌, length, take, drop, get_or, sym, ap, ap₂, subst, ◌∙◌, arith, length-append, take-append-drop}
-use Rattle.std.specs.Prelude.{Err, IfErr, Ok, Option, Result, Some, Vec, flat_map, map}
-use Rattle.std.specs.List.{AllZip}
-use Rattle.std.proofs.lemmas.Grind.{flat_map-append}
-use Rattle.std.proofs.lemmas.List.{at_drop_more, take_more}
-use Rattle.std.proofs.lemmas.Option.{slice_get-get_or}
-use Rattle.std.proofs.lemmas.Slice.Zip.{AllZip-long}
-use Rattle.definitions.specs.Build.{build_of}
-use Rattle.definitions.specs.DeckInput.{Deck}
-use Rattle.definitions.specs.Layout.{Based, Layout, layout_of}
-use Rattle.definitions.specs.LinkValues.{linking_of}
-use Rattle.definitions.specs.Objects.{object_of}
-use Rattle.text_ports.proofs.SendSteps.{texts-more}
-use Rattle.text_ports.specs.Joins.Sending.{Sends}
-use Rattle.text_ports.specs.declared.writing.Broken.{Broken}
-use Rattle.deck_listing.proofs.BlockSteps.{zip-at}
-use Rattle.deck_listing.specs.Joins.BlockWords.{AreBlockWords, AreWordsOf}
-use Rattle.deck_listing.specs.Joins.Sheets.{room_of, text_of}
-use Rattle.deck_listing.specs.declared.packing.word_spans.WordSpan.{WordSpan}
-use Rattle.deck_linker.specs.Joins.CommonWords.{AreCommonWords}
-use Rattle.deck_linker.specs.Joins.InPieces.{AreDeckWords, AreLinked, DoFit, deck_text, end_text}
-use Rattle.deck_linker.specs.Publishing.{listings, map_of}
-use Rattle.deck_linker.specs.Joins.Sections.{deck_section}
+use Rattle.std.{proofs.Common.{ℕ, ◌≡◌, ◌+◌, ◌<◌, ◌≤◌, ◌^◌, zero, suc, List, [], ◌∷◌, ◌++◌, length, take, drop, get_or, sym, ap, ap₂, subst, ◌∙◌, arith, length-append, take-append-drop}, specs.Prelude.{Err, IfErr, Ok, Option, Result, Some, Vec, flat_map, map}, specs.List.AllZip, proofs.lemmas.Grind.flat_map-append, proofs.lemmas.List.{at_drop_more, take_more}, proofs.lemmas.Option.slice_get-get_or, proofs.lemmas.Slice.Zip.AllZip-long}
+use Rattle.definitions.specs.{Build.build_of, DeckInput.Deck, Layout.{Based, Layout, layout_of}, LinkValues.linking_of, Objects.object_of}
+use Rattle.text_ports.{proofs.SendSteps.texts-more, specs.Joins.Sending.Sends, specs.declared.writing.Broken.Broken}
+use Rattle.deck_listing.{proofs.BlockSteps.zip-at, specs.Joins.BlockWords.{AreBlockWords, AreWordsOf}, specs.Joins.Sheets.{room_of, text_of}, specs.declared.packing.word_spans.WordSpan.WordSpan}
+use Rattle.deck_linker.specs.{Joins.CommonWords.AreCommonWords, Joins.InPieces.{AreDeckWords, AreLinked, DoFit, deck_text, end_text}, Publishing.{listings, map_of}, Joins.Sections.deck_section}
 
 module _ {A : Type 0} (text : A → List ℕ) where
   -- more room

@@ -1,7 +1,5 @@
 -- Of which decks it is known that all their fields fit, deck by deck.
-use Rattle.std.proofs.Common.{◌≡◌, ℕ, zero, suc, ◌<◌, Bool, true, List, [], ◌∷◌, ◌++◌, Some, ◌⊎◌, inl, inr, get_or, length, refl, sym, ap, subst, ◌∙◌}
-use Rattle.std.specs.Prelude.{slice_get}
-use Rattle.std.proofs.lemmas.Option.{slice_get-get_or}
+use Rattle.std.{proofs.Common.{◌≡◌, ℕ, zero, suc, ◌<◌, Bool, true, List, [], ◌∷◌, ◌++◌, Some, ◌⊎◌, inl, inr, get_or, length, refl, sym, ap, subst, ◌∙◌}, specs.Prelude.slice_get, proofs.lemmas.Option.slice_get-get_or}
 use Rattle.definitions.specs.Layout.{Based, Layout}
 use Rattle.deck_linker.specs.Joins.UnfitLines.{AreKnownToFit}
 use Rattle.deck_listing.specs.KeptSections.{DoAllFit}

@@ -1,7 +1,5 @@
 -- Texts with lines, where more than one part of the lines is written.
-use Rattle.std.proofs.Common.{◌≡◌, ℕ, ◌+◌, ◌<◌, drop, get_or, List, [], ◌∷◌, ◌++◌, length, refl, sym, ap, ◌∙◌, arith, append-nil, append_assoc}
-use Rattle.std.specs.Prelude.{flat_map}
-use Rattle.std.proofs.lemmas.List.{at_drop_more}
+use Rattle.std.{proofs.Common.{◌≡◌, ℕ, ◌+◌, ◌<◌, drop, get_or, List, [], ◌∷◌, ◌++◌, length, refl, sym, ap, ◌∙◌, arith, append-nil, append_assoc}, specs.Prelude.flat_map, proofs.lemmas.List.at_drop_more}
 use Rattle.deck_linker.specs.Joins.Lines.{Written, with_line, with_lines}
 
 -- lines behind lines

@@ -1,16 +1,7 @@
 -- The LINK lines of decks, from a set of the names that earlier decks enter.
-use Rattle.std.proofs.Common.{◌≡◌, ℕ, ◌+◌, ◌<◌, List, [], ◌∷◌, ◌++◌, length, drop, get_or, refl, sym, ap, ap₂, ◌∙◌}
-use Rattle.std.specs.Prelude.{flat_map, reverse}
-use Rattle.std.proofs.lemmas.List.{at_drop_more}
-use Rattle.definitions.specs.Settled.{Definition}
-use Rattle.definitions.specs.Layout.{Layout, Based, Common}
-use Rattle.definitions.specs.LinkValues.{names_of, entry_names}
-use Rattle.definitions.specs.LinkLines.{missing_lines, unfit_addresses, past_lines, deck_lines, lines_from, link_lines}
-use Rattle.deck_linker.specs.Joins.Names.{with_entries, HaveNames}
-use Rattle.deck_linker.specs.Joins.DeckLines.{lines_of_deck, lines_of_decks, lines_of_common}
-use Rattle.deck_linker.specs.Joins.Lines.{Written, with_lines}
-use Rattle.deck_linker.proofs.LineLaws.{lines_joined}
-use Rattle.deck_linker.proofs.NameLaws.{have-entries, doubled-same}
+use Rattle.std.{proofs.Common.{◌≡◌, ℕ, ◌+◌, ◌<◌, List, [], ◌∷◌, ◌++◌, length, drop, get_or, refl, sym, ap, ap₂, ◌∙◌}, specs.Prelude.{flat_map, reverse}, proofs.lemmas.List.at_drop_more}
+use Rattle.definitions.specs.{Settled.Definition, Layout.{Layout, Based, Common}, LinkValues.{names_of, entry_names}, LinkLines.{missing_lines, unfit_addresses, past_lines, deck_lines, lines_from, link_lines}}
+use Rattle.deck_linker.{specs.Joins.Names.{with_entries, HaveNames}, specs.Joins.DeckLines.{lines_of_deck, lines_of_decks, lines_of_common}, specs.Joins.Lines.{Written, with_lines}, proofs.LineLaws.lines_joined, proofs.NameLaws.{have-entries, doubled-same}}
 
 -- the lines of a deck more are written
 pub decks-step : (layout : Layout) (earlier more : List (List ℕ)) (decks : List Based) (i : ℕ) (based : Based) (entries : List Definition) → i < length decks → based ≡ get_or decks i based →

@@ -1,16 +1,8 @@
 -- Texts one behind the other: their bytes, their lines, and what of them went out.
-use Rattle.std.proofs.Common.{ℕ, ◌≡◌, ◌+◌, ◌<◌, ◌≤◌, Bool, true, false, cond, List, [], ◌∷◌, ◌++◌, Option, length, filter, take, drop, get_or, refl, sym, ap, ap₂, subst, ◌∙◌, arith, length-append}
-use Rattle.std.specs.Prelude.{◌==◌, flat_map}
-use Rattle.std.specs.Io.KnownBytes.{Appends}
-use Rattle.std.proofs.lemmas.List.{at_drop_more}
-use Rattle.std.proofs.lemmas.List.Elements.{filter-append}
-use Rattle.definitions.specs.Build.{listing_of}
-use Rattle.definitions.specs.Characters.{line_feed}
-use Rattle.definitions.specs.DeckInput.{Deck}
+use Rattle.std.{proofs.Common.{ℕ, ◌≡◌, ◌+◌, ◌<◌, ◌≤◌, Bool, true, false, cond, List, [], ◌∷◌, ◌++◌, Option, length, filter, take, drop, get_or, refl, sym, ap, ap₂, subst, ◌∙◌, arith, length-append}, specs.Prelude.{◌==◌, flat_map}, specs.Io.KnownBytes.Appends, proofs.lemmas.List.at_drop_more, proofs.lemmas.List.Elements.filter-append}
+use Rattle.definitions.specs.{Build.listing_of, Characters.line_feed, DeckInput.Deck}
 use Rattle.text_ports.proofs.SendSteps.{IsPart, Appends-text, part-text, part-second}
-use Rattle.deck_linker.specs.Joins.InPieces.{deck_text}
-use Rattle.deck_linker.specs.Publishing.{lines_in, listings, map_of}
-use Rattle.deck_linker.proofs.InPieceLaws.{sent-more, sent-within}
+use Rattle.deck_linker.{specs.Joins.InPieces.deck_text, specs.Publishing.{lines_in, listings, map_of}, proofs.InPieceLaws.{sent-more, sent-within}}
 
 -- the listings, deck by deck
 pub listings-flat : (decks : List Deck) → flat_map deck_text decks ≡ listings decks

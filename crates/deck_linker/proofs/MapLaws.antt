@@ -1,23 +1,7 @@
 -- The map of a link, from sets of names.
-use Rattle.std.proofs.Common.{◌≡◌, ℕ, ◌+◌, ◌<◌, List, [], ◌∷◌, ◌++◌, length, drop, get_or, refl, sym, ap, ap₂, ◌∙◌, append_assoc, arith}
-use Rattle.std.specs.Prelude.{codes, flat_map, unwrap_or}
-use Rattle.std.proofs.lemmas.List.{at_drop_more}
-use Rattle.definitions.specs.Settled.{Definition}
-use Rattle.definitions.specs.Characters.{line_feed}
-use Rattle.definitions.specs.Coding.{coded_in}
-use Rattle.definitions.specs.Kinds.{kind_text}
-use Rattle.definitions.specs.Numerals.{octal_of}
-use Rattle.definitions.specs.Listing.{line}
-use Rattle.definitions.specs.Layout.{Layout, Based, Common, deck_length}
-use Rattle.definitions.specs.LinkValues.{entry_value, names_of}
-use Rattle.definitions.specs.LinkLines.{link_lines}
-use Rattle.definitions.specs.Map.{deck_line, common_line, entry_line, entry_lines, all_entry_lines, map_text}
-use Rattle.deck_linker.specs.Joins.Names.{with_entries, HaveNames}
-use Rattle.deck_linker.specs.Joins.Lines.{Written, with_lines}
-use Rattle.deck_linker.specs.Joins.MapLines.{entries_of_decks, map_front, shown_place, shown_value}
-use Rattle.deck_linker.proofs.LineLaws.{with_lines-text, with_lines-count}
-use Rattle.deck_linker.proofs.TextLaws.{two-pieces, two-ended, four-pieces, four-ended}
-use Rattle.deck_linker.proofs.NameLaws.{have-entries, entry_lines-same}
+use Rattle.std.{proofs.Common.{◌≡◌, ℕ, ◌+◌, ◌<◌, List, [], ◌∷◌, ◌++◌, length, drop, get_or, refl, sym, ap, ap₂, ◌∙◌, append_assoc, arith}, specs.Prelude.{codes, flat_map, unwrap_or}, proofs.lemmas.List.at_drop_more}
+use Rattle.definitions.specs.{Settled.Definition, Characters.line_feed, Coding.coded_in, Kinds.kind_text, Numerals.octal_of, Listing.line, Layout.{Layout, Based, Common, deck_length}, LinkValues.{entry_value, names_of}, LinkLines.link_lines, Map.{deck_line, common_line, entry_line, entry_lines, all_entry_lines, map_text}}
+use Rattle.deck_linker.{specs.Joins.Names.{with_entries, HaveNames}, specs.Joins.Lines.{Written, with_lines}, specs.Joins.MapLines.{entries_of_decks, map_front, shown_place, shown_value}, proofs.LineLaws.{with_lines-text, with_lines-count}, proofs.TextLaws.{two-pieces, two-ended, four-pieces, four-ended}, proofs.NameLaws.{have-entries, entry_lines-same}}
 
 -- a base and a length are written
 pub place-written : (t u v w x : List ℕ) (base words : ℕ) → u ≡ t ++ codes " " → v ≡ u ++ octal_of 6 base → w ≡ v ++ codes " " → x ≡ w ++ octal_of 8 words → x ++ line_feed ∷ [] ≡ t ++ line (shown_place base words)

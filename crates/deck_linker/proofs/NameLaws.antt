@@ -1,15 +1,6 @@
 -- Names, each once, and the names that they stand for.
-use Rattle.std.proofs.Common.{◌≡◌, ℕ, List, [], ◌∷◌, ◌++◌, Bool, true, false, ◌||◌, refl, sym, ap, ap₂, ◌∙◌, append-nil, append_assoc}
-use Rattle.std.specs.Prelude.{codes, if◌then◌else◌}
-use Rattle.std.proofs.lemmas.List.Folds.{list_any-append}
-use Rattle.definitions.specs.Characters.{same_text}
-use Rattle.definitions.specs.Blocks.{is_named}
-use Rattle.definitions.specs.Settled.{Definition}
-use Rattle.definitions.specs.Layout.{Based, Common}
-use Rattle.definitions.specs.LinkValues.{names_of}
-use Rattle.definitions.specs.LinkLines.{doubled_lines, link_line}
-use Rattle.definitions.specs.Map.{entry_line, entry_lines}
-use Rattle.definitions.proofs.TextLaws.{same_text-true}
+use Rattle.std.{proofs.Common.{◌≡◌, ℕ, List, [], ◌∷◌, ◌++◌, Bool, true, false, ◌||◌, refl, sym, ap, ap₂, ◌∙◌, append-nil, append_assoc}, specs.Prelude.{codes, if◌then◌else◌}, proofs.lemmas.List.Folds.list_any-append}
+use Rattle.definitions.{specs.Characters.same_text, specs.Blocks.is_named, specs.Settled.Definition, specs.Layout.{Based, Common}, specs.LinkValues.names_of, specs.LinkLines.{doubled_lines, link_line}, specs.Map.{entry_line, entry_lines}, proofs.TextLaws.same_text-true}
 use Rattle.deck_linker.specs.Joins.Names.{with_name, with_entries, HaveNames}
 
 -- a name that is there already changes nothing

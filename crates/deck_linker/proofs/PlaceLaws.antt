@@ -1,14 +1,7 @@
 -- Decks and common blocks one behind the other, a step at a time.
-use Rattle.std.proofs.Common.{ℕ, ◌≡◌, ◌+◌, ◌<◌, ◌≤◌, Bool, true, false, List, [], ◌∷◌, refl, ap, ◌∙◌}
-use Rattle.std.specs.Prelude.{map}
-use Rattle.definitions.specs.Kinds.{memory_end, is_absolute_deck}
-use Rattle.definitions.specs.Lengths.{BlockLength}
-use Rattle.definitions.specs.Layout.{Based, Place, based_at, based_from, commons_from, deck_length, deck_place, end_after, end_after_common, has_beyond, place, placed}
-use Rattle.definitions.specs.Objects.{Object}
-use Rattle.definitions.specs.declared.deck_kind.DeckKind.{DeckKind}
-use Rattle.definitions.specs.declared.deck_kind.DeckKind.TheVariants.{Rel, Abs, Periph}
-use Rattle.deck_linker.specs.Joins.Placing.{names_of_lengths, names_of_commons}
-use Rattle.deck_linker.proofs.TestLaws.{lt-true, lt-false}
+use Rattle.std.{proofs.Common.{ℕ, ◌≡◌, ◌+◌, ◌<◌, ◌≤◌, Bool, true, false, List, [], ◌∷◌, refl, ap, ◌∙◌}, specs.Prelude.map}
+use Rattle.definitions.specs.{Kinds.{memory_end, is_absolute_deck}, Lengths.BlockLength, Layout.{Based, Place, based_at, based_from, commons_from, deck_length, deck_place, end_after, end_after_common, has_beyond, place, placed}, Objects.Object, declared.deck_kind.DeckKind.DeckKind, declared.deck_kind.DeckKind.TheVariants.{Rel, Abs, Periph}}
+use Rattle.deck_linker.{specs.Joins.Placing.{names_of_lengths, names_of_commons}, proofs.TestLaws.{lt-true, lt-false}}
 
 -- an object with its base, and whether it passes the end
 abbrev based_as : Object → ℕ → Bool → Based

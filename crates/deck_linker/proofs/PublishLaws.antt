@@ -1,11 +1,6 @@
 -- What is published of decks, from their layout.
-use Rattle.std.proofs.Common.{◌≡◌, ℕ, ◌+◌, ◌<◌, List, length, drop, get_or, sym, ap, ◌∙◌, arith}
-use Rattle.std.specs.Prelude.{map}
-use Rattle.std.proofs.lemmas.List.{at_drop_more}
-use Rattle.definitions.specs.Build.{errors_in}
-use Rattle.definitions.specs.DeckInput.{Deck}
-use Rattle.definitions.specs.Listing.{errors_of}
-use Rattle.definitions.specs.Objects.{object_of}
+use Rattle.std.{proofs.Common.{◌≡◌, ℕ, ◌+◌, ◌<◌, List, length, drop, get_or, sym, ap, ◌∙◌, arith}, specs.Prelude.map, proofs.lemmas.List.at_drop_more}
+use Rattle.definitions.specs.{Build.errors_in, DeckInput.Deck, Listing.errors_of, Objects.object_of}
 
 -- the flagged statements of a deck more
 pub errors-step : (decks : List Deck) (i : ℕ) (deck : Deck) (old new more all : ℕ) → i < length decks → deck ≡ get_or decks i deck → old + errors_in (map object_of (drop i decks)) ≡ all →

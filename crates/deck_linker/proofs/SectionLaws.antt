@@ -1,20 +1,7 @@
 -- The sections of decks that are held one by one.
-use Rattle.std.proofs.Common.{ℕ, ◌≡◌, ◌+◌, ◌<◌, Bool, true, false, List, [], ◌∷◌, ◌++◌, Option, length, drop, get_or, refl, sym, ap, ap₂, ◌∙◌, append_assoc}
-use Rattle.std.specs.Prelude.{flat_map, map, if◌then◌else◌}
-use Rattle.std.proofs.lemmas.List.{at_drop_more}
-use Rattle.definitions.specs.Build.{image_of}
-use Rattle.definitions.specs.Characters.{same_text}
-use Rattle.definitions.specs.DeckInput.{Deck}
-use Rattle.definitions.specs.Image.{section_by}
-use Rattle.definitions.specs.Layout.{Based, Layout, first_base, layout_of}
-use Rattle.definitions.specs.Objects.{Object, object_of}
-use Rattle.definitions.specs.declared.deck_kind.DeckKind.{DeckKind}
-use Rattle.definitions.specs.declared.deck_kind.DeckKind.TheVariants.{Rel, Abs, Periph}
-use Rattle.deck_linker.specs.Joins.InPieces.{end_text}
-use Rattle.deck_linker.specs.Joins.Listed.{end_of, section_with, sections_of}
-use Rattle.deck_linker.specs.Joins.Sections.{deck_section, section_text}
-use Rattle.deck_linker.specs.Publishing.{section_if, section_in, section_named, section_of}
-use Rattle.deck_linker.proofs.PlaceLaws.{objects-based}
+use Rattle.std.{proofs.Common.{ℕ, ◌≡◌, ◌+◌, ◌<◌, Bool, true, false, List, [], ◌∷◌, ◌++◌, Option, length, drop, get_or, refl, sym, ap, ap₂, ◌∙◌, append_assoc}, specs.Prelude.{flat_map, map, if◌then◌else◌}, proofs.lemmas.List.at_drop_more}
+use Rattle.definitions.specs.{Build.image_of, Characters.same_text, DeckInput.Deck, Image.section_by, Layout.{Based, Layout, first_base, layout_of}, Objects.{Object, object_of}, declared.deck_kind.DeckKind.DeckKind, declared.deck_kind.DeckKind.TheVariants.{Rel, Abs, Periph}}
+use Rattle.deck_linker.{specs.Joins.InPieces.end_text, specs.Joins.Listed.{end_of, section_with, sections_of}, specs.Joins.Sections.{deck_section, section_text}, specs.Publishing.{section_if, section_in, section_named, section_of}, proofs.PlaceLaws.objects-based}
 
 -- one thing more is shown in order
 pub map-step : {X Y : Type 0} (f : X → Y) (xs : List X) (i : ℕ) (x : X) (y : Y) → i < length xs → x ≡ get_or xs i x → y ≡ f x → (old new all : List Y) → old ++ map f (drop i xs) ≡ all → new ≡ old ++ y ∷ [] →

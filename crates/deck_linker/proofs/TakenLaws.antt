@@ -1,23 +1,10 @@
 -- What the fields of a deck take from a link decides its section.
-use Rattle.std.proofs.Common.{◌≡◌, ℕ, zero, suc, ◌+◌, map, drop, arith, List, [], ◌∷◌, ◌++◌, Option, Some, None, Bool, true, false, ◌||◌, ◌⊎◌, inl, inr, ◌<◌, length, take, get_or, refl, sym, ap, ap₂, subst, ◌∙◌, ℤ, pos}
-use Rattle.std.specs.Prelude.{if◌then◌else◌}
-use Rattle.std.specs.List.{All}
-use Rattle.std.proofs.lemmas.List.Elements.{All-more, All-pop, All-push, All-weaker}
-use Rattle.definitions.specs.Blocks.{is_common, is_named}
-use Rattle.definitions.specs.Characters.{same_text}
-use Rattle.definitions.specs.Forms.{Relocation, Block, External, Part, Added, Subtracted}
-use Rattle.definitions.specs.Lengths.{base_in}
-use Rattle.definitions.specs.Layout.{Based, Common, Layout, common_base}
-use Rattle.definitions.specs.Objects.{Object}
-use Rattle.definitions.specs.StatementItems.{Content, Known, Linked}
-use Rattle.definitions.proofs.TextLaws.{same_text-true}
+use Rattle.std.{proofs.Common.{◌≡◌, ℕ, zero, suc, ◌+◌, map, drop, arith, List, [], ◌∷◌, ◌++◌, Option, Some, None, Bool, true, false, ◌||◌, ◌⊎◌, inl, inr, ◌<◌, length, take, get_or, refl, sym, ap, ap₂, subst, ◌∙◌, ℤ, pos}, specs.Prelude.if◌then◌else◌, specs.List.All, proofs.lemmas.List.Elements.{All-more, All-pop, All-push, All-weaker}}
+use Rattle.definitions.{specs.Blocks.{is_common, is_named}, specs.Characters.same_text, specs.Forms.{Relocation, Block, External, Part, Added, Subtracted}, specs.Lengths.base_in, specs.Layout.{Based, Common, Layout, common_base}, specs.Objects.Object, specs.StatementItems.{Content, Known, Linked}, proofs.TextLaws.same_text-true}
 use Rattle.statement_coder.specs.Joins.Items.{content_as}
 use Rattle.statement_coder.specs.declared.items.Item as code
 use Rattle.deck_listing.specs.KeptSections.{DoFieldsFollow, DoesContentFollow, DoesFollow, DoesPartFollow, IsPlaced, worth_in}
-use Rattle.deck_linker.specs.Joins.Names.{with_name}
-use Rattle.deck_linker.specs.Joins.TakenValues.{AreMore, AreMoreTaken, AreTaken, DoNamesFollow, IsAdded, IsTaken}
-use Rattle.deck_linker.specs.declared.taken_values.Taken.{Taken}
-use Rattle.deck_linker.proofs.NameLaws.{added}
+use Rattle.deck_linker.{specs.Joins.Names.with_name, specs.Joins.TakenValues.{AreMore, AreMoreTaken, AreTaken, DoNamesFollow, IsAdded, IsTaken}, specs.declared.taken_values.Taken.Taken, proofs.NameLaws.added}
 
 -- what follows from values follows from more of them
 pub follows-more : (based : Based) (old new : List (Relocation × ℤ)) (relocation : Relocation) → AreMore based old new → DoesFollow based.object based.base old relocation → DoesFollow based.object based.base new relocation

@@ -1,6 +1,5 @@
 -- Texts that are written piece by piece.
-use Rattle.std.proofs.Common.{◌≡◌, List, ◌++◌, refl, ◌∙◌, append_assoc}
-use Rattle.std.specs.Prelude.{Result, Ok, Err, OnOk}
+use Rattle.std.{proofs.Common.{◌≡◌, List, ◌++◌, refl, ◌∙◌, append_assoc}, specs.Prelude.{Result, Ok, Err, OnOk}}
 
 -- what is so when a call succeeds, seen otherwise
 pub on_ok_along : {T E X : Type 0} (result : Result T E) (a b c : X) → b ≡ c → OnOk result (a ≡ b) → OnOk result (a ≡ c)

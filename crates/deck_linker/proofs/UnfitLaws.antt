@@ -1,18 +1,9 @@
 -- The LINK A lines of fields as they are kept are those of the statements.
-use Rattle.std.proofs.Common.{◌≡◌, ℕ, ◌+◌, ◌*◌, ◌<◌, List, [], ◌∷◌, ◌++◌, Option, Some, None, length, drop, get_or, refl, subst, ap, ap₂, ◌∙◌}
-use Rattle.std.specs.Prelude.{flat_map, slice_get}
-use Rattle.std.proofs.lemmas.List.{drop_more}
-use Rattle.definitions.specs.Kinds.{unit_bits}
-use Rattle.definitions.specs.Lengths.{BlockRow}
-use Rattle.definitions.specs.Layout.{Layout, Based, block_base}
-use Rattle.definitions.specs.LinkLines.{address_lines, unfit_words, unfit_addresses}
-use Rattle.definitions.specs.Words.{Coded}
-use Rattle.definitions.specs.declared.deck_kind.DeckKind.{DeckKind}
+use Rattle.std.{proofs.Common.{◌≡◌, ℕ, ◌+◌, ◌*◌, ◌<◌, List, [], ◌∷◌, ◌++◌, Option, Some, None, length, drop, get_or, refl, subst, ap, ap₂, ◌∙◌}, specs.Prelude.{flat_map, slice_get}, proofs.lemmas.List.drop_more}
+use Rattle.definitions.specs.{Kinds.unit_bits, Lengths.BlockRow, Layout.{Layout, Based, block_base}, LinkLines.{address_lines, unfit_words, unfit_addresses}, Words.Coded, declared.deck_kind.DeckKind.DeckKind}
 use Rattle.statement_coder.specs.declared.items.Item as code
-use Rattle.deck_objects.specs.Joins.CodedLines.{IsNamed, IsCoded, AreCoded}
-use Rattle.deck_objects.specs.Joins.LineItems.{kept_items}
+use Rattle.deck_objects.specs.{Joins.CodedLines.{IsNamed, IsCoded, AreCoded}, Joins.LineItems.kept_items, declared.lines.Line.Line}
 use Rattle.deck_objects.specs.declared.lines.CodedLine as lines
-use Rattle.deck_objects.specs.declared.lines.Line.{Line}
 use Rattle.deck_linker.specs.Joins.UnfitLines.{unfit_in, unfit_of, unfit_lines, IsKept, AllAreKept}
 
 in_block : (layout : Layout) (based : Based) (items : List code.Item) (line : lines.CodedLine) (coded : Coded) (row : Option BlockRow) → IsNamed row coded.settled.block →

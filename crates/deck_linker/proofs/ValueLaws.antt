@@ -1,8 +1,6 @@
 -- What the parts of forms are worth.
-use Rattle.std.proofs.Common.{ℕ, ◌≡◌, List, Option, Some, None, refl, ap, ℤ, pos}
-use Rattle.std.specs.Prelude.{neg_ℤ}
-use Rattle.definitions.specs.Forms.{Part, Added, Subtracted, Relocation, Block, External}
-use Rattle.definitions.specs.StatementItems.{part_value}
+use Rattle.std.{proofs.Common.{ℕ, ◌≡◌, List, Option, Some, None, refl, ap, ℤ, pos}, specs.Prelude.neg_ℤ}
+use Rattle.definitions.specs.{Forms.{Part, Added, Subtracted, Relocation, Block, External}, StatementItems.part_value}
 use Rattle.deck_linker.specs.Joins.Placing.{external_in, worth}
 
 -- a relocation that is added

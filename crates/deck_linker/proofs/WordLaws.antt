@@ -1,22 +1,7 @@
 -- Which words a block stores, by the places that its statements reach.
-use Rattle.std.proofs.Common.{ℕ, zero, suc, ◌≡◌, ◌+◌, ◌-◌, ◌/◌, ◌%◌, ◌^◌, ◌<◌, ◌≤◌, ◌==◌, Bool, true, false, not, ◌&&◌, ◌||◌, List, [], ◌∷◌, length, refl, sym, ap, ap₂, ◌∙◌, ⊎_elim, arith}
-use Rattle.std.specs.Prelude.{nat_lt, nat_le, if◌then◌else◌}
-use Rattle.std.specs.List.{list_any}
-use Rattle.std.proofs.lemmas.List.{length-append}
-use Rattle.std.proofs.lemmas.List.Folds.{list_any-append}
-use Rattle.std.proofs.lemmas.Bool.{eqb-true, cases_lt}
-use Rattle.std.proofs.lemmas.Bool.Decides.{nat_tests}
-use Rattle.definitions.specs.Characters.{same_text}
-use Rattle.definitions.specs.Kinds.{memory_end, units, unit_bits}
-use Rattle.definitions.specs.Operations.{is_instruction}
-use Rattle.definitions.specs.StatementItems.{Item}
-use Rattle.definitions.specs.Words.{Coded, Linking, Parcel, StoredWord, cut, parcels_from, parcels_of, onto_runs, runs_of, with_number, words_in, stored, stored_words, joined}
-use Rattle.definitions.proofs.WordLaws.{with_words_of, words_in-run}
-use Rattle.definitions.specs.declared.deck_kind.DeckKind.{DeckKind}
-use Rattle.definitions.specs.declared.deck_kind.DeckKind.TheVariants.{Rel, Abs, Periph}
-use Rattle.definitions.specs.Lengths.{BlockRow}
-use Rattle.deck_linker.specs.Joins.Beyond.{coded_beyond, has_items, reaches_beyond, stores_beyond}
-use Rattle.deck_linker.proofs.TestLaws.{lt-true, lt-false}
+use Rattle.std.{proofs.Common.{ℕ, zero, suc, ◌≡◌, ◌+◌, ◌-◌, ◌/◌, ◌%◌, ◌^◌, ◌<◌, ◌≤◌, ◌==◌, Bool, true, false, not, ◌&&◌, ◌||◌, List, [], ◌∷◌, length, refl, sym, ap, ap₂, ◌∙◌, ⊎_elim, arith}, specs.Prelude.{nat_lt, nat_le, if◌then◌else◌}, specs.List.list_any, proofs.lemmas.List.length-append, proofs.lemmas.List.Folds.list_any-append, proofs.lemmas.Bool.{eqb-true, cases_lt}, proofs.lemmas.Bool.Decides.nat_tests}
+use Rattle.definitions.{specs.Characters.same_text, specs.Kinds.{memory_end, units, unit_bits}, specs.Operations.is_instruction, specs.StatementItems.Item, specs.Words.{Coded, Linking, Parcel, StoredWord, cut, parcels_from, parcels_of, onto_runs, runs_of, with_number, words_in, stored, stored_words, joined}, proofs.WordLaws.{with_words_of, words_in-run}, specs.declared.deck_kind.DeckKind.DeckKind, specs.declared.deck_kind.DeckKind.TheVariants.{Rel, Abs, Periph}, specs.Lengths.BlockRow}
+use Rattle.deck_linker.{specs.Joins.Beyond.{coded_beyond, has_items, reaches_beyond, stores_beyond}, proofs.TestLaws.{lt-true, lt-false}}
 
 -- tests, one or the other
 or-same : (a b : Bool) → (a || b) ≡ (a || (a || b))

@@ -1,15 +1,6 @@
 -- What is published of decks.
 use Rattle.std.specs.Prelude.{ℕ, ◌≡◌, ◌==◌, Bool, true, List, [], ◌∷◌, Option, None, Some, filter, flat_map, length, map, if◌then◌else◌}
-use Rattle.definitions.specs.Build.{build_of, image_of, listing_of}
-use Rattle.definitions.specs.Characters.{line_feed, same_text}
-use Rattle.definitions.specs.DeckInput.{Deck}
-use Rattle.definitions.specs.Image.{section}
-use Rattle.definitions.specs.Layout.{Based, Layout, layout_of}
-use Rattle.definitions.specs.Listing.{deck_listing}
-use Rattle.definitions.specs.Map.{map_text}
-use Rattle.definitions.specs.Objects.{object_of}
-use Rattle.definitions.specs.declared.deck_kind.DeckKind.{DeckKind}
-use Rattle.definitions.specs.declared.deck_kind.DeckKind.TheVariants.{Rel}
+use Rattle.definitions.specs.{Build.{build_of, image_of, listing_of}, Characters.{line_feed, same_text}, DeckInput.Deck, Image.section, Layout.{Based, Layout, layout_of}, Listing.deck_listing, Map.map_text, Objects.object_of, declared.deck_kind.DeckKind.DeckKind, declared.deck_kind.DeckKind.TheVariants.Rel}
 
 -- decks under a version
 pub record Published : Type 0 where

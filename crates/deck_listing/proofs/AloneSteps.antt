@@ -1,9 +1,6 @@
 -- A deck that stands alone is linked as one without other decks and common blocks.
 use Rattle.std.proofs.Common.{◌≡◌, ℕ, List, [], false, ap}
-use Rattle.definitions.specs.Lengths.{BlockRow}
-use Rattle.definitions.specs.Layout.{Based, Layout}
-use Rattle.definitions.specs.LinkValues.{linking_of}
-use Rattle.definitions.specs.Objects.{Object}
+use Rattle.definitions.specs.{Lengths.BlockRow, Layout.{Based, Layout}, LinkValues.linking_of, Objects.Object}
 use Rattle.deck_listing.specs.Joins.Alone.{alone_linking}
 
 -- no other decks and no common blocks

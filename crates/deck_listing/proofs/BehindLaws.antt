@@ -1,29 +1,10 @@
 -- The decks that begin behind END by the lines of an object are those by its statements.
-use Rattle.std.proofs.Common.{◌≡◌, ℕ, ◌+◌, ◌<◌, Bool, true, false, List, [], ◌∷◌, length, take, drop, get_or, reverse, refl, sym, ap, ap₂, ◌∙◌, arith, ◌++◌, append-nil}
-use Rattle.std.specs.Prelude.{◌&&◌, Option, None, Some, filter, is_none, if◌then◌else◌, map}
-use Rattle.std.proofs.lemmas.List.{drop_more}
-use Rattle.std.proofs.lemmas.List.Elements.{filter-append}
-use Rattle.definitions.specs.Cards.{Card}
-use Rattle.definitions.specs.DeckInput.{Deck}
-use Rattle.definitions.specs.DeckKinds.{behind_end, kind_of_statements, up_to_end}
-use Rattle.definitions.specs.Lengths.{BlockRow}
-use Rattle.definitions.specs.Objects.{Object, Shown, context_of, object_of, only_listed, shown_of}
-use Rattle.definitions.specs.Settled.{Settled}
-use Rattle.definitions.specs.Settling.{settled_all}
-use Rattle.definitions.specs.StatementItems.{Context}
-use Rattle.definitions.specs.Statements.{Statement, statements_of}
-use Rattle.definitions.specs.Words.{Coded}
-use Rattle.definitions.specs.declared.deck_kind.DeckKind.{DeckKind}
+use Rattle.std.{proofs.Common.{◌≡◌, ℕ, ◌+◌, ◌<◌, Bool, true, false, List, [], ◌∷◌, length, take, drop, get_or, reverse, refl, sym, ap, ap₂, ◌∙◌, arith, ◌++◌, append-nil}, specs.Prelude.{◌&&◌, Option, None, Some, filter, is_none, if◌then◌else◌, map}, proofs.lemmas.List.drop_more, proofs.lemmas.List.Elements.filter-append}
+use Rattle.definitions.specs.{Cards.Card, DeckInput.Deck, DeckKinds.{behind_end, kind_of_statements, up_to_end}, Lengths.BlockRow, Objects.{Object, Shown, context_of, object_of, only_listed, shown_of}, Settled.Settled, Settling.settled_all, StatementItems.Context, Statements.{Statement, statements_of}, Words.Coded, declared.deck_kind.DeckKind.DeckKind}
 use Rattle.statement_coder.specs.declared.items.Item as code
-use Rattle.deck_objects.specs.Joins.CodedLines.{AreShown, IsStored}
-use Rattle.deck_objects.specs.Joins.PartsOf.{ArePartsOf}
-use Rattle.deck_objects.specs.declared.lines.CodedLine.{CodedLine}
-use Rattle.deck_objects.specs.declared.lines.Line.{Line}
-use Rattle.deck_objects.specs.declared.object.ObjectParts.{ObjectParts}
+use Rattle.deck_objects.specs.{Joins.CodedLines.{AreShown, IsStored}, Joins.PartsOf.ArePartsOf, declared.lines.CodedLine.CodedLine, declared.lines.Line.Line, declared.object.ObjectParts.ObjectParts}
 use Rattle.deck_cuts.specs.Cuts.{begins_deck}
-use Rattle.deck_listing.specs.DecksBehind.{begins_with_deck, decks_behind, do_begin}
-use Rattle.deck_listing.specs.Joins.LinesBehind.{begins_behind, begun_by, begun_in}
-use Rattle.deck_listing.proofs.ListingLaws.{filter-reverse, one_more}
+use Rattle.deck_listing.{specs.DecksBehind.{begins_with_deck, decks_behind, do_begin}, specs.Joins.LinesBehind.{begins_behind, begun_by, begun_in}, proofs.ListingLaws.{filter-reverse, one_more}}
 
 -- the next statement, and those behind it
 pub begun-next : (cards : List Card) (lines : List Line) (i : ℕ) (shown : Line) → i < length lines → shown ≡ get_or lines i shown →

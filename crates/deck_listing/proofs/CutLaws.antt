@@ -1,9 +1,6 @@
 -- Numbers cut into words from the front.
-use Rattle.std.proofs.Common.{◌≡◌, ℕ, zero, suc, ◌+◌, ◌*◌, ◌/◌, ◌%◌, ◌^◌, ◌<◌, [], ◌∷◌, ◌++◌, sym, ap, ap₂, ◌∙◌, arith}
-use Rattle.std.proofs.Math.Nat.{mod-lt, mul-add-div_right, mul-add-mod_self_right}
-use Rattle.std.proofs.lemmas.Nat.{pow-add, mul-add-lt, mod-mul-add, div_below, shr_below, shr_split}
-use Rattle.definitions.specs.Words.{cut}
-use Rattle.definitions.proofs.WordLaws.{pow_positive}
+use Rattle.std.proofs.{Common.{◌≡◌, ℕ, zero, suc, ◌+◌, ◌*◌, ◌/◌, ◌%◌, ◌^◌, ◌<◌, [], ◌∷◌, ◌++◌, sym, ap, ap₂, ◌∙◌, arith}, Math.Nat.{mod-lt, mul-add-div_right, mul-add-mod_self_right}, lemmas.Nat.{pow-add, mul-add-lt, mod-mul-add, div_below, shr_below, shr_split}}
+use Rattle.definitions.{specs.Words.cut, proofs.WordLaws.pow_positive}
 
 -- a number whose front is one word
 pub cut-front : (width n q r : ℕ) → q < 2 ^ width → r < 2 ^ (n * width) → cut width (suc n) (q * 2 ^ (n * width) + r) ≡ q ∷ cut width n r

@@ -1,13 +1,8 @@
 -- The fields of a list, one after the other.
-use Rattle.std.proofs.Common.{◌≡◌, ℕ, zero, suc, ◌+◌, ◌^◌, ◌<◌, ◌≤◌, lit<, List, [], ◌∷◌, ◌++◌, length, map, take, get_or, sym, ap, ◌∙◌, subst, arith}
-use Rattle.std.proofs.lemmas.List.{map-append, take_more}
-use Rattle.definitions.specs.StatementItems.{Item}
-use Rattle.definitions.specs.Words.{width_of}
+use Rattle.std.proofs.{Common.{◌≡◌, ℕ, zero, suc, ◌+◌, ◌^◌, ◌<◌, ◌≤◌, lit<, List, [], ◌∷◌, ◌++◌, length, map, take, get_or, sym, ap, ◌∙◌, subst, arith}, lemmas.List.{map-append, take_more}}
+use Rattle.definitions.specs.{StatementItems.Item, Words.width_of, Laws.Filling.HasRoom, declared.deck_kind.DeckKind.DeckKind, declared.deck_kind.DeckKind.TheVariants.{Rel, Abs, Periph}}
 use Rattle.statement_coder.specs.Joins.Items.{item_as}
 use Rattle.statement_coder.specs.declared.items.Item as code
-use Rattle.definitions.specs.Laws.Filling.{HasRoom}
-use Rattle.definitions.specs.declared.deck_kind.DeckKind.{DeckKind}
-use Rattle.definitions.specs.declared.deck_kind.DeckKind.TheVariants.{Rel, Abs, Periph}
 use Rattle.deck_listing.specs.Joins.Packing.{most_bits}
 use Rattle.deck_objects.specs.Joins.LineItems.{AreShort}
 

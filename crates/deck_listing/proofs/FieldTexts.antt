@@ -1,12 +1,7 @@
 -- The lines of fields, by their width and their bits alone.
 use Rattle.std.proofs.Common.{◌≡◌, ℕ, ◌/◌, ◌%◌, true, List, [], ◌∷◌, refl, sym, ap₂, ◌∙◌}
-use Rattle.definitions.specs.Listing.{central_line, central_lines, data_lines, item_lines, peripheral_item_lines, peripheral_lines}
+use Rattle.definitions.specs.{Listing.{central_line, central_lines, data_lines, item_lines, peripheral_item_lines, peripheral_lines}, Operations.{Operation, is_instruction}, StatementItems.Item, Words.{Coded, Linking, cut, joined, width_of}, declared.deck_kind.DeckKind.DeckKind, declared.deck_kind.DeckKind.TheVariants.{Rel, Abs, Periph}}
 use Rattle.definitions.specs.Operations as op
-use Rattle.definitions.specs.Operations.{Operation, is_instruction}
-use Rattle.definitions.specs.StatementItems.{Item}
-use Rattle.definitions.specs.Words.{Coded, Linking, cut, joined, width_of}
-use Rattle.definitions.specs.declared.deck_kind.DeckKind.{DeckKind}
-use Rattle.definitions.specs.declared.deck_kind.DeckKind.TheVariants.{Rel, Abs, Periph}
 use Rattle.deck_objects.specs.Joins.LineItems.{AreBitsOf}
 use Rattle.deck_listing.specs.Joins.WordLines.{fields_text, has_one_line}
 

@@ -1,18 +1,7 @@
 -- Spans that have each word of the runs, by increasing offset, are what the definitions store.
-use Rattle.std.proofs.Common.{◌≡◌, ◌≢◌, ℕ, zero, suc, ◌+◌, ◌/◌, ◌^◌, ◌<◌, ◌≤◌, Bool, true, false, not, ◌||◌, nat_eq, nat_lt, List, [], ◌∷◌, ◌++◌, Option, Some, None, reverse, refl, sym, ap, subst, ◌∙◌, arith, ◌⊎◌, inl, inr}
-use Rattle.std.specs.Prelude.{if◌then◌else◌}
-use Rattle.std.proofs.lemmas.Bool.{cases_order}
-use Rattle.std.proofs.lemmas.Bool.Decides.{eqb_tells, leb_tells}
-use Rattle.std.proofs.lemmas.List.{reverse-append}
-use Rattle.definitions.specs.Kinds.{units}
-use Rattle.definitions.specs.Image.{stored_at}
-use Rattle.definitions.specs.Words.{Parcel, StoredWord, in_word, latest_in_word, word_of_parcels, with_number, words_in, stored}
-use Rattle.definitions.proofs.WordLaws.{with_words_of, words_in-run}
-use Rattle.definitions.specs.declared.deck_kind.DeckKind.{DeckKind}
-use Rattle.deck_listing.specs.Joins.Spans.{RiseWithin}
-use Rattle.deck_listing.specs.Joins.Filling.{DoSpansRise, IsFilled, as_stored, found, is_none_there, is_within, latest_value, or_else, value_in, value_of_parcels, words_from}
-use Rattle.deck_listing.specs.declared.packing.word_spans.WordSpan.{WordSpan}
-use Rattle.deck_listing.proofs.RiseLaws.{rise-wider, rise-lower, found-here, or_assoc, or_else-none, within_tells}
+use Rattle.std.{proofs.Common.{◌≡◌, ◌≢◌, ℕ, zero, suc, ◌+◌, ◌/◌, ◌^◌, ◌<◌, ◌≤◌, Bool, true, false, not, ◌||◌, nat_eq, nat_lt, List, [], ◌∷◌, ◌++◌, Option, Some, None, reverse, refl, sym, ap, subst, ◌∙◌, arith, ◌⊎◌, inl, inr}, specs.Prelude.if◌then◌else◌, proofs.lemmas.Bool.cases_order, proofs.lemmas.Bool.Decides.{eqb_tells, leb_tells}, proofs.lemmas.List.reverse-append}
+use Rattle.definitions.{specs.Kinds.units, specs.Image.stored_at, specs.Words.{Parcel, StoredWord, in_word, latest_in_word, word_of_parcels, with_number, words_in, stored}, proofs.WordLaws.{with_words_of, words_in-run}, specs.declared.deck_kind.DeckKind.DeckKind}
+use Rattle.deck_listing.{specs.Joins.Spans.RiseWithin, specs.Joins.Filling.{DoSpansRise, IsFilled, as_stored, found, is_none_there, is_within, latest_value, or_else, value_in, value_of_parcels, words_from}, specs.declared.packing.word_spans.WordSpan.WordSpan, proofs.RiseLaws.{rise-wider, rise-lower, found-here, or_assoc, or_else-none, within_tells}}
 
 -- what the latest of these runs has in a word; the latest run is the first
 abbrev value_at : DeckKind → List (List Parcel) → ℕ → Option ℕ

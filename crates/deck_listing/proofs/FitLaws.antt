@@ -1,23 +1,8 @@
 -- Where all fields of a deck fit, they fit wherever it stands at the same base with the same values.
-use Rattle.std.proofs.Common.{◌≡◌, ℕ, Bool, ◌+◌, ◌*◌, ◌/◌, List, [], ◌∷◌, ◌++◌, Some, None, true, false, refl, sym, ap, ap₂, ◌∙◌, ℤ}
-use Rattle.std.specs.Prelude.{flat_map, reverse, if◌then◌else◌, ◌+ℤ◌}
-use Rattle.std.specs.List.{All}
-use Rattle.std.proofs.lemmas.List.Elements.{All-head, All-tail}
-use Rattle.definitions.specs.Cards.{Card}
-use Rattle.definitions.specs.Coding.{coded_in}
-use Rattle.definitions.specs.Forms.{Relocation}
-use Rattle.definitions.specs.Kinds.{unit_bits, word_bits}
-use Rattle.definitions.specs.Layout.{Based, Layout, block_base}
-use Rattle.definitions.specs.LinkValues.{is_unfit, linked_value}
-use Rattle.definitions.specs.LinkLines.{address_lines, unfit_addresses, unfit_words}
-use Rattle.definitions.specs.Objects.{Object}
-use Rattle.definitions.specs.StatementItems.{Content, Item, Known, Linked}
-use Rattle.definitions.specs.Words.{Coded}
-use Rattle.deck_objects.specs.Joins.LineItems.{kept_items}
-use Rattle.deck_objects.specs.Joins.PartsOf.{ArePartsOf}
-use Rattle.deck_objects.specs.declared.object.ObjectParts.{ObjectParts}
-use Rattle.deck_listing.specs.KeptSections.{DoAllFit, DoFieldsFollow, DoesContentFollow, IsPlaced}
-use Rattle.deck_listing.proofs.KeptLaws.{DoesItemFollow, DoItemsFollow, all-coded, kept-follow, worth-same}
+use Rattle.std.{proofs.Common.{◌≡◌, ℕ, Bool, ◌+◌, ◌*◌, ◌/◌, List, [], ◌∷◌, ◌++◌, Some, None, true, false, refl, sym, ap, ap₂, ◌∙◌, ℤ}, specs.Prelude.{flat_map, reverse, if◌then◌else◌, ◌+ℤ◌}, specs.List.All, proofs.lemmas.List.Elements.{All-head, All-tail}}
+use Rattle.definitions.specs.{Cards.Card, Coding.coded_in, Forms.Relocation, Kinds.{unit_bits, word_bits}, Layout.{Based, Layout, block_base}, LinkValues.{is_unfit, linked_value}, LinkLines.{address_lines, unfit_addresses, unfit_words}, Objects.Object, StatementItems.{Content, Item, Known, Linked}, Words.Coded}
+use Rattle.deck_objects.specs.{Joins.LineItems.kept_items, Joins.PartsOf.ArePartsOf, declared.object.ObjectParts.ObjectParts}
+use Rattle.deck_listing.{specs.KeptSections.{DoAllFit, DoFieldsFollow, DoesContentFollow, IsPlaced}, proofs.KeptLaws.{DoesItemFollow, DoItemsFollow, all-coded, kept-follow, worth-same}}
 
 -- lists that are nothing one behind the other
 first-none : {X : Type 0} (xs ys : List X) → xs ++ ys ≡ [] → xs ≡ []

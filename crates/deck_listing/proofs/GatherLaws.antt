@@ -1,20 +1,7 @@
 -- The words of one run, gathered parcel by parcel.
-use Rattle.std.proofs.Common.{◌≡◌, ◌≢◌, ℕ, ◌+◌, ◌*◌, ◌/◌, ◌%◌, ◌^◌, ◌<◌, Bool, true, false, ◌||◌, nat_eq, List, [], ◌∷◌, ◌++◌, Option, Some, None, get_or, refl, sym, ap, subst, ◌∙◌, arith, ◌⊎◌, inl, inr, append-nil}
-use Rattle.std.specs.Prelude.{if◌then◌else◌, unwrap_or}
-use Rattle.std.specs.List.{list_any}
-use Rattle.std.proofs.lemmas.Bool.{cases_order}
-use Rattle.std.proofs.lemmas.Bool.Decides.{eqb_tells}
-use Rattle.std.proofs.lemmas.List.Elements.{filter-append}
-use Rattle.std.proofs.lemmas.List.Folds.{list_any-append}
-use Rattle.definitions.specs.Kinds.{units}
-use Rattle.definitions.specs.Words.{Parcel, bits_at, in_word, filling_of, word_of_parcels}
-use Rattle.definitions.specs.declared.deck_kind.DeckKind.{DeckKind}
-use Rattle.definitions.specs.declared.deck_kind.DeckKind.TheVariants.{Rel, Abs, Periph}
-use Rattle.deck_listing.specs.Joins.Packing.{parcel_at}
-use Rattle.deck_listing.specs.Joins.Filling.{DoSpansRise, IsFilled, IsGathered, IsOpenWord, found, is_none_there, or_else, value_in, value_of_parcels, word_made}
-use Rattle.deck_listing.specs.declared.packing.word_spans.WordSpan.{WordSpan}
-use Rattle.deck_listing.specs.declared.packing.gathering.OpenWord.{OpenWord}
-use Rattle.deck_listing.proofs.RiseLaws.{spans-wider, spans-push, found-append, found-above, found-here, found-before, found-past, or_else-none, none-or_else}
+use Rattle.std.{proofs.Common.{◌≡◌, ◌≢◌, ℕ, ◌+◌, ◌*◌, ◌/◌, ◌%◌, ◌^◌, ◌<◌, Bool, true, false, ◌||◌, nat_eq, List, [], ◌∷◌, ◌++◌, Option, Some, None, get_or, refl, sym, ap, subst, ◌∙◌, arith, ◌⊎◌, inl, inr, append-nil}, specs.Prelude.{if◌then◌else◌, unwrap_or}, specs.List.list_any, proofs.lemmas.Bool.cases_order, proofs.lemmas.Bool.Decides.eqb_tells, proofs.lemmas.List.Elements.filter-append, proofs.lemmas.List.Folds.list_any-append}
+use Rattle.definitions.specs.{Kinds.units, Words.{Parcel, bits_at, in_word, filling_of, word_of_parcels}, declared.deck_kind.DeckKind.DeckKind, declared.deck_kind.DeckKind.TheVariants.{Rel, Abs, Periph}}
+use Rattle.deck_listing.{specs.Joins.Packing.parcel_at, specs.Joins.Filling.{DoSpansRise, IsFilled, IsGathered, IsOpenWord, found, is_none_there, or_else, value_in, value_of_parcels, word_made}, specs.declared.packing.word_spans.WordSpan.WordSpan, specs.declared.packing.gathering.OpenWord.OpenWord, proofs.RiseLaws.{spans-wider, spans-push, found-append, found-above, found-here, found-before, found-past, or_else-none, none-or_else}}
 
 -- a parcel behind others is seen where they do not cover its place
 bits_at-push : (kind : DeckKind) (filling place : ℕ) (parcels : List Parcel) (parcel : Parcel) →

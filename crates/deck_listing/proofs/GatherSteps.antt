@@ -1,15 +1,7 @@
 -- The steps of gathering a run, span by span.
-use Rattle.std.proofs.Common.{◌≡◌, ℕ, ◌+◌, ◌/◌, ◌<◌, ◌≤◌, Bool, List, [], ◌∷◌, ◌++◌, length, take, drop, get_or, replicate, sym, ap, ◌∙◌, subst, append_assoc}
-use Rattle.std.proofs.lemmas.List.{drop_more, take_more, replicate_more, length-replicate}
-use Rattle.definitions.specs.Kinds.{units}
-use Rattle.definitions.specs.Words.{Parcel, parcels_from}
-use Rattle.definitions.specs.declared.deck_kind.DeckKind.{DeckKind}
-use Rattle.deck_listing.specs.Joins.Packing.{parcel_at}
-use Rattle.deck_listing.specs.Joins.Spans.{RiseWithin, places, parcels_in, span_parcels}
-use Rattle.deck_listing.specs.declared.packing.spans.Span.{Span}
-use Rattle.deck_listing.proofs.PackingLaws.{parcels_from-append}
-use Rattle.deck_listing.proofs.ParcelSteps.{parcels_in-push}
-use Rattle.deck_listing.proofs.RiseLaws.{after_span, span_order}
+use Rattle.std.proofs.{Common.{◌≡◌, ℕ, ◌+◌, ◌/◌, ◌<◌, ◌≤◌, Bool, List, [], ◌∷◌, ◌++◌, length, take, drop, get_or, replicate, sym, ap, ◌∙◌, subst, append_assoc}, lemmas.List.{drop_more, take_more, replicate_more, length-replicate}}
+use Rattle.definitions.specs.{Kinds.units, Words.{Parcel, parcels_from}, declared.deck_kind.DeckKind.DeckKind}
+use Rattle.deck_listing.{specs.Joins.Packing.parcel_at, specs.Joins.Spans.{RiseWithin, places, parcels_in, span_parcels}, specs.declared.packing.spans.Span.Span, proofs.PackingLaws.parcels_from-append, proofs.ParcelSteps.parcels_in-push, proofs.RiseLaws.{after_span, span_order}}
 
 -- one parcel more of a span
 pub span_more : (parcels : List Parcel) (instruction : Bool) (place count bits : ℕ) →

@@ -1,10 +1,7 @@
 -- Equal words one behind the other as one span.
 use Rattle.std.proofs.Common.{◌≡◌, ℕ, zero, suc, ◌+◌, ◌^◌, ◌≤◌, List, [], ◌∷◌, ◌++◌, refl, sym, ap, subst, ◌∙◌, arith, append_assoc}
 use Rattle.definitions.specs.Words.{StoredWord}
-use Rattle.deck_listing.specs.Joins.Filling.{DoSpansRise, as_stored, words_from}
-use Rattle.deck_listing.specs.Joins.Joining.{AreJoined, IsJoining}
-use Rattle.deck_listing.specs.declared.packing.word_spans.WordSpan.{WordSpan}
-use Rattle.deck_listing.proofs.RiseLaws.{spans-order}
+use Rattle.deck_listing.{specs.Joins.Filling.{DoSpansRise, as_stored, words_from}, specs.Joins.Joining.{AreJoined, IsJoining}, specs.declared.packing.word_spans.WordSpan.WordSpan, proofs.RiseLaws.spans-order}
 
 -- so many words, and so many behind them
 words-both : (offset first second value : ℕ) → words_from offset (first + second) value ≡ words_from offset first value ++ words_from (offset + first) second value

@@ -1,36 +1,13 @@
 -- A deck has the same section wherever it stands at the same base with the same values.
-use Rattle.std.proofs.Common.{◌≡◌, ℕ, ◌+◌, ◌-◌, ◌*◌, ◌^◌, List, [], ◌∷◌, ◌++◌, Option, Some, None, true, false, filter, take, drop, refl, sym, ap, ap₂, subst, ◌∙◌, ℤ, pos}
-use Rattle.std.specs.Prelude.{flat_map, neg_ℤ, not, reverse, unwrap_or, ◌+ℤ◌}
-use Rattle.std.specs.List.{All}
-use Rattle.std.proofs.lemmas.List.{reverse-append, reverse-reverse}
-use Rattle.std.proofs.lemmas.List.Elements.{All-cons, All-drop, All-head, All-map, All-nil, All-push, All-tail, All-take}
-use Rattle.definitions.specs.Blocks.{literals_block}
-use Rattle.definitions.specs.Characters.{same_text}
-use Rattle.definitions.specs.Cards.{Card}
-use Rattle.definitions.specs.Coding.{coded_in}
-use Rattle.definitions.specs.Forms.{Relocation, Block, External, Part, Added, Subtracted}
-use Rattle.definitions.specs.Image.{section, word_line}
-use Rattle.definitions.specs.Kinds.{unit_bits}
-use Rattle.definitions.specs.Lengths.{BlockRow}
-use Rattle.definitions.specs.Layout.{AddressedWord, Based, Layout, addressed, block_base, block_words, is_beyond, literal_stored, local_rows, object_words}
-use Rattle.definitions.specs.LinkValues.{external_value, linking_of}
-use Rattle.definitions.specs.Objects.{Object}
-use Rattle.definitions.specs.Operations.{is_instruction}
-use Rattle.definitions.specs.StatementItems.{Content, Item, Known, Linked, part_value}
-use Rattle.definitions.specs.Words.{Coded, Linking, Parcel, StoredWord, content_bits, cut, joined, onto_runs, parcels_from, parcels_of, runs_of, stored, width_of, words_in}
-use Rattle.definitions.specs.declared.deck_kind.DeckKind.{DeckKind}
+use Rattle.std.{proofs.Common.{◌≡◌, ℕ, ◌+◌, ◌-◌, ◌*◌, ◌^◌, List, [], ◌∷◌, ◌++◌, Option, Some, None, true, false, filter, take, drop, refl, sym, ap, ap₂, subst, ◌∙◌, ℤ, pos}, specs.Prelude.{flat_map, neg_ℤ, not, reverse, unwrap_or, ◌+ℤ◌}, specs.List.All, proofs.lemmas.List.{reverse-append, reverse-reverse}, proofs.lemmas.List.Elements.{All-cons, All-drop, All-head, All-map, All-nil, All-push, All-tail, All-take}}
+use Rattle.definitions.specs.{Blocks.literals_block, Characters.same_text, Cards.Card, Coding.coded_in, Forms.{Relocation, Block, External, Part, Added, Subtracted}, Image.{section, word_line}, Kinds.unit_bits, Lengths.BlockRow, Layout.{AddressedWord, Based, Layout, addressed, block_base, block_words, is_beyond, literal_stored, local_rows, object_words}, LinkValues.{external_value, linking_of}, Objects.Object, Operations.is_instruction, StatementItems.{Content, Item, Known, Linked, part_value}, Words.{Coded, Linking, Parcel, StoredWord, content_bits, cut, joined, onto_runs, parcels_from, parcels_of, runs_of, stored, width_of, words_in}, declared.deck_kind.DeckKind.DeckKind}
 use Rattle.statement_coder.specs.Joins.Items.{content_as, item_as}
 use Rattle.statement_coder.specs.declared.items.Item as code
-use Rattle.deck_objects.specs.Joins.CodedLines.{IsCoded, AreCoded}
-use Rattle.deck_objects.specs.Joins.LineItems.{kept_from, kept_items}
-use Rattle.deck_objects.specs.Joins.PartsOf.{ArePartsOf}
+use Rattle.deck_objects.specs.{Joins.CodedLines.{IsCoded, AreCoded}, Joins.LineItems.{kept_from, kept_items}, Joins.PartsOf.ArePartsOf, declared.lines.Line.Line, declared.object.ObjectParts.ObjectParts}
 use Rattle.deck_objects.specs.declared.lines.CodedLine as lines
-use Rattle.deck_objects.specs.declared.lines.Line.{Line}
 use Rattle.deck_objects.specs.declared.lines.LineFields as kept
 use Rattle.deck_objects.specs.declared.lines.LineFields.TheVariants as fields
-use Rattle.deck_objects.specs.declared.object.ObjectParts.{ObjectParts}
-use Rattle.deck_listing.specs.Joins.ImageWordLines.{section_head}
-use Rattle.deck_listing.specs.KeptSections.{DoFieldsFollow, DoesContentFollow, DoesPartFollow, IsPlaced}
+use Rattle.deck_listing.specs.{Joins.ImageWordLines.section_head, KeptSections.{DoFieldsFollow, DoesContentFollow, DoesPartFollow, IsPlaced}}
 
 -- what the part of a form is worth
 pub worth-same : (object : Object) (base : ℕ) (values : List (Relocation × ℤ)) (l k : Layout) (b c : Based) → IsPlaced object base values l b → IsPlaced object base values k c →

@@ -1,16 +1,7 @@
 -- Lists of words, one over the other, are what the definitions lay.
-use Rattle.std.proofs.Common.{◌≡◌, ℕ, zero, suc, ◌+◌, ◌<◌, ◌≤◌, Bool, true, false, ◌||◌, nat_eq, List, [], ◌∷◌, ◌++◌, Option, Some, None, map, refl, sym, ap, ap₂, subst, ◌∙◌, arith, inl, inr}
-use Rattle.std.specs.Prelude.{flat_map, unwrap_or, if◌then◌else◌}
-use Rattle.std.specs.List.{AllByRecursion}
-use Rattle.std.proofs.lemmas.Bool.Decides.{eqb_tells}
-use Rattle.definitions.specs.Image.{stored_at, last_at, laid}
-use Rattle.definitions.specs.Words.{StoredWord, rising}
-use Rattle.deck_listing.specs.Joins.Spans.{RiseWithin}
-use Rattle.deck_listing.specs.Joins.Laying.{with_all_stored, over_all}
-use Rattle.deck_listing.specs.Joins.Filling.{or_else}
-use Rattle.deck_listing.proofs.RiseLaws.{or_assoc, or_else-none, rise-wider}
-use Rattle.deck_listing.proofs.FillLaws.{among, among-with_number, is_there, is_there-or, stored_offsets, unique, with_number-rise}
-use Rattle.deck_listing.proofs.OverLaws.{over-found, over-rise}
+use Rattle.std.{proofs.Common.{◌≡◌, ℕ, zero, suc, ◌+◌, ◌<◌, ◌≤◌, Bool, true, false, ◌||◌, nat_eq, List, [], ◌∷◌, ◌++◌, Option, Some, None, map, refl, sym, ap, ap₂, subst, ◌∙◌, arith, inl, inr}, specs.Prelude.{flat_map, unwrap_or, if◌then◌else◌}, specs.List.AllByRecursion, proofs.lemmas.Bool.Decides.eqb_tells}
+use Rattle.definitions.specs.{Image.{stored_at, last_at, laid}, Words.{StoredWord, rising}}
+use Rattle.deck_listing.{specs.Joins.Spans.RiseWithin, specs.Joins.Laying.{with_all_stored, over_all}, specs.Joins.Filling.or_else, proofs.RiseLaws.{or_assoc, or_else-none, rise-wider}, proofs.FillLaws.{among, among-with_number, is_there, is_there-or, stored_offsets, unique, with_number-rise}, proofs.OverLaws.{over-found, over-rise}}
 
 -- words rise, up to some offset
 abbrev pub DoesRise : List StoredWord → Type 0

@@ -1,32 +1,13 @@
 -- A line as the statement that follows those whose runs are packed.
-use Rattle.std.proofs.Common.{◌≡◌, ℕ, ◌-◌, ◌*◌, ◌/◌, ◌%◌, ◌≤◌, Bool, true, false, List, [], ◌∷◌, Option, Some, None, get_or, refl, sym, ap, subst, ◌∙◌, arith}
-use Rattle.std.specs.Prelude.{slice_get}
-use Rattle.std.proofs.lemmas.Option.{get_or_from_slice_get}
-use Rattle.std.proofs.Math.Nat.{mul_comm}
-use Rattle.std.proofs.lemmas.Nat.{pow_pos}
-use Rattle.definitions.specs.Characters.{same_text}
-use Rattle.definitions.specs.Kinds.{units, unit_bits, word_bits}
-use Rattle.definitions.specs.Lengths.{BlockRow}
+use Rattle.std.{proofs.Common.{◌≡◌, ℕ, ◌-◌, ◌*◌, ◌/◌, ◌%◌, ◌≤◌, Bool, true, false, List, [], ◌∷◌, Option, Some, None, get_or, refl, sym, ap, subst, ◌∙◌, arith}, specs.Prelude.slice_get, proofs.lemmas.Option.get_or_from_slice_get, proofs.Math.Nat.mul_comm, proofs.lemmas.Nat.pow_pos}
+use Rattle.definitions.{specs.Characters.same_text, specs.Kinds.{units, unit_bits, word_bits}, specs.Lengths.BlockRow, specs.Operations.is_instruction, specs.StatementItems.Item, specs.Words.{Coded, Linking}, specs.declared.deck_kind.DeckKind.DeckKind, specs.declared.deck_kind.DeckKind.TheVariants.{Rel, Abs, Periph}, proofs.TextLaws.same_text-true, specs.Laws.Filling.{DoFill, HasFields}, specs.Laws.Rising.run_end}
 use Rattle.definitions.specs.Operations as op
-use Rattle.definitions.specs.Operations.{is_instruction}
-use Rattle.definitions.specs.StatementItems.{Item}
-use Rattle.definitions.specs.Words.{Coded, Linking}
-use Rattle.definitions.specs.declared.deck_kind.DeckKind.{DeckKind}
-use Rattle.definitions.specs.declared.deck_kind.DeckKind.TheVariants.{Rel, Abs, Periph}
-use Rattle.definitions.proofs.TextLaws.{same_text-true}
 use Rattle.statement_coder.specs.declared.items.Item as code
 use Rattle.operations.specs.Joins.OperationsAs.{operation_as}
-use Rattle.deck_listing.specs.Joins.Packing.{OpenRun, Packed, moved, put_bits}
-use Rattle.deck_listing.proofs.PutLaws.{unit_some}
-use Rattle.definitions.specs.Laws.Filling.{DoFill, HasFields}
-use Rattle.definitions.specs.Laws.Rising.{run_end}
-use Rattle.deck_objects.specs.Joins.CodedLines.{IsCoded, IsNamed}
-use Rattle.deck_objects.specs.Joins.LineItems.{AreBitsOf, kept_items, zeros_to}
+use Rattle.deck_listing.{specs.Joins.Packing.{OpenRun, Packed, moved, put_bits}, proofs.PutLaws.unit_some, specs.Joins.Putting.{StandsAt, ArePut, IsReady}, specs.Joins.Walking.DoesFollow, proofs.PutSteps.put_one}
+use Rattle.deck_objects.specs.Joins.{CodedLines.{IsCoded, IsNamed}, LineItems.{AreBitsOf, kept_items, zeros_to}}
 use Rattle.deck_objects.specs.declared.lines.CodedLine as lines
 use Rattle.deck_objects.specs.declared.lines.LineFields.TheVariants as variant
-use Rattle.deck_listing.specs.Joins.Putting.{StandsAt, ArePut, IsReady}
-use Rattle.deck_listing.specs.Joins.Walking.{DoesFollow}
-use Rattle.deck_listing.proofs.PutSteps.{put_one}
 
 -- a line that is ready stands behind the run
 pub ready-stands : (kind : DeckKind) (items : List code.Item) (line : lines.CodedLine) (packed : Packed) → IsReady kind items line packed → StandsAt (unit_bits kind) packed.run (unit_bits kind * line.place)

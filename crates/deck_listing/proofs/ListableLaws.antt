@@ -1,30 +1,10 @@
 -- What is known of the statements of an object.
-use Rattle.std.proofs.Common.{◌≡◌, ◌≢◌, ℕ, ◌+◌, ◌-◌, ◌*◌, ◌%◌, ◌^◌, ◌<◌, ◌≤◌, true, false, List, [], ◌∷◌, ◌++◌, Option, None, Some, ◌⊎◌, inl, inr, ⊎_elim, reverse, refl, arith}
-use Rattle.std.specs.List.{AllByRecursion}
-use Rattle.std.proofs.lemmas.List.{reverse-append}
-use Rattle.std.proofs.lemmas.List.Elements.{All-from_recursion}
-use Rattle.definitions.specs.Cards.{Card}
-use Rattle.definitions.specs.Kinds.{most_words, unit_bits, units, word_bits}
-use Rattle.definitions.specs.Lengths.{BlockRow}
-use Rattle.definitions.specs.Objects.{Object}
+use Rattle.std.{proofs.Common.{◌≡◌, ◌≢◌, ℕ, ◌+◌, ◌-◌, ◌*◌, ◌%◌, ◌^◌, ◌<◌, ◌≤◌, true, false, List, [], ◌∷◌, ◌++◌, Option, None, Some, ◌⊎◌, inl, inr, ⊎_elim, reverse, refl, arith}, specs.List.AllByRecursion, proofs.lemmas.List.reverse-append, proofs.lemmas.List.Elements.All-from_recursion}
+use Rattle.definitions.specs.{Cards.Card, Kinds.{most_words, unit_bits, units, word_bits}, Lengths.BlockRow, Objects.Object, Operations.{Operation, is_instruction}, StatementItems.Item, Words.{Coded, width_of}, declared.deck_kind.DeckKind.DeckKind, declared.deck_kind.DeckKind.TheVariants.{Rel, Abs, Periph}, Laws.Filling.{DoFill, HasFields}, Laws.Reaching.{DoReach, DoesReach}, Laws.Rising.AreLaidOut}
 use Rattle.definitions.specs.Operations as op
-use Rattle.definitions.specs.Operations.{Operation, is_instruction}
-use Rattle.definitions.specs.StatementItems.{Item}
-use Rattle.definitions.specs.Words.{Coded, width_of}
-use Rattle.definitions.specs.declared.deck_kind.DeckKind.{DeckKind}
-use Rattle.definitions.specs.declared.deck_kind.DeckKind.TheVariants.{Rel, Abs, Periph}
 use Rattle.statement_coder.specs.declared.items.Item as code
-use Rattle.definitions.specs.Laws.Filling.{DoFill, HasFields}
-use Rattle.definitions.specs.Laws.Reaching.{DoReach, DoesReach}
-use Rattle.definitions.specs.Laws.Rising.{AreLaidOut}
-use Rattle.deck_objects.specs.Joins.CodedLines.{AreCoded, IsCoded}
-use Rattle.deck_objects.specs.Joins.PartsOf.{ArePartsOf}
-use Rattle.deck_objects.specs.declared.lines.CodedLine.{CodedLine}
-use Rattle.deck_objects.specs.declared.lines.Line.{Line}
-use Rattle.deck_objects.specs.declared.object.ObjectParts.{ObjectParts}
-use Rattle.deck_listing.specs.Joins.ListedParts.{AreListable, IsListable, IsListableLine}
-use Rattle.deck_listing.specs.Joins.WordLines.{has_one_line}
-use Rattle.deck_listing.proofs.FieldTexts.{has_one_line-true}
+use Rattle.deck_objects.specs.{Joins.CodedLines.{AreCoded, IsCoded}, Joins.PartsOf.ArePartsOf, declared.lines.CodedLine.CodedLine, declared.lines.Line.Line, declared.object.ObjectParts.ObjectParts}
+use Rattle.deck_listing.{specs.Joins.ListedParts.{AreListable, IsListable, IsListableLine}, specs.Joins.WordLines.has_one_line, proofs.FieldTexts.has_one_line-true}
 
 -- what is known of a statement of a deck
 record IsSound (kind : DeckKind) (coded : Coded) : Type 0 where

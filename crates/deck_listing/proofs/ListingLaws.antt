@@ -1,28 +1,9 @@
 -- The text of the parts of an object is the listing of its deck.
-use Rattle.std.proofs.Common.{◌≡◌, ℕ, suc, ◌+◌, ◌<◌, ◌≤◌, Bool, true, false, List, [], ◌∷◌, ◌++◌, Option, None, Some, ◌⊎◌, inl, inr, ⊎_elim, length, take, drop, reverse, refl, sym, ap, ap₂, ◌∙◌, arith, length-append}
-use Rattle.std.specs.Prelude.{codes, filter, flat_map, if◌then◌else◌, nat_lt}
-use Rattle.std.proofs.Math.Seq.{take-nil, drop-nil}
-use Rattle.std.proofs.lemmas.Bool.{cases_lt}
-use Rattle.std.proofs.lemmas.List.{drop_all, length-take-le, reverse-append}
-use Rattle.std.proofs.lemmas.List.Elements.{filter-append}
-use Rattle.definitions.specs.Cards.{Card}
-use Rattle.definitions.specs.Kinds.{kind_text}
-use Rattle.definitions.specs.Lengths.{BlockRow}
-use Rattle.definitions.specs.Listing.{block_line, card_lines, deck_listing, errors_of, is_flagged, letters_line, line, shown_lines, unlinked}
-use Rattle.definitions.specs.Numerals.{decimal_of}
-use Rattle.definitions.specs.Objects.{Object, Shown}
-use Rattle.definitions.specs.Words.{Coded}
-use Rattle.definitions.specs.declared.deck_kind.DeckKind.{DeckKind}
+use Rattle.std.{proofs.Common.{◌≡◌, ℕ, suc, ◌+◌, ◌<◌, ◌≤◌, Bool, true, false, List, [], ◌∷◌, ◌++◌, Option, None, Some, ◌⊎◌, inl, inr, ⊎_elim, length, take, drop, reverse, refl, sym, ap, ap₂, ◌∙◌, arith, length-append}, specs.Prelude.{codes, filter, flat_map, if◌then◌else◌, nat_lt}, proofs.Math.Seq.{take-nil, drop-nil}, proofs.lemmas.Bool.cases_lt, proofs.lemmas.List.{drop_all, length-take-le, reverse-append}, proofs.lemmas.List.Elements.filter-append}
+use Rattle.definitions.specs.{Cards.Card, Kinds.kind_text, Lengths.BlockRow, Listing.{block_line, card_lines, deck_listing, errors_of, is_flagged, letters_line, line, shown_lines, unlinked}, Numerals.decimal_of, Objects.{Object, Shown}, Words.Coded, declared.deck_kind.DeckKind.DeckKind}
 use Rattle.statement_coder.specs.declared.items.Item as code
-use Rattle.deck_objects.specs.Joins.CodedLines.{AreShown, IsShown, IsStored}
-use Rattle.deck_objects.specs.Joins.LineItems.{kept_items}
-use Rattle.deck_objects.specs.Joins.PartsOf.{ArePartsOf}
-use Rattle.deck_objects.specs.declared.lines.CodedLine.{CodedLine}
-use Rattle.deck_objects.specs.declared.lines.Line.{Line}
-use Rattle.deck_objects.specs.declared.object.ObjectParts.{ObjectParts}
-use Rattle.deck_listing.specs.Joins.ListedParts.{flagged_lines, has_letters, line_text, lines_text, parts_text, stored_text}
-use Rattle.deck_listing.specs.Joins.WordLines.{fields_text}
-use Rattle.deck_listing.proofs.FieldTexts.{fields_text-items, fields_text-same}
+use Rattle.deck_objects.specs.{Joins.CodedLines.{AreShown, IsShown, IsStored}, Joins.LineItems.kept_items, Joins.PartsOf.ArePartsOf, declared.lines.CodedLine.CodedLine, declared.lines.Line.Line, declared.object.ObjectParts.ObjectParts}
+use Rattle.deck_listing.{specs.Joins.ListedParts.{flagged_lines, has_letters, line_text, lines_text, parts_text, stored_text}, specs.Joins.WordLines.fields_text, proofs.FieldTexts.{fields_text-items, fields_text-same}}
 
 -- a statement in the listing of a deck of this kind with these blocks
 abbrev shown_text : DeckKind → List BlockRow → Shown → List ℕ

@@ -1,13 +1,7 @@
 -- The lines of literals, one after the other.
-use Rattle.std.proofs.Common.{◌≡◌, ℕ, ◌+◌, ◌<◌, ◌≤◌, false, List, [], ◌∷◌, ◌++◌, length, drop, get_or, refl, sym, ap, ◌∙◌, append_assoc, append-nil, Some, None, nat_le, arith, inl, inr, true≢false}
-use Rattle.std.specs.Prelude.{if◌then◌else◌}
-use Rattle.std.proofs.lemmas.Bool.Decides.{leb_tells}
-use Rattle.std.proofs.lemmas.List.{drop_more}
-use Rattle.definitions.specs.Image.{word_line}
-use Rattle.definitions.specs.Kinds.{memory_end}
-use Rattle.definitions.specs.declared.deck_kind.DeckKind.{DeckKind}
-use Rattle.deck_listing.specs.Joins.ImageWordLines.{literal_lines}
-use Rattle.deck_listing.proofs.ImageLineSteps.{is_within, is_beyond_end}
+use Rattle.std.{proofs.Common.{◌≡◌, ℕ, ◌+◌, ◌<◌, ◌≤◌, false, List, [], ◌∷◌, ◌++◌, length, drop, get_or, refl, sym, ap, ◌∙◌, append_assoc, append-nil, Some, None, nat_le, arith, inl, inr, true≢false}, specs.Prelude.if◌then◌else◌, proofs.lemmas.Bool.Decides.leb_tells, proofs.lemmas.List.drop_more}
+use Rattle.definitions.specs.{Image.word_line, Kinds.memory_end, declared.deck_kind.DeckKind.DeckKind}
+use Rattle.deck_listing.{specs.Joins.ImageWordLines.literal_lines, proofs.ImageLineSteps.{is_within, is_beyond_end}}
 
 -- the lines of literals, the first of which lies within the memory
 first_literal : (kind : DeckKind) (base offset value : ℕ) (literals : List ℕ) → nat_le (memory_end kind) (base + offset) ≡ false →

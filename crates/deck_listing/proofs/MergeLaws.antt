@@ -1,15 +1,7 @@
 -- Merging two lists of spans, and the words of several runs.
-use Rattle.std.proofs.Common.{◌≡◌, ℕ, suc, ◌+◌, ◌-◌, ◌^◌, ◌<◌, ◌≤◌, nat_lt, max, min, List, [], ◌∷◌, ◌++◌, None, refl, sym, ap, subst, take, drop, ◌∙◌, arith, ◌⊎◌, inl, inr, append-nil, append_assoc}
-use Rattle.std.proofs.lemmas.Bool.Decides.{leb_tells}
-use Rattle.std.specs.Prelude.{Vec, Result, Ok, Err, IfOk, if◌then◌else◌}
-use Rattle.std.proofs.lemmas.List.{take-append-drop}
-use Rattle.definitions.specs.Words.{Parcel}
-use Rattle.definitions.specs.declared.deck_kind.DeckKind.{DeckKind}
-use Rattle.deck_listing.specs.Joins.Spans.{DoRunsRise, parcels_in, parcels_in_runs}
-use Rattle.deck_listing.specs.Joins.Filling.{DoSpansRise, IsBetween, IsFilled, IsMerging, IsTaking, found, or_else, part_of, value_in, latest_value}
-use Rattle.deck_listing.specs.declared.packing.spans.Span.{Span}
-use Rattle.deck_listing.specs.declared.packing.word_spans.WordSpan.{WordSpan}
-use Rattle.deck_listing.proofs.RiseLaws.{spans-lower, spans-append, spans-push, found-append, found-above, found-under, found-here, found-before, found-past, within_tells, or_assoc, or_else-none, none-or_else, order_of}
+use Rattle.std.{proofs.Common.{◌≡◌, ℕ, suc, ◌+◌, ◌-◌, ◌^◌, ◌<◌, ◌≤◌, nat_lt, max, min, List, [], ◌∷◌, ◌++◌, None, refl, sym, ap, subst, take, drop, ◌∙◌, arith, ◌⊎◌, inl, inr, append-nil, append_assoc}, proofs.lemmas.Bool.Decides.leb_tells, specs.Prelude.{Vec, Result, Ok, Err, IfOk, if◌then◌else◌}, proofs.lemmas.List.take-append-drop}
+use Rattle.definitions.specs.{Words.Parcel, declared.deck_kind.DeckKind.DeckKind}
+use Rattle.deck_listing.{specs.Joins.Spans.{DoRunsRise, parcels_in, parcels_in_runs}, specs.Joins.Filling.{DoSpansRise, IsBetween, IsFilled, IsMerging, IsTaking, found, or_else, part_of, value_in, latest_value}, specs.declared.packing.spans.Span.Span, specs.declared.packing.word_spans.WordSpan.WordSpan, proofs.RiseLaws.{spans-lower, spans-append, spans-push, found-append, found-above, found-under, found-here, found-before, found-past, within_tells, or_assoc, or_else-none, none-or_else, order_of}}
 
 -- a span from one offset up to another has what is asked for
 part_some : (begin end value : ℕ) → begin < end → (if nat_lt begin end then (let s : WordSpan = record { offset = begin; count = end - begin; value = value } in s) ∷ [] else []) ≡ (let s : WordSpan = record { offset = begin; count = end - begin; value = value } in s) ∷ []

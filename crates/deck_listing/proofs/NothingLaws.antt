@@ -1,19 +1,7 @@
 -- Where nothing lies in the runs of a block there is no word, and where something lies there is one.
-use Rattle.std.proofs.Common.{arith, ◌≡◌, ℕ, zero, suc, ◌/◌, List, [], ◌∷◌, ◌++◌, refl, ap, sym, subst, reverse, ◌∙◌, replicate}
-use Rattle.std.specs.Prelude.{Bool, true, false, not, ◌||◌, ◌≢◌, nat_eq, nat_lt, if◌then◌else◌, Vec, Result, Ok, Err, OnErr}
-use Rattle.std.specs.List.{list_any}
-use Rattle.std.proofs.lemmas.Bool.{true≢false, not-true, not-false, lt-ltb}
-use Rattle.std.proofs.lemmas.List.Sorted.{list_any-IsPermutation, IsPermutation-reverse}
-use Rattle.definitions.specs.Kinds.{units}
-use Rattle.definitions.specs.Words.{Parcel, parcels_from, with_number, words_in}
-use Rattle.definitions.specs.declared.deck_kind.DeckKind.{DeckKind}
-use Rattle.definitions.proofs.WordLaws.{with_words_of, words_in-run}
-use Rattle.deck_listing.specs.Joins.Filling.{is_none_there}
-use Rattle.deck_listing.specs.Joins.Packing.{Packed, runs_in}
-use Rattle.deck_listing.specs.Joins.Spans.{has_parcel, lies_in, parcels_in, parcels_in_runs, run_of}
-use Rattle.deck_listing.specs.declared.packing.spans.Span.{Span}
-use Rattle.deck_listing.specs.declared.packing.spans.OpenParcel.{OpenParcel}
-use Rattle.deck_listing.proofs.PackedLaws.{block}
+use Rattle.std.{proofs.Common.{arith, ◌≡◌, ℕ, zero, suc, ◌/◌, List, [], ◌∷◌, ◌++◌, refl, ap, sym, subst, reverse, ◌∙◌, replicate}, specs.Prelude.{Bool, true, false, not, ◌||◌, ◌≢◌, nat_eq, nat_lt, if◌then◌else◌, Vec, Result, Ok, Err, OnErr}, specs.List.list_any, proofs.lemmas.Bool.{true≢false, not-true, not-false, lt-ltb}, proofs.lemmas.List.Sorted.{list_any-IsPermutation, IsPermutation-reverse}}
+use Rattle.definitions.{specs.Kinds.units, specs.Words.{Parcel, parcels_from, with_number, words_in}, specs.declared.deck_kind.DeckKind.DeckKind, proofs.WordLaws.{with_words_of, words_in-run}}
+use Rattle.deck_listing.{specs.Joins.Filling.is_none_there, specs.Joins.Packing.{Packed, runs_in}, specs.Joins.Spans.{has_parcel, lies_in, parcels_in, parcels_in_runs, run_of}, specs.declared.packing.spans.Span.Span, specs.declared.packing.spans.OpenParcel.OpenParcel, proofs.PackedLaws.block}
 
 -- whether there is a number
 abbrev pub has_number : List ℕ → Bool

@@ -1,15 +1,7 @@
 -- The words of a block with others over them, as the definitions have them.
-use Rattle.std.proofs.Common.{◌≡◌, ◌≢◌, ℕ, zero, suc, ◌+◌, ◌^◌, ◌<◌, ◌≤◌, true, false, nat_lt, List, [], ◌∷◌, ◌++◌, Some, None, refl, sym, ap, ◌∙◌, arith, inl, inr}
-use Rattle.std.proofs.lemmas.Bool.{cases_order}
-use Rattle.std.proofs.lemmas.Bool.Decides.{eqb_tells, leb_tells}
-use Rattle.definitions.specs.Image.{stored_at}
-use Rattle.definitions.specs.Words.{StoredWord}
-use Rattle.deck_listing.specs.Joins.Spans.{RiseWithin}
-use Rattle.deck_listing.specs.Joins.Laying.{with_stored, with_all_stored}
-use Rattle.deck_listing.specs.Joins.Filling.{DoSpansRise, IsFilled, as_stored, found, or_else, words_from}
-use Rattle.deck_listing.specs.declared.packing.word_spans.WordSpan.{WordSpan}
-use Rattle.deck_listing.proofs.RiseLaws.{none-or_else, or_else-none, order_of, rise-lower, rise-order}
-use Rattle.deck_listing.proofs.FillLaws.{stored_offsets, stored_at-other, stored_at-under, spans-found, spans-rise, unique}
+use Rattle.std.proofs.{Common.{◌≡◌, ◌≢◌, ℕ, zero, suc, ◌+◌, ◌^◌, ◌<◌, ◌≤◌, true, false, nat_lt, List, [], ◌∷◌, ◌++◌, Some, None, refl, sym, ap, ◌∙◌, arith, inl, inr}, lemmas.Bool.cases_order, lemmas.Bool.Decides.{eqb_tells, leb_tells}}
+use Rattle.definitions.specs.{Image.stored_at, Words.StoredWord}
+use Rattle.deck_listing.{specs.Joins.Spans.RiseWithin, specs.Joins.Laying.{with_stored, with_all_stored}, specs.Joins.Filling.{DoSpansRise, IsFilled, as_stored, found, or_else, words_from}, specs.declared.packing.word_spans.WordSpan.WordSpan, proofs.RiseLaws.{none-or_else, or_else-none, order_of, rise-lower, rise-order}, proofs.FillLaws.{stored_offsets, stored_at-other, stored_at-under, spans-found, spans-rise, unique}}
 
 lt_is : (a b : ℕ) → a < b → nat_lt a b ≡ true
 lt_is a b h = elim (leb_tells (suc a) b) [ inl e ↦ e.0 | inr e ↦ let k = e.1 in absurd (omega arith) ]

@@ -1,19 +1,7 @@
 -- The block as contracts see it, before and after a put.
-use Rattle.std.proofs.Common.{◌≡◌, ℕ, ◌+◌, ◌*◌, ◌<◌, ◌≤◌, List, [], ◌∷◌, ◌++◌, reverse, sym, ap, subst, ◌∙◌}
-use Rattle.std.specs.Prelude.{Vec, false}
-use Rattle.definitions.specs.Kinds.{units, unit_bits, word_bits}
-use Rattle.definitions.specs.Kinds.{most_words}
-use Rattle.definitions.specs.Words.{Parcel, stored, words_in}
-use Rattle.definitions.specs.declared.deck_kind.DeckKind.{DeckKind}
-use Rattle.deck_listing.specs.Joins.Packing.{MayBegin, OpenRun, Packed, empty_run, most_bits, moved, put_bits, runs_in}
-use Rattle.deck_listing.specs.Joins.Spans.{DoRunsRise, IsKept, parcels_in, parcels_in_runs, run_of}
-use Rattle.deck_listing.specs.Joins.Filling.{IsFilled, as_stored, found, latest_value, or_else, value_in}
-use Rattle.deck_listing.specs.declared.packing.word_spans.WordSpan.{WordSpan}
-use Rattle.deck_listing.specs.declared.packing.spans.Span.{Span}
-use Rattle.deck_listing.specs.declared.packing.spans.OpenParcel.{OpenParcel}
-use Rattle.deck_listing.proofs.MergeLaws.{parcels_in_runs-append}
-use Rattle.deck_listing.proofs.FillLaws.{filled_stored}
-use Rattle.deck_listing.proofs.PutLaws.{zeros_kept, zeros_put, IsMoved, moved_open, reverse-push, runs_rise-push, unit_some, whole_rise}
+use Rattle.std.{proofs.Common.{◌≡◌, ℕ, ◌+◌, ◌*◌, ◌<◌, ◌≤◌, List, [], ◌∷◌, ◌++◌, reverse, sym, ap, subst, ◌∙◌}, specs.Prelude.{Vec, false}}
+use Rattle.definitions.specs.{Kinds.{units, unit_bits, word_bits, most_words}, Words.{Parcel, stored, words_in}, declared.deck_kind.DeckKind.DeckKind}
+use Rattle.deck_listing.{specs.Joins.Packing.{MayBegin, OpenRun, Packed, empty_run, most_bits, moved, put_bits, runs_in}, specs.Joins.Spans.{DoRunsRise, IsKept, parcels_in, parcels_in_runs, run_of}, specs.Joins.Filling.{IsFilled, as_stored, found, latest_value, or_else, value_in}, specs.declared.packing.word_spans.WordSpan.WordSpan, specs.declared.packing.spans.Span.Span, specs.declared.packing.spans.OpenParcel.OpenParcel, proofs.MergeLaws.parcels_in_runs-append, proofs.FillLaws.filled_stored, proofs.PutLaws.{zeros_kept, zeros_put, IsMoved, moved_open, reverse-push, runs_rise-push, unit_some, whole_rise}}
 
 -- a block as contracts see it
 abbrev pub block : DeckKind → OpenRun → List (List Parcel) → Packed

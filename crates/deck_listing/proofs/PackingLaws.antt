@@ -1,8 +1,6 @@
 -- What putting bits one behind the other comes to: fields join, and whole parcels are a number cut.
-use Rattle.std.proofs.Common.{◌≡◌, ℕ, zero, suc, ◌+◌, ◌*◌, ◌/◌, ◌%◌, ◌^◌, ◌<◌, Bool, List, [], ◌∷◌, ◌++◌, length, refl, sym, ap, ◌∙◌, arith, add-suc, append_assoc, append-nil, length-append, inl, inr}
+use Rattle.std.proofs.{Common.{◌≡◌, ℕ, zero, suc, ◌+◌, ◌*◌, ◌/◌, ◌%◌, ◌^◌, ◌<◌, Bool, List, [], ◌∷◌, ◌++◌, length, refl, sym, ap, ◌∙◌, arith, add-suc, append_assoc, append-nil, length-append, inl, inr}, lemmas.Nat.{pow_pos, shr_below, shr_split}, lemmas.Bool.Decides.eqb_tells}
 use Rattle.std.proofs.Math.Nat.{mod-lt, pow-suc as pow-succ}
-use Rattle.std.proofs.lemmas.Nat.{pow_pos, shr_below, shr_split}
-use Rattle.std.proofs.lemmas.Bool.Decides.{eqb_tells}
 use Rattle.definitions.specs.Words.{Parcel, cut, parcels_from}
 use Rattle.deck_listing.specs.Joins.Packing.{OpenRun, put_bit, put_bits, parcel_at}
 

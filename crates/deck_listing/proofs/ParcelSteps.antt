@@ -1,13 +1,6 @@
 -- The steps of putting a field into a run.
-use Rattle.std.proofs.Common.{◌≡◌, ℕ, ◌+◌, ◌-◌, ◌*◌, ◌/◌, ◌%◌, ◌^◌, ◌<◌, ◌≤◌, Bool, List, [], ◌∷◌, ◌++◌, refl, sym, ap, subst, ◌∙◌, arith, append_assoc, append-nil}
-use Rattle.std.proofs.Math.Nat.{mod-lt, pow-le-pow_right}
-use Rattle.std.proofs.lemmas.Nat.{pow-add, pow_pos, shr_below, shr_split, shl_whole, mul-add-lt}
-use Rattle.deck_listing.specs.Joins.Packing.{put_bits, parcel_at}
-use Rattle.deck_listing.specs.Joins.Spans.{IsField, IsPut, IsSplit, parcels_in, span_parcels, run_of}
-use Rattle.deck_listing.specs.declared.packing.spans.Span.{Span}
-use Rattle.deck_listing.specs.declared.packing.spans.OpenParcel.{OpenParcel}
-use Rattle.deck_listing.specs.declared.packing.fields.Field.{Field}
-use Rattle.deck_listing.proofs.PackingLaws.{put_bits-joined, put_bits-within, put_bits-closing}
+use Rattle.std.proofs.{Common.{◌≡◌, ℕ, ◌+◌, ◌-◌, ◌*◌, ◌/◌, ◌%◌, ◌^◌, ◌<◌, ◌≤◌, Bool, List, [], ◌∷◌, ◌++◌, refl, sym, ap, subst, ◌∙◌, arith, append_assoc, append-nil}, Math.Nat.{mod-lt, pow-le-pow_right}, lemmas.Nat.{pow-add, pow_pos, shr_below, shr_split, shl_whole, mul-add-lt}}
+use Rattle.deck_listing.{specs.Joins.Packing.{put_bits, parcel_at}, specs.Joins.Spans.{IsField, IsPut, IsSplit, parcels_in, span_parcels, run_of}, specs.declared.packing.spans.Span.Span, specs.declared.packing.spans.OpenParcel.OpenParcel, specs.declared.packing.fields.Field.Field, proofs.PackingLaws.{put_bits-joined, put_bits-within, put_bits-closing}}
 
 -- the first bits of a field and the rest
 pub split_bits : (field : Field) (width : ℕ) → IsField field → width < field.width →

@@ -1,25 +1,7 @@
 -- Statements whose fields are put one behind the other have the parcels of the definitions; what is put rises.
-use Rattle.std.proofs.Common.{◌≡◌, ◌≢◌, ℕ, zero, suc, ◌+◌, ◌-◌, ◌*◌, ◌/◌, ◌%◌, ◌^◌, ◌<◌, ◌≤◌, Bool, true, false, List, [], ◌∷◌, ◌++◌, replicate, reverse, refl, sym, ap, subst, ◌∙◌, arith, inl, inr}
-use Rattle.std.proofs.lemmas.Bool.{cases_order}
-use Rattle.std.proofs.lemmas.Bool.Decides.{eqb_tells}
-use Rattle.std.proofs.lemmas.Nat.{pow_pos, le-div, shr_le, shr_split}
-use Rattle.std.proofs.lemmas.List.{replicate_more, reverse-append}
-use Rattle.definitions.specs.Characters.{same_text}
-use Rattle.definitions.specs.Kinds.{units, unit_bits, word_bits}
-use Rattle.definitions.specs.Kinds.{most_words}
-use Rattle.definitions.specs.StatementItems.{Item}
-use Rattle.definitions.specs.Words.{Parcel, Coded, Linking, cut, parcels_from, width_of, joined, content_bits, parcels_of, onto_runs, runs_of}
-use Rattle.definitions.specs.Operations.{is_instruction}
-use Rattle.definitions.specs.declared.deck_kind.DeckKind.{DeckKind}
-use Rattle.definitions.specs.declared.deck_kind.DeckKind.TheVariants.{Rel, Abs, Periph}
-use Rattle.deck_listing.specs.Joins.Packing.{OpenRun, Packed, DoItemsFit, end_bit, most_bits, moved, MayBegin, put_bit, put_bits, put_items, parcel_at, runs_in}
-use Rattle.deck_listing.specs.Joins.Spans.{IsOpen, IsPut, IsKept, RiseWithin, DoRunsRise, places, parcels_in, run_of, span_parcels}
-use Rattle.deck_listing.specs.declared.packing.spans.Span.{Span}
-use Rattle.deck_listing.specs.declared.packing.spans.OpenParcel.{OpenParcel}
-use Rattle.deck_listing.specs.declared.packing.fields.Field.{Field}
-use Rattle.deck_listing.proofs.PackingLaws.{put_bits-joined, put_bits-whole}
-use Rattle.deck_listing.proofs.ParcelSteps.{joined_below, parcels_in-push}
-use Rattle.deck_listing.proofs.RiseLaws.{rise-wider, rise-push, rise-append, places-append}
+use Rattle.std.proofs.{Common.{◌≡◌, ◌≢◌, ℕ, zero, suc, ◌+◌, ◌-◌, ◌*◌, ◌/◌, ◌%◌, ◌^◌, ◌<◌, ◌≤◌, Bool, true, false, List, [], ◌∷◌, ◌++◌, replicate, reverse, refl, sym, ap, subst, ◌∙◌, arith, inl, inr}, lemmas.Bool.cases_order, lemmas.Bool.Decides.eqb_tells, lemmas.Nat.{pow_pos, le-div, shr_le, shr_split}, lemmas.List.{replicate_more, reverse-append}}
+use Rattle.definitions.specs.{Characters.same_text, Kinds.{units, unit_bits, word_bits, most_words}, StatementItems.Item, Words.{Parcel, Coded, Linking, cut, parcels_from, width_of, joined, content_bits, parcels_of, onto_runs, runs_of}, Operations.is_instruction, declared.deck_kind.DeckKind.DeckKind, declared.deck_kind.DeckKind.TheVariants.{Rel, Abs, Periph}}
+use Rattle.deck_listing.{specs.Joins.Packing.{OpenRun, Packed, DoItemsFit, end_bit, most_bits, moved, MayBegin, put_bit, put_bits, put_items, parcel_at, runs_in}, specs.Joins.Spans.{IsOpen, IsPut, IsKept, RiseWithin, DoRunsRise, places, parcels_in, run_of, span_parcels}, specs.declared.packing.spans.Span.Span, specs.declared.packing.spans.OpenParcel.OpenParcel, specs.declared.packing.fields.Field.Field, proofs.PackingLaws.{put_bits-joined, put_bits-whole}, proofs.ParcelSteps.{joined_below, parcels_in-push}, proofs.RiseLaws.{rise-wider, rise-push, rise-append, places-append}}
 
 joined-below : (linking : Linking) (items : List Item) → DoItemsFit linking items → joined linking items < 2 ^ width_of items
 joined-below linking [] h = omega arith

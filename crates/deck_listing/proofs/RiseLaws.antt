@@ -1,14 +1,7 @@
 -- Numbers and spans that rise, and what spans that rise have at an offset.
-use Rattle.std.proofs.Common.{◌≡◌, ℕ, zero, suc, ◌+◌, ◌/◌, ◌<◌, ◌≤◌, Bool, true, false, List, [], ◌∷◌, ◌++◌, Option, Some, None, replicate, refl, ap, subst, ◌∙◌, arith, ◌⊎◌, inl, inr}
-use Rattle.std.specs.Prelude.{if◌then◌else◌}
-use Rattle.std.proofs.lemmas.Bool.Decides.{leb_tells}
-use Rattle.definitions.specs.Kinds.{units}
-use Rattle.definitions.specs.Words.{Parcel, parcels_from}
-use Rattle.definitions.specs.declared.deck_kind.DeckKind.{DeckKind}
-use Rattle.definitions.specs.declared.deck_kind.DeckKind.TheVariants.{Rel, Abs, Periph}
-use Rattle.deck_listing.specs.Joins.Spans.{RiseWithin, places}
-use Rattle.deck_listing.specs.Joins.Filling.{DoSpansRise, found, is_within, or_else}
-use Rattle.deck_listing.specs.declared.packing.word_spans.WordSpan.{WordSpan}
+use Rattle.std.{proofs.Common.{◌≡◌, ℕ, zero, suc, ◌+◌, ◌/◌, ◌<◌, ◌≤◌, Bool, true, false, List, [], ◌∷◌, ◌++◌, Option, Some, None, replicate, refl, ap, subst, ◌∙◌, arith, ◌⊎◌, inl, inr}, specs.Prelude.if◌then◌else◌, proofs.lemmas.Bool.Decides.leb_tells}
+use Rattle.definitions.specs.{Kinds.units, Words.{Parcel, parcels_from}, declared.deck_kind.DeckKind.DeckKind, declared.deck_kind.DeckKind.TheVariants.{Rel, Abs, Periph}}
+use Rattle.deck_listing.specs.{Joins.Spans.{RiseWithin, places}, Joins.Filling.{DoSpansRise, found, is_within, or_else}, declared.packing.word_spans.WordSpan.WordSpan}
 
 pub rise-wider : (low : ℕ) (ns : List ℕ) (high higher : ℕ) → RiseWithin low ns high → high ≤ higher → RiseWithin low ns higher
 rise-wider low [] high higher h k = omega arith

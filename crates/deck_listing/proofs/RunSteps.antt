@@ -1,26 +1,11 @@
 -- The runs of a block with one statement more.
-use Rattle.std.proofs.Common.{◌≡◌, ℕ, ◌-◌, ◌*◌, ◌≤◌, Bool, true, false, List, [], ◌∷◌, ◌++◌, Result, Ok, Err, refl, sym, ap, subst, ◌∙◌, arith, append-nil}
-use Rattle.std.specs.Prelude.{OnOk}
-use Rattle.std.proofs.Math.Nat.{mul_comm}
-use Rattle.definitions.specs.Characters.{same_text}
-use Rattle.definitions.specs.Kinds.{unit_bits}
-use Rattle.definitions.specs.Lengths.{BlockRow}
-use Rattle.definitions.specs.Operations.{is_instruction}
-use Rattle.definitions.specs.StatementItems.{Item}
-use Rattle.definitions.specs.Words.{Coded, Linking, Parcel, cut, joined, parcels_from, parcels_of, onto_runs, runs_of, width_of}
-use Rattle.definitions.specs.declared.deck_kind.DeckKind.{DeckKind}
+use Rattle.std.{proofs.Common.{◌≡◌, ℕ, ◌-◌, ◌*◌, ◌≤◌, Bool, true, false, List, [], ◌∷◌, ◌++◌, Result, Ok, Err, refl, sym, ap, subst, ◌∙◌, arith, append-nil}, specs.Prelude.OnOk, proofs.Math.Nat.mul_comm}
+use Rattle.definitions.specs.{Characters.same_text, Kinds.unit_bits, Lengths.BlockRow, Operations.is_instruction, StatementItems.Item, Words.{Coded, Linking, Parcel, cut, joined, parcels_from, parcels_of, onto_runs, runs_of, width_of}, declared.deck_kind.DeckKind.DeckKind, Laws.Filling.DoFill, Laws.Rising.{run_end, end_with, end_behind}}
 use Rattle.statement_coder.specs.declared.items.Item as code
 use Rattle.operations.specs.Joins.OperationsAs.{operation_as}
-use Rattle.deck_listing.specs.Joins.Packing.{OpenRun, Packed, empty_run}
-use Rattle.deck_listing.proofs.PutLaws.{runs_put, runs_begun, unit_some}
-use Rattle.definitions.specs.Laws.Filling.{DoFill}
-use Rattle.definitions.specs.Laws.Rising.{run_end, end_with, end_behind}
+use Rattle.deck_listing.{specs.Joins.Packing.{OpenRun, Packed, empty_run}, proofs.PutLaws.{runs_put, runs_begun, unit_some}, specs.Joins.Putting.ArePut, specs.Joins.Walking.{DoesFollow, HasRuns}, proofs.PutSteps.parcels_put, proofs.LineSteps.follows-ready}
 use Rattle.deck_objects.specs.Joins.LineItems.{AreBitsOf, kept_items}
 use Rattle.deck_objects.specs.declared.lines.CodedLine as lines
-use Rattle.deck_listing.specs.Joins.Putting.{ArePut}
-use Rattle.deck_listing.specs.Joins.Walking.{DoesFollow, HasRuns}
-use Rattle.deck_listing.proofs.PutSteps.{parcels_put}
-use Rattle.deck_listing.proofs.LineSteps.{follows-ready}
 
 -- a statement of another block changes nothing
 pub other-runs : (kind : DeckKind) (linking : Linking) (block : List ℕ) (packed : Packed) (coded : Coded) (earlier : List Coded) →

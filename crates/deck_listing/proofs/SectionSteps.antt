@@ -1,10 +1,6 @@
 -- The section of a deck, its first line and its words.
 use Rattle.std.proofs.Common.{◌≡◌, ℕ, List, ◌++◌, sym, ap, ◌∙◌, append_assoc}
-use Rattle.definitions.specs.Image.{section}
-use Rattle.definitions.specs.Layout.{Based, Layout, object_words}
-use Rattle.definitions.specs.LinkValues.{linking_of}
-use Rattle.definitions.specs.Objects.{Object}
-use Rattle.definitions.specs.declared.deck_kind.DeckKind.{DeckKind}
+use Rattle.definitions.specs.{Image.section, Layout.{Based, Layout, object_words}, LinkValues.linking_of, Objects.Object, declared.deck_kind.DeckKind.DeckKind}
 use Rattle.deck_listing.specs.Joins.ImageWordLines.{lines_of, section_head}
 
 -- the first line and the words of a deck that stands there are its section

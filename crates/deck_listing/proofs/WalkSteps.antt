@@ -1,22 +1,10 @@
 -- The lines of an object, walked one after the other.
-use Rattle.std.proofs.Common.{◌≡◌, List, [], ◌∷◌, ◌++◌, Option, Some, None, reverse, refl, sym, ap, subst, ◌∙◌, append_assoc, append-nil, length}
-use Rattle.std.proofs.lemmas.List.{reverse-append, reverse-reverse}
-use Rattle.definitions.specs.Cards.{Card}
-use Rattle.definitions.specs.Lengths.{BlockRow}
-use Rattle.definitions.specs.Objects.{Object}
-use Rattle.definitions.specs.Words.{Coded, Linking}
-use Rattle.definitions.specs.declared.deck_kind.DeckKind.{DeckKind}
+use Rattle.std.proofs.{Common.{◌≡◌, List, [], ◌∷◌, ◌++◌, Option, Some, None, reverse, refl, sym, ap, subst, ◌∙◌, append_assoc, append-nil, length}, lemmas.List.{reverse-append, reverse-reverse}}
+use Rattle.definitions.specs.{Cards.Card, Lengths.BlockRow, Objects.Object, Words.{Coded, Linking}, declared.deck_kind.DeckKind.DeckKind, Laws.Reaching.DoReach, Laws.Rising.AreLaidOut}
 use Rattle.statement_coder.specs.declared.items.Item as code
-use Rattle.deck_listing.specs.Joins.Packing.{Packed}
-use Rattle.definitions.specs.Laws.Reaching.{DoReach}
-use Rattle.definitions.specs.Laws.Rising.{AreLaidOut}
-use Rattle.deck_objects.specs.Joins.CodedLines.{IsCoded, AreCoded}
+use Rattle.deck_listing.{specs.Joins.Packing.Packed, specs.Joins.Walking.{AreEmpty, DoesFollowAll, HaveRuns, IsNextOfAll, AreWalked}, proofs.BlockSteps.empty-runs}
+use Rattle.deck_objects.specs.{Joins.CodedLines.{IsCoded, AreCoded}, Joins.PartsOf.ArePartsOf, declared.lines.Line.Line, declared.object.ObjectParts.ObjectParts}
 use Rattle.deck_objects.specs.declared.lines.CodedLine as lines
-use Rattle.deck_objects.specs.Joins.PartsOf.{ArePartsOf}
-use Rattle.deck_objects.specs.declared.lines.Line.{Line}
-use Rattle.deck_objects.specs.declared.object.ObjectParts.{ObjectParts}
-use Rattle.deck_listing.specs.Joins.Walking.{AreEmpty, DoesFollowAll, HaveRuns, IsNextOfAll, AreWalked}
-use Rattle.deck_listing.proofs.BlockSteps.{empty-runs}
 
 -- the statement of the first line, and the others
 record IsSplit (kind : DeckKind) (rows : List BlockRow) (items : List code.Item) (stored : lines.CodedLine) (rest : List Line) (all : List Coded) : Type 0 where

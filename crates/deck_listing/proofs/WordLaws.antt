@@ -1,26 +1,8 @@
 -- The lines of words that fields fill one behind the other.
-use Rattle.std.proofs.Common.{◌≡◌, ℕ, suc, ◌+◌, ◌-◌, ◌*◌, ◌/◌, ◌%◌, ◌^◌, ◌<◌, ◌≤◌, List, [], ◌∷◌, ◌++◌, Option, Some, None, refl, sym, ap, ap₂, ◌∙◌, arith, append_assoc}
-use Rattle.std.specs.Prelude.{ℤ, pos, ◌+ℤ◌, unwrap_or}
-use Rattle.std.proofs.Math.Nat.{mod-lt}
-use Rattle.std.proofs.Math.Pow.{pow_mono}
-use Rattle.std.proofs.lemmas.Nat.{pow-add, shr_below}
-use Rattle.definitions.specs.Coding.{coded_in}
-use Rattle.definitions.specs.Forms.{Form}
-use Rattle.definitions.specs.Kinds.{word_bits}
-use Rattle.definitions.specs.Lengths.{BlockRow, base_in}
-use Rattle.definitions.specs.Listing.{unlinked, data_lines, peripheral_lines}
-use Rattle.definitions.specs.StatementItems.{Item, Content, Known, Linked, part_value}
-use Rattle.definitions.specs.Words.{content_bits, cut, joined, width_of}
-use Rattle.definitions.specs.declared.deck_kind.DeckKind.{DeckKind}
-use Rattle.definitions.specs.declared.deck_kind.DeckKind.TheVariants.{Rel, Abs, Periph}
-use Rattle.definitions.proofs.WordLaws.{pow_positive}
-use Rattle.definitions.specs.Laws.Filling.{HasRoom}
-use Rattle.definitions.proofs.CodingLaws.{coded_in-below}
+use Rattle.std.{proofs.Common.{◌≡◌, ℕ, suc, ◌+◌, ◌-◌, ◌*◌, ◌/◌, ◌%◌, ◌^◌, ◌<◌, ◌≤◌, List, [], ◌∷◌, ◌++◌, Option, Some, None, refl, sym, ap, ap₂, ◌∙◌, arith, append_assoc}, specs.Prelude.{ℤ, pos, ◌+ℤ◌, unwrap_or}, proofs.Math.Nat.mod-lt, proofs.Math.Pow.pow_mono, proofs.lemmas.Nat.{pow-add, shr_below}}
+use Rattle.definitions.{specs.Coding.coded_in, specs.Forms.Form, specs.Kinds.word_bits, specs.Lengths.{BlockRow, base_in}, specs.Listing.{unlinked, data_lines, peripheral_lines}, specs.StatementItems.{Item, Content, Known, Linked, part_value}, specs.Words.{content_bits, cut, joined, width_of}, specs.declared.deck_kind.DeckKind.DeckKind, specs.declared.deck_kind.DeckKind.TheVariants.{Rel, Abs, Periph}, proofs.WordLaws.pow_positive, specs.Laws.Filling.HasRoom, proofs.CodingLaws.coded_in-below}
 use Rattle.deck_objects.specs.Joins.LineItems.{AreShort}
-use Rattle.deck_listing.specs.Joins.WordLines.{AreJoined, DoFillWords, behind_full, lines_ahead, with_bits, word_line, word_lines}
-use Rattle.deck_listing.specs.declared.field_lines.OpenWord.{OpenWord}
-use Rattle.deck_listing.proofs.CutLaws.{cut-first}
-use Rattle.deck_listing.proofs.ParcelSteps.{joined_below}
+use Rattle.deck_listing.{specs.Joins.WordLines.{AreJoined, DoFillWords, behind_full, lines_ahead, with_bits, word_line, word_lines}, specs.declared.field_lines.OpenWord.OpenWord, proofs.CutLaws.cut-first, proofs.ParcelSteps.joined_below}
 
 or_zero-below : (width : ℕ) (value : ℤ) → unwrap_or (coded_in width value) 0 < 2 ^ width
 or_zero-below width value = step (coded_in width value) refl

@@ -1,19 +1,7 @@
 -- Whole words of zeros, gathered at once.
-use Rattle.std.proofs.Common.{◌≡◌, ◌≢◌, ℕ, zero, suc, ◌+◌, ◌*◌, ◌/◌, ◌%◌, ◌^◌, ◌<◌, ◌≤◌, true, false, nat_eq, List, [], ◌∷◌, ◌++◌, Some, None, replicate, refl, sym, ap, subst, ◌∙◌, arith, inl, inr}
-use Rattle.std.specs.List.{list_any}
-use Rattle.std.proofs.lemmas.Bool.Decides.{eqb_tells, leb_tells}
-use Rattle.std.proofs.lemmas.List.Elements.{filter-append}
-use Rattle.definitions.specs.Kinds.{units}
-use Rattle.definitions.specs.Words.{Parcel, bits_at, filling_of, in_word, parcels_from, word_of_parcels}
-use Rattle.definitions.specs.declared.deck_kind.DeckKind.{DeckKind}
-use Rattle.definitions.specs.declared.deck_kind.DeckKind.TheVariants.{Rel, Abs, Periph}
-use Rattle.deck_listing.specs.Joins.Spans.{span_parcels}
-use Rattle.deck_listing.specs.Joins.Filling.{AreZeroWords, IsGathered, IsOpenWord, found, is_none_there, value_of_parcels, zero_parcels}
-use Rattle.deck_listing.specs.declared.packing.gathering.OpenWord.{OpenWord}
-use Rattle.deck_listing.specs.declared.packing.spans.Span.{Span}
-use Rattle.deck_listing.specs.declared.packing.word_spans.WordSpan.{WordSpan}
-use Rattle.deck_listing.proofs.GatherLaws.{no_parcels}
-use Rattle.deck_listing.proofs.RiseLaws.{spans-push, found-append, found-above, found-here, found-before, or_else-none, none-or_else, order_of}
+use Rattle.std.{proofs.Common.{◌≡◌, ◌≢◌, ℕ, zero, suc, ◌+◌, ◌*◌, ◌/◌, ◌%◌, ◌^◌, ◌<◌, ◌≤◌, true, false, nat_eq, List, [], ◌∷◌, ◌++◌, Some, None, replicate, refl, sym, ap, subst, ◌∙◌, arith, inl, inr}, specs.List.list_any, proofs.lemmas.Bool.Decides.{eqb_tells, leb_tells}, proofs.lemmas.List.Elements.filter-append}
+use Rattle.definitions.specs.{Kinds.units, Words.{Parcel, bits_at, filling_of, in_word, parcels_from, word_of_parcels}, declared.deck_kind.DeckKind.DeckKind, declared.deck_kind.DeckKind.TheVariants.{Rel, Abs, Periph}}
+use Rattle.deck_listing.{specs.Joins.Spans.span_parcels, specs.Joins.Filling.{AreZeroWords, IsGathered, IsOpenWord, found, is_none_there, value_of_parcels, zero_parcels}, specs.declared.packing.gathering.OpenWord.OpenWord, specs.declared.packing.spans.Span.Span, specs.declared.packing.word_spans.WordSpan.WordSpan, proofs.GatherLaws.no_parcels, proofs.RiseLaws.{spans-push, found-append, found-above, found-here, found-before, or_else-none, none-or_else, order_of}}
 
 -- parcels of zeros that are no instruction's
 abbrev AreZero : List Parcel → Type 0

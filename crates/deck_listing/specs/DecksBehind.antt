@@ -1,9 +1,6 @@
 -- Decks that begin behind the END of another: they are listed there and not assembled (ours).
 use Rattle.std.specs.Prelude.{ℕ, Bool, false, List, [], ◌∷◌, filter, length, reverse}
-use Rattle.definitions.specs.Cards.{Card}
-use Rattle.definitions.specs.DeckInput.{Deck}
-use Rattle.definitions.specs.DeckKinds.{behind_end}
-use Rattle.definitions.specs.Statements.{Statement, statements_of}
+use Rattle.definitions.specs.{Cards.Card, DeckInput.Deck, DeckKinds.behind_end, Statements.{Statement, statements_of}}
 use Rattle.deck_cuts.specs.Cuts.{begins_deck}
 
 -- whether the first of a statement's cards begins a deck of a file

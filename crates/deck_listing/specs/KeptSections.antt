@@ -1,16 +1,7 @@
 -- Sections that are kept: a deck has the same section in each link where it stands at the same base and
 -- takes the same values of externals and common blocks from the link (ours).
-use Rattle.std.specs.Prelude.{ℕ, ◌≡◌, ⊤, Bool, true, List, [], Option, Some, None, IfSome, ℤ, flat_map, pos, reverse}
-use Rattle.std.specs.List.{All}
-use Rattle.definitions.specs.DeckInput.{Deck}
-use Rattle.definitions.specs.Forms.{Relocation, Block, External, Part, Added, Subtracted}
-use Rattle.definitions.specs.Image.{section}
-use Rattle.definitions.specs.Layout.{Based, Layout, block_base}
-use Rattle.definitions.specs.LinkValues.{external_value}
-use Rattle.definitions.specs.LinkLines.{unfit_addresses}
-use Rattle.definitions.specs.Listing.{deck_listing}
-use Rattle.definitions.specs.Objects.{Object, object_of}
-use Rattle.definitions.specs.StatementItems.{Content, Known, Linked}
+use Rattle.std.specs.{Prelude.{ℕ, ◌≡◌, ⊤, Bool, true, List, [], Option, Some, None, IfSome, ℤ, flat_map, pos, reverse}, List.All}
+use Rattle.definitions.specs.{DeckInput.Deck, Forms.{Relocation, Block, External, Part, Added, Subtracted}, Image.section, Layout.{Based, Layout, block_base}, LinkValues.external_value, LinkLines.unfit_addresses, Listing.deck_listing, Objects.{Object, object_of}, StatementItems.{Content, Known, Linked}}
 use Rattle.statement_coder.specs.Joins.Items.{content_as}
 use Rattle.deck_listing.specs.DecksBehind.{decks_behind}
 use Rattle.statement_coder.specs.declared.items.Item as code

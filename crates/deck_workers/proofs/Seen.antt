@@ -1,27 +1,10 @@
 -- What a seat has seen after its calls.
-use Rattle.std.proofs.Common.{◌≡◌, ℕ, ◌+◌, ◌<◌, ◌==◌, ◌⊎◌, inl, inr, Bool, true, false, cond, List, [], ◌∷◌, ◌++◌, length, map, Some, None, refl, sym, ap, ◌∙◌, subst, append_assoc, append-nil, eq-eqb}
-use Rattle.std.specs.Prelude.{slice_get}
-use Rattle.std.proofs.lemmas.List.{map-append, flat_map_more}
-use Rattle.std.proofs.lemmas.List.Elements.{All-nil, All-push, filter-append}
-use Rattle.turn_office.specs.declared.history.Entry.{Entry}
-use Rattle.turn_office.specs.Histories.{Answers, entry, entries_by}
-use Rattle.desk_core.specs.declared.calls.Call.{Call}
-use Rattle.desk_core.specs.declared.calls.Call.TheVariants.{Claim, OfferObject, Publish, GiveUp}
-use Rattle.desk_core.specs.declared.replies.Reply.{Reply}
+use Rattle.std.{proofs.Common.{◌≡◌, ℕ, ◌+◌, ◌<◌, ◌==◌, ◌⊎◌, inl, inr, Bool, true, false, cond, List, [], ◌∷◌, ◌++◌, length, map, Some, None, refl, sym, ap, ◌∙◌, subst, append_assoc, append-nil, eq-eqb}, specs.Prelude.slice_get, proofs.lemmas.List.{map-append, flat_map_more}, proofs.lemmas.List.Elements.{All-nil, All-push, filter-append}}
+use Rattle.turn_office.specs.{declared.history.Entry.Entry, Histories.{Answers, entry, entries_by}}
+use Rattle.desk_core.specs.{declared.calls.Call.Call, declared.calls.Call.TheVariants.{Claim, OfferObject, Publish, GiveUp}, declared.replies.Reply.Reply, Desks.{Desk, Publication}, Steps.Steps, Runs.History}
 use Rattle.definitions.specs.DeckInput.{Deck}
-use Rattle.desk_core.specs.Desks.{Desk, Publication}
-use Rattle.desk_core.specs.Steps.{Steps}
-use Rattle.desk_core.specs.Runs.{History}
-use Rattle.deck_workers.specs.declared.jobs.Job.{Job}
-use Rattle.deck_workers.specs.declared.made.Made.{Made}
+use Rattle.deck_workers.specs.{declared.jobs.Job.Job, declared.made.Made.Made, Jobs.{MayMake, is_result}, Rounds.{Working, job_in, call_of, published_in, entries_of}, WorkerRounds.{AtOnce, ByDesk, Unshared, IsWorkerRound, Offer, none_yet, offered_at, is_starved, offer_entry, asked_entries, up_entries, desk_entries, worker_entries, worker_entries_in}, Joins.Linking.{Offers, OffersOne, AsksToPublish, GivesUp, HasPublished, HasGivenUp, Delivers, in_one_call, by_desk, unshared}, Joins.Rests.{round_with_job, told_as, went_well}, Subscribers.{HearsAfter, unheard, heard}, Working.{Calls, MakesRound, Works}}
 use Rattle.deck_workers.specs.declared.made.Made.TheVariants as made
-use Rattle.deck_workers.specs.Jobs.{MayMake, is_result}
-use Rattle.deck_workers.specs.Rounds.{Working, job_in, call_of, published_in, entries_of}
-use Rattle.deck_workers.specs.WorkerRounds.{AtOnce, ByDesk, Unshared, IsWorkerRound, Offer, none_yet, offered_at, is_starved, offer_entry, asked_entries, up_entries, desk_entries, worker_entries, worker_entries_in}
-use Rattle.deck_workers.specs.Joins.Linking.{Offers, OffersOne, AsksToPublish, GivesUp, HasPublished, HasGivenUp, Delivers, in_one_call, by_desk, unshared}
-use Rattle.deck_workers.specs.Joins.Rests.{round_with_job, told_as, went_well}
-use Rattle.deck_workers.specs.Subscribers.{HearsAfter, unheard, heard}
-use Rattle.deck_workers.specs.Working.{Calls, MakesRound, Works}
 
 -- an entry of a seat is its own
 own-entry : (number : ℕ) (call : Call) (reply : Reply) → entries_by number (entry number call reply ∷ []) ≡ entry number call reply ∷ []

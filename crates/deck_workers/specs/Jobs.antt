@@ -2,11 +2,9 @@
 use Rattle.std.specs.Prelude.{◌≡◌, ◌⊎◌, ℕ, ◌+◌, ◌^◌, ◌<◌, ◌≤◌, Bool, true, false, List, Option, Some, None}
 use Rattle.statement_coder.specs.Meters.{CountsAtMost}
 use Rattle.work_meter.specs.Counts.{Counts}
-use Rattle.deck_workers.specs.Joins.Language.{Card, Edit, statement_count, statements_sum, CountsInOrder, edits_fault, RecordFault, OutOfMemory, DeckWork, LinkWork, Start, FromRecord, FromCards}
+use Rattle.deck_workers.specs.{Joins.Language.{Card, Edit, statement_count, statements_sum, CountsInOrder, edits_fault, RecordFault, OutOfMemory, DeckWork, LinkWork, Start, FromRecord, FromCards}, declared.jobs.Job.Job, declared.made.Made.Made}
 pub use Rattle.desk_core.specs.Making.{start_deck, start_cards, deck_edited, begun_deck, done_of}
-use Rattle.deck_workers.specs.declared.jobs.Job.{Job}
 use Rattle.deck_workers.specs.declared.jobs.Job.TheVariants as job
-use Rattle.deck_workers.specs.declared.made.Made.{Made}
 use Rattle.deck_workers.specs.declared.made.Made.TheVariants as made
 
 -- what a deck job gives where nothing, or this, keeps its edits from being made

@@ -1,14 +1,10 @@
 -- What one who works for a desk asks of it (ours): rounds of a claim each, with one call that ends what the claim gave.
-use Rattle.std.specs.Prelude.{◌≡◌, ℕ, List, [], ◌∷◌, Option, Some, None}
-use Rattle.std.specs.List.{flat_map}
+use Rattle.std.specs.{Prelude.{◌≡◌, ℕ, List, [], ◌∷◌, Option, Some, None}, List.flat_map}
 use Rattle.turn_office.specs.Histories.{entry}
-use Rattle.deck_workers.specs.Joins.Language.{Call, Claim, DeliverDeck, DeliverLink, GiveUp, Reply, DeckJob, LinkJob}
+use Rattle.deck_workers.specs.{Joins.Language.{Call, Claim, DeliverDeck, DeliverLink, GiveUp, Reply, DeckJob, LinkJob}, declared.jobs.Job.Job, declared.made.Made.Made, Jobs.MayMake}
 use Rattle.desk_core.specs.Runs.{History}
-use Rattle.deck_workers.specs.declared.jobs.Job.{Job}
 use Rattle.deck_workers.specs.declared.jobs.Job.TheVariants as job
-use Rattle.deck_workers.specs.declared.made.Made.{Made}
 use Rattle.deck_workers.specs.declared.made.Made.TheVariants as made
-use Rattle.deck_workers.specs.Jobs.{MayMake}
 
 -- the job that a reply gives, if it gives one
 abbrev pub job_in : Reply → Option Job

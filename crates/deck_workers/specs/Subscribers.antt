@@ -1,8 +1,6 @@
 -- What a subscriber hears of rounds (ours): of each publication that the desk took, once, and of nothing else.
 use Rattle.std.specs.Prelude.{◌≡◌, ℕ, List, [], ◌∷◌, ◌++◌, Option, Some, None}
-use Rattle.deck_workers.specs.Joins.Language.{Reply, Stored, Published}
-use Rattle.deck_workers.specs.Rounds.{Resting, Working, published_in}
-use Rattle.deck_workers.specs.WorkerRounds.{WorkerRound, AtOnce, ByDesk, Unshared}
+use Rattle.deck_workers.specs.{Joins.Language.{Reply, Stored, Published}, Rounds.{Resting, Working, published_in}, WorkerRounds.{WorkerRound, AtOnce, ByDesk, Unshared}}
 
 module _ {S : Type 0} (hears : S → ℕ → S → Type 0) where
   -- it hears of a publication, where there is one

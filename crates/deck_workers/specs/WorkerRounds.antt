@@ -1,16 +1,10 @@
 -- What a worker asks of a desk (ours): rounds as of one who works alone; and such in which the desk publishes what a link job is for, so that no turn compares more than one deck.
-use Rattle.std.specs.Prelude.{◌≡◌, ℕ, ◌+◌, ◌<◌, Bool, true, false, List, [], ◌∷◌, ◌++◌, length, map, slice_get, is_some, Option, Some, None}
-use Rattle.std.specs.List.{flat_map}
-use Rattle.turn_office.specs.declared.history.Entry.{Entry}
-use Rattle.turn_office.specs.Histories.{entry}
-use Rattle.desk_core.specs.Desks.{Publication}
-use Rattle.desk_core.specs.Runs.{History}
-use Rattle.deck_workers.specs.Joins.Language.{Deck, Call, Claim, OfferObject, Publish, GiveUp, Reply, Refused}
+use Rattle.std.specs.{Prelude.{◌≡◌, ℕ, ◌+◌, ◌<◌, Bool, true, false, List, [], ◌∷◌, ◌++◌, length, map, slice_get, is_some, Option, Some, None}, List.flat_map}
+use Rattle.turn_office.specs.{declared.history.Entry.Entry, Histories.entry}
+use Rattle.desk_core.specs.{Desks.Publication, Runs.History}
+use Rattle.deck_workers.specs.{Joins.Language.{Deck, Call, Claim, OfferObject, Publish, GiveUp, Reply, Refused}, declared.jobs.Job.Job, Jobs.MayMake, Rounds.{Round, IsRound, job_in, entries_of}}
 use Rattle.desk_core.specs.declared.replies.Refusal.TheVariants as refusal
-use Rattle.deck_workers.specs.declared.jobs.Job.{Job}
 use Rattle.deck_workers.specs.declared.made.Made.TheVariants as made
-use Rattle.deck_workers.specs.Jobs.{MayMake}
-use Rattle.deck_workers.specs.Rounds.{Round, IsRound, job_in, entries_of}
 
 -- an object that was offered for the deck at a place, and the reply
 pub record Offer : Type 0 where

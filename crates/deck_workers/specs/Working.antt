@@ -3,8 +3,7 @@ use Rattle.std.specs.Prelude.{◌≡◌, ℕ, List, ◌++◌, All}
 use mathlib.Core.List.{IsPrefix}
 use Rattle.turn_office.specs.Histories.{entries_by}
 use Rattle.desk_core.specs.Runs.{History}
-use Rattle.deck_workers.specs.WorkerRounds.{WorkerRound, IsWorkerRound, worker_entries, worker_entries_in}
-use Rattle.deck_workers.specs.Subscribers.{HearsOf, HearsAll}
+use Rattle.deck_workers.specs.{WorkerRounds.{WorkerRound, IsWorkerRound, worker_entries, worker_entries_in}, Subscribers.{HearsOf, HearsAll}}
 
 -- what a seat had seen begins what it has seen now, and its calls since have these entries
 pub record Calls (number : ℕ) (entries seen now : History) : Type 0 where

@@ -1,25 +1,7 @@
 -- Statements without a place, and those of ORG, have no fields.
-use Rattle.std.proofs.Common.{ℕ, ◌≡◌, Bool, true, false, List, [], ◌∷◌, Option, Result, refl}
-use Rattle.std.specs.Prelude.{nat_le}
-use Rattle.definitions.specs.Characters.{is_among, same_text, slash}
-use Rattle.definitions.specs.Pieces.{Piece, pieces_of, subfields_of}
-use Rattle.definitions.specs.Statements.{Statement}
-use Rattle.definitions.specs.Forms.{Form}
+use Rattle.std.{proofs.Common.{ℕ, ◌≡◌, Bool, true, false, List, [], ◌∷◌, Option, Result, refl}, specs.Prelude.nat_le}
+use Rattle.definitions.{specs.Characters.{is_among, same_text, slash}, specs.Pieces.{Piece, pieces_of, subfields_of}, specs.Statements.Statement, specs.Forms.Form, specs.Operations.{Operation, has_place}, specs.Operands.{Operand, CentralOperand, PeripheralOperand, WordsOperand, BitsOperand, TextOperand, Unread, BadOperand, ValueOperand, UseName, UseBefore, UseRefused, one_value, common_operand, use_operand, base_operand, operand_of, is_common_name}, specs.Symbols.is_block_name, specs.EarlyValues.{early_value, early_names}, specs.Counters.{Counters, counters_at}, specs.Settled.{Settled, ReadStatement, read_of}, specs.Settling.{Seen, seen_of, place_of, settle, settled_with}, specs.StatementItems.{Item, Context, operand_items, items_of}, specs.declared.deck_kind.DeckKind.DeckKind, specs.declared.deck_kind.DeckKind.TheVariants.{Rel, Abs, Periph}, specs.declared.number_base.NumberBase.NumberBase, specs.declared.letter.Letter.Letter, proofs.WordLaws.picked_cond, proofs.OperandLaws.{IsValue, one_value-value}}
 use Rattle.definitions.specs.Operations as op
-use Rattle.definitions.specs.Operations.{Operation, has_place}
-use Rattle.definitions.specs.Operands.{Operand, CentralOperand, PeripheralOperand, WordsOperand, BitsOperand, TextOperand, Unread, BadOperand, ValueOperand, UseName, UseBefore, UseRefused, one_value, common_operand, use_operand, base_operand, operand_of, is_common_name}
-use Rattle.definitions.specs.Symbols.{is_block_name}
-use Rattle.definitions.specs.EarlyValues.{early_value, early_names}
-use Rattle.definitions.specs.Counters.{Counters, counters_at}
-use Rattle.definitions.specs.Settled.{Settled, ReadStatement, read_of}
-use Rattle.definitions.specs.Settling.{Seen, seen_of, place_of, settle, settled_with}
-use Rattle.definitions.specs.StatementItems.{Item, Context, operand_items, items_of}
-use Rattle.definitions.specs.declared.deck_kind.DeckKind.{DeckKind}
-use Rattle.definitions.specs.declared.deck_kind.DeckKind.TheVariants.{Rel, Abs, Periph}
-use Rattle.definitions.specs.declared.number_base.NumberBase.{NumberBase}
-use Rattle.definitions.specs.declared.letter.Letter.{Letter}
-use Rattle.definitions.proofs.WordLaws.{picked_cond}
-use Rattle.definitions.proofs.OperandLaws.{IsValue, one_value-value}
 
 -- the operations whose operands have fields
 abbrev pub has_fields : Operation → Bool

@@ -1,36 +1,7 @@
 -- The blocks of a deck have different names, and none has that of the literals' block.
-use Rattle.std.proofs.Common.{ℕ, ◌≡◌, ◌+◌, Bool, true, false, ◌||◌, List, [], ◌∷◌, ◌++◌, length, Option, Some, None, refl, sym, ap, ap₂, subst, ◌∙◌, inl, inr}
-use Rattle.std.specs.Prelude.{nat_le, nat_eq, map, reverse, take_while, drop, not, if◌then◌else◌}
-use Rattle.std.specs.Cmp.{IsEquivalence}
-use Rattle.std.specs.List.{IsDistinct}
-use Rattle.std.proofs.lemmas.List.{map-append, append-nil}
-use Rattle.std.proofs.lemmas.List.Folds.{list_any-append}
-use Rattle.std.proofs.lemmas.Map.Keys.{IsDistinct-push}
-use Rattle.definitions.specs.Characters.{is_among, same_text, slash, comma}
-use Rattle.definitions.specs.DeckInput.{Deck}
-use Rattle.definitions.specs.DeckKinds.{kind_of_statements, up_to_end}
-use Rattle.definitions.specs.Statements.{Statement, statements_of}
-use Rattle.definitions.specs.Pieces.{Piece, pieces_of, subfields_of}
-use Rattle.definitions.specs.Kinds.{allows_literals}
-use Rattle.definitions.specs.Symbols.{is_block_name, number_read}
-use Rattle.definitions.specs.Expressions.{Expression}
-use Rattle.definitions.specs.PeripheralTable.{PeripheralForm, Ignored, Long, PeripheralRow, peripheral_row}
-use Rattle.definitions.specs.Matching.{Instruction, central_of}
+use Rattle.std.{proofs.Common.{ℕ, ◌≡◌, ◌+◌, Bool, true, false, ◌||◌, List, [], ◌∷◌, ◌++◌, length, Option, Some, None, refl, sym, ap, ap₂, subst, ◌∙◌, inl, inr}, specs.Prelude.{nat_le, nat_eq, map, reverse, take_while, drop, not, if◌then◌else◌}, specs.Cmp.IsEquivalence, specs.List.IsDistinct, proofs.lemmas.List.{map-append, append-nil}, proofs.lemmas.List.Folds.list_any-append, proofs.lemmas.Map.Keys.IsDistinct-push}
+use Rattle.definitions.{specs.Characters.{is_among, same_text, slash, comma}, specs.DeckInput.Deck, specs.DeckKinds.{kind_of_statements, up_to_end}, specs.Statements.{Statement, statements_of}, specs.Pieces.{Piece, pieces_of, subfields_of}, specs.Kinds.allows_literals, specs.Symbols.{is_block_name, number_read}, specs.Expressions.Expression, specs.PeripheralTable.{PeripheralForm, Ignored, Long, PeripheralRow, peripheral_row}, specs.Matching.{Instruction, central_of}, specs.Operations.Operation, specs.Operands.{Operand, Datum, BitField, Unread, BadOperand, ValueOperand, UseName, UseBefore, UseRefused, plain_of, all_words, data_word, con_word, all_fields, vfd_field, words_operand, bits_operand, count_read, text_operand, dis_operand, one_value, is_common_name, common_operand, use_operand, base_operand, central_operand, one_or_two, just_one, by_form, peripheral_operand, instruction_operand, operand_of}, specs.Settled.{Settled, BlockChange, NoChange, Opens, Closes}, specs.Settling.{seen_of, settle, settled_all}, specs.Blocks.{nominal, literals_block, changes, is_named, with_opened, blocks_used, is_accepted, change_of}, specs.Lengths.{BlockLength, BlockRow, length_of, lengths_of, placed_row, local_words, rows_from, total_length, literals_row, rows_of}, specs.Literals.literal_words, specs.Objects.object_of, specs.declared.deck_kind.DeckKind.DeckKind, specs.declared.deck_kind.DeckKind.TheVariants.{Rel, Abs, Periph}, specs.declared.number_base.NumberBase.NumberBase, proofs.WordLaws.picked_cond, proofs.TextLaws.{same_text-refl, same_text-true, same_text_tells}, proofs.OperandLaws.{IsValue, one_value-value}}
 use Rattle.definitions.specs.Operations as op
-use Rattle.definitions.specs.Operations.{Operation}
-use Rattle.definitions.specs.Operands.{Operand, Datum, BitField, Unread, BadOperand, ValueOperand, UseName, UseBefore, UseRefused, plain_of, all_words, data_word, con_word, all_fields, vfd_field, words_operand, bits_operand, count_read, text_operand, dis_operand, one_value, is_common_name, common_operand, use_operand, base_operand, central_operand, one_or_two, just_one, by_form, peripheral_operand, instruction_operand, operand_of}
-use Rattle.definitions.specs.Settled.{Settled, BlockChange, NoChange, Opens, Closes}
-use Rattle.definitions.specs.Settling.{seen_of, settle, settled_all}
-use Rattle.definitions.specs.Blocks.{nominal, literals_block, changes, is_named, with_opened, blocks_used, is_accepted, change_of}
-use Rattle.definitions.specs.Lengths.{BlockLength, BlockRow, length_of, lengths_of, placed_row, local_words, rows_from, total_length, literals_row, rows_of}
-use Rattle.definitions.specs.Literals.{literal_words}
-use Rattle.definitions.specs.Objects.{object_of}
-use Rattle.definitions.specs.declared.deck_kind.DeckKind.{DeckKind}
-use Rattle.definitions.specs.declared.deck_kind.DeckKind.TheVariants.{Rel, Abs, Periph}
-use Rattle.definitions.specs.declared.number_base.NumberBase.{NumberBase}
-use Rattle.definitions.proofs.WordLaws.{picked_cond}
-use Rattle.definitions.proofs.TextLaws.{same_text-refl, same_text-true, same_text_tells}
-use Rattle.definitions.proofs.OperandLaws.{IsValue, one_value-value}
 
 same_text-turned : (a b : List ℕ) → same_text a b ≡ same_text b a
 same_text-turned a b = elim (same_text_tells a b) [

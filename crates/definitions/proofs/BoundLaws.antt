@@ -1,22 +1,7 @@
 -- What the test of an element's two values shows: its form is the same in both decks, and its relocation stands where it stood.
-use Rattle.std.proofs.Common.{◌≡◌, ℕ, Bool, true, false, not, List, [], ◌∷◌, Option, Some, None, refl, sym, ap, ap₂, ◌∙◌, subst}
-use Rattle.std.specs.Prelude.{⊤, Result, Ok, Err, nat_lt, pos, if◌then◌else◌}
-use Rattle.std.specs.List.{AllByRecursion, list_any}
-use Rattle.std.proofs.lemmas.Bool.{eqb-true}
-use Rattle.std.proofs.lemmas.Bool.Decides.{Decides-int_eq}
-use Rattle.definitions.specs.Expressions.{Literal, OfNumber, OfCountedItem, Element, ANumber, ACountedItem, ASymbol, ARegister, LocationCounter, OriginCounter, ALiteral}
-use Rattle.definitions.specs.Forms.{Relocation, Block, External, Part, Added, Subtracted, Form, same_relocation, symbol_form, element_form}
-use Rattle.definitions.specs.Symbols.{Value, TooGreat}
-use Rattle.definitions.specs.Blocks.{literals_block}
-use Rattle.definitions.specs.Literals.{most_literals, literal_word, offset_of, offset_form, literal_form}
-use Rattle.definitions.specs.Settled.{Settled, defined}
-use Rattle.definitions.specs.StatementItems.{Context, final_names}
-use Rattle.definitions.specs.Laws.Rebound.{relocation_base, part_base, same_part, same_form, same_value, bound_alike}
-use Rattle.definitions.specs.declared.letter.Letter.{Letter}
+use Rattle.std.{proofs.Common.{◌≡◌, ℕ, Bool, true, false, not, List, [], ◌∷◌, Option, Some, None, refl, sym, ap, ap₂, ◌∙◌, subst}, specs.Prelude.{⊤, Result, Ok, Err, nat_lt, pos, if◌then◌else◌}, specs.List.{AllByRecursion, list_any}, proofs.lemmas.Bool.eqb-true, proofs.lemmas.Bool.Decides.Decides-int_eq}
+use Rattle.definitions.{specs.Expressions.{Literal, OfNumber, OfCountedItem, Element, ANumber, ACountedItem, ASymbol, ARegister, LocationCounter, OriginCounter, ALiteral}, specs.Forms.{Relocation, Block, External, Part, Added, Subtracted, Form, same_relocation, symbol_form, element_form}, specs.Symbols.{Value, TooGreat}, specs.Blocks.literals_block, specs.Literals.{most_literals, literal_word, offset_of, offset_form, literal_form}, specs.Settled.{Settled, defined}, specs.StatementItems.{Context, final_names}, specs.Laws.Rebound.{relocation_base, part_base, same_part, same_form, same_value, bound_alike}, specs.declared.letter.Letter.Letter, proofs.NamesLaws.{OfPart, OfValue}, proofs.TestLaws.{and_left, and_right, or_left, or_right, not_false}, proofs.TextLaws.same_text-true}
 use Rattle.definitions.specs.declared.letter.Letter.TheVariants as letter
-use Rattle.definitions.proofs.NamesLaws.{OfPart, OfValue}
-use Rattle.definitions.proofs.TestLaws.{and_left, and_right, or_left, or_right, not_false}
-use Rattle.definitions.proofs.TextLaws.{same_text-true}
 
 -- a relocation stands at one base in both decks
 abbrev pub Stands : Context → Context → Relocation → Type 0

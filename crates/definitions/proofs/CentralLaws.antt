@@ -1,19 +1,7 @@
 -- The rows of the central table make whole instructions: the digits of each code have their room, and with the field they fill 15 or 30 bits.
-use Rattle.std.proofs.Common.{ℕ, ◌≡◌, suc, ◌+◌, ◌-◌, ◌*◌, ◌%◌, ◌^◌, ◌<◌, ◌≤◌, Bool, true, false, ◌&&◌, ◌||◌, List, [], ◌∷◌, ◌++◌, length, Option, Some, None, refl, ap, subst, arith}
-use Rattle.std.specs.Prelude.{nat_eq, nat_le, map, filter, codes, if◌then◌else◌}
-use Rattle.std.specs.List.{AllByRecursion, list_all, slice_split}
-use Rattle.std.proofs.lemmas.Bool.{leb-true, eqb-true}
+use Rattle.std.{proofs.Common.{ℕ, ◌≡◌, suc, ◌+◌, ◌-◌, ◌*◌, ◌%◌, ◌^◌, ◌<◌, ◌≤◌, Bool, true, false, ◌&&◌, ◌||◌, List, [], ◌∷◌, ◌++◌, length, Option, Some, None, refl, ap, subst, arith}, specs.Prelude.{nat_eq, nat_le, map, filter, codes, if◌then◌else◌}, specs.List.{AllByRecursion, list_all, slice_split}, proofs.lemmas.Bool.{leb-true, eqb-true}}
 use Rattle.std.proofs.Math.Nat.{pow-suc as pow-succ, mul-le-mul_right}
-use Rattle.definitions.specs.Characters.{is_among, same_text, comma}
-use Rattle.definitions.specs.Pieces.{Piece}
-use Rattle.definitions.specs.Expressions.{Expression, Term, expression_of, is_plain}
-use Rattle.definitions.specs.CentralTable.{Row, SumRow, central_rows, ignoring_rows, sum_rows}
-use Rattle.definitions.specs.Matching.{RegisterDigits, no_ijk, is_ijk, with_ijk, is_octal_digit, matched, is_operation, Field, NoField, OfK, OfN, Instruction, Match, plain_text, plain_field, with_field, subfield_matched, subfields_matched, digit_in, code_digits, octal_number, instruction_of, with_registers, matched_instruction, ignoring_fit, row_fit, Sum, sum_code, sum_field, is_plain_field, sum_instruction, registers_matched, sum_fit, sum_read, single, rows_for, sum_rows_for, fits_of, first_fit, central_of}
-use Rattle.definitions.specs.Sizes.{field_width}
-use Rattle.definitions.specs.declared.number_base.NumberBase.{NumberBase}
-use Rattle.definitions.proofs.WordLaws.{picked_cond}
-use Rattle.definitions.proofs.OperandShapes.{IsWhole}
-use Rattle.definitions.proofs.TestLaws.{and_left, and_right}
+use Rattle.definitions.{specs.Characters.{is_among, same_text, comma}, specs.Pieces.Piece, specs.Expressions.{Expression, Term, expression_of, is_plain}, specs.CentralTable.{Row, SumRow, central_rows, ignoring_rows, sum_rows}, specs.Matching.{RegisterDigits, no_ijk, is_ijk, with_ijk, is_octal_digit, matched, is_operation, Field, NoField, OfK, OfN, Instruction, Match, plain_text, plain_field, with_field, subfield_matched, subfields_matched, digit_in, code_digits, octal_number, instruction_of, with_registers, matched_instruction, ignoring_fit, row_fit, Sum, sum_code, sum_field, is_plain_field, sum_instruction, registers_matched, sum_fit, sum_read, single, rows_for, sum_rows_for, fits_of, first_fit, central_of}, specs.Sizes.field_width, specs.declared.number_base.NumberBase.NumberBase, proofs.WordLaws.picked_cond, proofs.OperandShapes.IsWhole, proofs.TestLaws.{and_left, and_right}}
 
 -- the digits of registers are octal digits
 abbrev AreOctal : RegisterDigits → Type 0

@@ -1,10 +1,6 @@
 -- The 64 characters and their display codes: each law is one test over all bytes, or over the 64.
-use Rattle.std.proofs.Common.{◌≡◌, ℕ, ◌+◌, ◌-◌, ◌<◌, ◌≤◌, Bool, true, eqb, ◌&&◌, Option, None, Some, refl, sym, ap, ◌∙◌, arith, get_or, nat_eq}
-use Rattle.std.specs.Prelude.{unwrap_or, is_some, nat_le}
-use Rattle.std.proofs.lemmas.Bool.{eqb-true, leb-true, and_parts, agree_below_at}
-use Rattle.std.proofs.lemmas.List.Quantifiers.{position-Some}
-use Rattle.definitions.specs.Characters.{characters, character_of, display_code_of}
-use Rattle.definitions.specs.declared.characters.TheConstants.{CODES}
+use Rattle.std.{proofs.Common.{◌≡◌, ℕ, ◌+◌, ◌-◌, ◌<◌, ◌≤◌, Bool, true, eqb, ◌&&◌, Option, None, Some, refl, sym, ap, ◌∙◌, arith, get_or, nat_eq}, specs.Prelude.{unwrap_or, is_some, nat_le}, proofs.lemmas.Bool.{eqb-true, leb-true, and_parts, agree_below_at}, proofs.lemmas.List.Quantifiers.position-Some}
+use Rattle.definitions.specs.{Characters.{characters, character_of, display_code_of}, declared.characters.TheConstants.CODES}
 
 -- whether the code is 0 to 63 and this one
 abbrev is_code : Option ℕ → ℕ → Bool

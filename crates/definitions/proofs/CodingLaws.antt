@@ -1,10 +1,6 @@
 -- Values and counted items have room in their fields.
-use Rattle.std.proofs.Common.{◌≡◌, ℕ, ◌*◌, ◌/◌, ◌^◌, ◌<◌, ◌≤◌, Bool, true, false, None, Some, refl, subst, arith}
-use Rattle.std.specs.Prelude.{ℤ, pos, negsuc, nat_le, unsigned_abs, if◌then◌else◌}
-use Rattle.std.proofs.lemmas.Bool.{leb-true}
-use Rattle.definitions.specs.CountedItems.{CountedItem, bits_needed}
-use Rattle.definitions.specs.Coding.{fits, coded, coded_in, counted_item_in, counted_item_bits}
-use Rattle.definitions.proofs.LiteralLaws.{coded-below, counted_item_bits-below, needed_more}
+use Rattle.std.{proofs.Common.{◌≡◌, ℕ, ◌*◌, ◌/◌, ◌^◌, ◌<◌, ◌≤◌, Bool, true, false, None, Some, refl, subst, arith}, specs.Prelude.{ℤ, pos, negsuc, nat_le, unsigned_abs, if◌then◌else◌}, proofs.lemmas.Bool.leb-true}
+use Rattle.definitions.{specs.CountedItems.{CountedItem, bits_needed}, specs.Coding.{fits, coded, coded_in, counted_item_in, counted_item_bits}, proofs.LiteralLaws.{coded-below, counted_item_bits-below, needed_more}}
 
 -- bits that are found for a value are below the power of the field
 pub coded_in-below : (width : ℕ) (value : ℤ) (bits : ℕ) → coded_in width value ≡ Some bits → bits < 2 ^ width

@@ -1,18 +1,6 @@
 -- Where two decks agree, they agree behind as many statements more of both.
-use Rattle.std.proofs.Common.{◌≡◌, ◌+◌, ℕ, suc, List, [], ◌∷◌, ◌++◌, length, refl, sym, ap, ap₂, ◌∙◌, subst, arith, append_assoc, length-append}
-use Rattle.std.specs.Prelude.{map}
-use Rattle.std.specs.List.{AllByRecursion}
-use Rattle.definitions.specs.Statements.{Statement, cards_in}
-use Rattle.definitions.specs.DeckKinds.{kind_of_statements}
-use Rattle.definitions.specs.Settled.{Settled, defined}
-use Rattle.definitions.specs.Settling.{settle, settled_all}
-use Rattle.definitions.specs.Laws.States.{state_after}
-use Rattle.definitions.specs.Laws.Agreement.{early_symbols, Agree, unnumbered, settled_tail, HaveSameCards, AgreeOnTail}
-use Rattle.definitions.specs.Laws.Edits.{Edited, Split, DoAgree}
-use Rattle.definitions.specs.declared.deck_kind.DeckKind.{DeckKind}
-use Rattle.definitions.proofs.NamesLaws.{all-front, all-behind}
-use Rattle.definitions.proofs.StateSteps.{settled_all-in_use}
-use Rattle.definitions.proofs.TailLaws.{views-agree, tails-agree, settled_all-append}
+use Rattle.std.{proofs.Common.{◌≡◌, ◌+◌, ℕ, suc, List, [], ◌∷◌, ◌++◌, length, refl, sym, ap, ap₂, ◌∙◌, subst, arith, append_assoc, length-append}, specs.Prelude.map, specs.List.AllByRecursion}
+use Rattle.definitions.{specs.Statements.{Statement, cards_in}, specs.DeckKinds.kind_of_statements, specs.Settled.{Settled, defined}, specs.Settling.{settle, settled_all}, specs.Laws.States.state_after, specs.Laws.Agreement.{early_symbols, Agree, unnumbered, settled_tail, HaveSameCards, AgreeOnTail}, specs.Laws.Edits.{Edited, Split, DoAgree}, specs.declared.deck_kind.DeckKind.DeckKind, proofs.NamesLaws.{all-front, all-behind}, proofs.StateSteps.settled_all-in_use, proofs.TailLaws.{views-agree, tails-agree, settled_all-append}}
 
 -- tails of the same cards have as many statements
 same_cards-lengths : (tail other : List Statement) → HaveSameCards tail other → length tail ≡ length other

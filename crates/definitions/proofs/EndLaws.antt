@@ -1,23 +1,8 @@
 -- Where statements stand and end: at or behind the end of their block, and within it.
-use Rattle.std.proofs.Common.{ℕ, ◌≡◌, ◌+◌, ◌*◌, ◌%◌, ◌<◌, ◌≤◌, Bool, true, false, ◌||◌, List, [], Option, Some, None, Result, Ok, Err, refl, subst, arith, suc, inl, inr}
-use Rattle.std.specs.Prelude.{nat_le, nat_lt, ℤ, pos, negsuc, if◌then◌else◌}
-use Rattle.std.proofs.lemmas.Bool.{leb-true}
-use Rattle.std.proofs.lemmas.Bool.Decides.{eqb_tells}
-use Rattle.definitions.specs.Kinds.{units, most_words}
-use Rattle.definitions.specs.Forms.{Form, is_absolute}
+use Rattle.std.{proofs.Common.{ℕ, ◌≡◌, ◌+◌, ◌*◌, ◌%◌, ◌<◌, ◌≤◌, Bool, true, false, ◌||◌, List, [], Option, Some, None, Result, Ok, Err, refl, subst, arith, suc, inl, inr}, specs.Prelude.{nat_le, nat_lt, ℤ, pos, negsuc, if◌then◌else◌}, proofs.lemmas.Bool.leb-true, proofs.lemmas.Bool.Decides.eqb_tells}
+use Rattle.definitions.{specs.Kinds.{units, most_words}, specs.Forms.{Form, is_absolute}, specs.Operations.{Operation, has_place}, specs.Operands.Operand, specs.Sizes.size_of, specs.Places.{Position, is_at_word, is_upper, is_long, to_word, past_last_parcel, least_place}, specs.Settled.Unchanged, specs.EarlyValues.{Outcome, outcome_of, outcome_of_value, outcome_of_size, origin_outcome, origin_word, is_origin_form, location_outcome, location_value, reserved_outcome, reserved, that_ends, in_words, stays_with, letter_of}, specs.Settling.{place_of, is_run}, specs.declared.deck_kind.DeckKind.DeckKind, specs.declared.deck_kind.DeckKind.TheVariants.{Rel, Abs, Periph}, specs.declared.letter.Letter.Letter, proofs.PlaceLaws.least_place-behind}
 use Rattle.definitions.specs.Operations as op
-use Rattle.definitions.specs.Operations.{Operation, has_place}
-use Rattle.definitions.specs.Operands.{Operand}
-use Rattle.definitions.specs.Sizes.{size_of}
-use Rattle.definitions.specs.Places.{Position, is_at_word, is_upper, is_long, to_word, past_last_parcel, least_place}
-use Rattle.definitions.specs.Settled.{Unchanged}
-use Rattle.definitions.specs.EarlyValues.{Outcome, outcome_of, outcome_of_value, outcome_of_size, origin_outcome, origin_word, is_origin_form, location_outcome, location_value, reserved_outcome, reserved, that_ends, in_words, stays_with, letter_of}
-use Rattle.definitions.specs.Settling.{place_of, is_run}
-use Rattle.definitions.specs.declared.deck_kind.DeckKind.{DeckKind}
-use Rattle.definitions.specs.declared.deck_kind.DeckKind.TheVariants.{Rel, Abs, Periph}
-use Rattle.definitions.specs.declared.letter.Letter.{Letter}
 use Rattle.definitions.specs.declared.letter.Letter.TheVariants as letter
-use Rattle.definitions.proofs.PlaceLaws.{least_place-behind}
 
 to_word-behind : (kind : DeckKind) (place : ℕ) → place ≤ to_word kind place
 to_word-behind Rel place = omega arith

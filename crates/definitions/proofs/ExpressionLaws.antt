@@ -1,12 +1,6 @@
 -- `expression_of` against the grammar: what is read is spelt, and what is spelt is read.
-use Rattle.std.proofs.Common.{◌≡◌, inl, inr, List, [], ◌∷◌, ◌++◌, Option, Some, None, refl, sym, ◌∙◌, ap, subst, append_assoc}
-use Rattle.std.specs.Prelude.{codes}
-use Rattle.definitions.specs.Pieces.{Plus, Minus, Star, Equals, Piece, IsMark, IsCountedItem, Plain}
-use Rattle.definitions.specs.Expressions.{Sign, NoSign, PlusSign, MinusSign, OfNumber, OfCountedItem, Element, ANumber, ACountedItem, ASymbol, ARegister, LocationCounter, OriginCounter, ALiteral, Operator, Add, Subtract, OperatorElement, Term, Expression, Grouped, grouped, with_sign, expression_of}
-use Rattle.definitions.specs.Laws.Grammar.{sign_pieces, IsElement, operator_of, Spells}
-use Rattle.definitions.specs.declared.number_base.NumberBase.{NumberBase}
-use Rattle.definitions.proofs.GrammarLaws.{AreLinks, StartsWithElement, pairs_from-read, pairs_of-spelt, pairs_from-start, pairs_from}
-use Rattle.definitions.proofs.TermLaws.{JoinsTerms, AreJoined, links_in, term_of, IsGrouping, grouped-groups, onto_grouped-term, grouped-links_in, pieces_before, AreFactors-pairs, AreFactors-joined, AreLinks-factors, AreTerms-pairs, AreTerms-joined, AreLinks-terms}
+use Rattle.std.{proofs.Common.{◌≡◌, inl, inr, List, [], ◌∷◌, ◌++◌, Option, Some, None, refl, sym, ◌∙◌, ap, subst, append_assoc}, specs.Prelude.codes}
+use Rattle.definitions.{specs.Pieces.{Plus, Minus, Star, Equals, Piece, IsMark, IsCountedItem, Plain}, specs.Expressions.{Sign, NoSign, PlusSign, MinusSign, OfNumber, OfCountedItem, Element, ANumber, ACountedItem, ASymbol, ARegister, LocationCounter, OriginCounter, ALiteral, Operator, Add, Subtract, OperatorElement, Term, Expression, Grouped, grouped, with_sign, expression_of}, specs.Laws.Grammar.{sign_pieces, IsElement, operator_of, Spells}, specs.declared.number_base.NumberBase.NumberBase, proofs.GrammarLaws.{AreLinks, StartsWithElement, pairs_from-read, pairs_of-spelt, pairs_from-start, pairs_from}, proofs.TermLaws.{JoinsTerms, AreJoined, links_in, term_of, IsGrouping, grouped-groups, onto_grouped-term, grouped-links_in, pieces_before, AreFactors-pairs, AreFactors-joined, AreLinks-factors, AreTerms-pairs, AreTerms-joined, AreLinks-terms}}
 
 -- the expression with this sign and these terms
 abbrev pub expression_with : Sign → List Term → Expression

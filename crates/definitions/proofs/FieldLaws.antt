@@ -1,14 +1,6 @@
 -- The cut of a text into fields: each part that the scanning functions find is the lawful one, and the only one.
-use Rattle.std.proofs.Common.{ℕ, zero, suc, ◌≡◌, ◌≢◌, ◌-◌, ◌<◌, ◌≤◌, ◌⊎◌, inl, inr, List, [], ◌∷◌, ◌++◌, Bool, true, false, cond, not, ◌==◌, nat_lt, if◌then◌else◌, length, drop, codes, refl, sym, ◌∙◌, ap, ap₂, subst, arith, ltb-true, ltb-false, eq-eqb, ne_eqb}
-use Rattle.std.proofs.lemmas.Bool.Decides.{eqb_tells}
-use Rattle.std.proofs.lemmas.List.Sums.{take_while-cons}
-use Rattle.std.proofs.Math.Seq.{drop-append_seam}
-use Rattle.definitions.specs.Characters.{blank, same_text}
-use Rattle.definitions.specs.Pieces.{Spot, AtStart, begun_at, spot_behind, left_of, field_at}
-use Rattle.definitions.specs.Fields.{Fields, unbroken_front, without_blanks, from_location, variable_of, fields_of_text}
-use Rattle.definitions.proofs.TextLaws.{same_text_tells}
-use Rattle.definitions.proofs.FrontLaws.{IsExtent, extent-is_longest, longest-only}
-use Rattle.definitions.specs.Laws.Cuts.{IsUnbroken, AreBlanks, HasBegun, IsLead, IsLongestFront, IsVariable, HasVariable, HasOperation, IsCut}
+use Rattle.std.proofs.{Common.{ℕ, zero, suc, ◌≡◌, ◌≢◌, ◌-◌, ◌<◌, ◌≤◌, ◌⊎◌, inl, inr, List, [], ◌∷◌, ◌++◌, Bool, true, false, cond, not, ◌==◌, nat_lt, if◌then◌else◌, length, drop, codes, refl, sym, ◌∙◌, ap, ap₂, subst, arith, ltb-true, ltb-false, eq-eqb, ne_eqb}, lemmas.Bool.Decides.eqb_tells, lemmas.List.Sums.take_while-cons, Math.Seq.drop-append_seam}
+use Rattle.definitions.{specs.Characters.{blank, same_text}, specs.Pieces.{Spot, AtStart, begun_at, spot_behind, left_of, field_at}, specs.Fields.{Fields, unbroken_front, without_blanks, from_location, variable_of, fields_of_text}, proofs.TextLaws.same_text_tells, proofs.FrontLaws.{IsExtent, extent-is_longest, longest-only}, specs.Laws.Cuts.{IsUnbroken, AreBlanks, HasBegun, IsLead, IsLongestFront, IsVariable, HasVariable, HasOperation, IsCut}}
 
 -- what follows the word that begins a text
 abbrev behind_word : List ℕ → List ℕ

@@ -1,27 +1,7 @@
 -- The fields of an operand: together as wide as its size, each with room, and the long ones of whole words.
-use Rattle.std.proofs.Common.{ℕ, ◌≡◌, zero, suc, ◌+◌, ◌-◌, ◌*◌, ◌/◌, ◌%◌, ◌^◌, ◌<◌, ◌≤◌, List, [], ◌∷◌, ◌++◌, length, Option, Some, None, refl, ap, ap₂, subst, ◌∙◌, arith}
-use Rattle.std.specs.Prelude.{map}
+use Rattle.std.{proofs.Common.{ℕ, ◌≡◌, zero, suc, ◌+◌, ◌-◌, ◌*◌, ◌/◌, ◌%◌, ◌^◌, ◌<◌, ◌≤◌, List, [], ◌∷◌, ◌++◌, length, Option, Some, None, refl, ap, ap₂, subst, ◌∙◌, arith}, specs.Prelude.map, proofs.lemmas.Nat.pow-add}
 use Rattle.std.proofs.Math.Nat.{pow-suc as pow-succ}
-use Rattle.std.proofs.lemmas.Nat.{pow-add}
-use Rattle.definitions.specs.CountedItems.{bits_needed}
-use Rattle.definitions.specs.Kinds.{word_bits, units, unit_bits}
-use Rattle.definitions.specs.Expressions.{Expression}
-use Rattle.definitions.specs.Forms.{characters_number}
-use Rattle.definitions.specs.Coding.{words_needed, counted_item_bits}
-use Rattle.definitions.specs.PeripheralTable.{PeripheralForm, Ignored, Short, ShortJump, Shift, Wide, Long, PeripheralRow}
-use Rattle.definitions.specs.Matching.{Field, NoField, OfK, OfN, Instruction}
-use Rattle.definitions.specs.Operands.{Operand, CentralOperand, PeripheralOperand, WordsOperand, BitsOperand, TextOperand, Datum, ZeroWord, NumberWord, CountedItemWords, ExpressionWord, BitField, word_characters}
-use Rattle.definitions.specs.Sizes.{datum_words, data_words, bits_of, field_width, form_units, size_of}
-use Rattle.definitions.specs.Settled.{Settled}
-use Rattle.definitions.specs.StatementItems.{Item, Content, Context, known, small_value, whole_counted_item, expression_item, instruction_items, second_value, peripheral_items, datum_item, vfd_value, operand_items}
-use Rattle.definitions.specs.Words.{width_of}
-use Rattle.definitions.specs.declared.deck_kind.DeckKind.{DeckKind}
-use Rattle.definitions.specs.declared.deck_kind.DeckKind.TheVariants.{Rel, Abs, Periph}
-use Rattle.definitions.proofs.WordLaws.{pow_positive}
-use Rattle.definitions.specs.Laws.Filling.{DoFit, IsWholeWords, AreLongWhole}
-use Rattle.definitions.proofs.LiteralLaws.{counted_item_bits-below, right_below, needed_more}
-use Rattle.definitions.proofs.ItemLaws.{IsField, expression_item-field, count_of-field, shift_of-field, displacement_of-field, number_item-field}
-use Rattle.definitions.proofs.OperandShapes.{IsWhole, HasValues, HaveWidths, IsMade}
+use Rattle.definitions.{specs.CountedItems.bits_needed, specs.Kinds.{word_bits, units, unit_bits}, specs.Expressions.Expression, specs.Forms.characters_number, specs.Coding.{words_needed, counted_item_bits}, specs.PeripheralTable.{PeripheralForm, Ignored, Short, ShortJump, Shift, Wide, Long, PeripheralRow}, specs.Matching.{Field, NoField, OfK, OfN, Instruction}, specs.Operands.{Operand, CentralOperand, PeripheralOperand, WordsOperand, BitsOperand, TextOperand, Datum, ZeroWord, NumberWord, CountedItemWords, ExpressionWord, BitField, word_characters}, specs.Sizes.{datum_words, data_words, bits_of, field_width, form_units, size_of}, specs.Settled.Settled, specs.StatementItems.{Item, Content, Context, known, small_value, whole_counted_item, expression_item, instruction_items, second_value, peripheral_items, datum_item, vfd_value, operand_items}, specs.Words.width_of, specs.declared.deck_kind.DeckKind.DeckKind, specs.declared.deck_kind.DeckKind.TheVariants.{Rel, Abs, Periph}, proofs.WordLaws.pow_positive, specs.Laws.Filling.{DoFit, IsWholeWords, AreLongWhole}, proofs.LiteralLaws.{counted_item_bits-below, right_below, needed_more}, proofs.ItemLaws.{IsField, expression_item-field, count_of-field, shift_of-field, displacement_of-field, number_item-field}, proofs.OperandShapes.{IsWhole, HasValues, HaveWidths, IsMade}}
 
 -- fields that have so many bits together, have room, and of which the long ones are whole words
 pub record AreFields (word width : ℕ) (items : List Item) : Type 0 where

@@ -1,31 +1,8 @@
 -- The fields of a statement fill its place, fit, and are whole words where they are long.
-use Rattle.std.proofs.Common.{ℕ, ◌≡◌, ◌≢◌, ◌+◌, ◌-◌, ◌*◌, ◌/◌, ◌%◌, ◌<◌, ◌≤◌, Bool, true, false, List, [], ◌∷◌, Option, Some, None, Result, Ok, Err, refl, subst, arith}
-use Rattle.std.specs.Prelude.{nat_le, if◌then◌else◌}
-use Rattle.std.proofs.lemmas.Bool.{leb-false}
-use Rattle.definitions.specs.Statements.{Statement}
-use Rattle.definitions.specs.Kinds.{word_bits, units, unit_bits, most_words}
-use Rattle.definitions.specs.Pieces.{pieces_of, subfields_of}
-use Rattle.definitions.specs.Forms.{Form, Names}
+use Rattle.std.{proofs.Common.{ℕ, ◌≡◌, ◌≢◌, ◌+◌, ◌-◌, ◌*◌, ◌/◌, ◌%◌, ◌<◌, ◌≤◌, Bool, true, false, List, [], ◌∷◌, Option, Some, None, Result, Ok, Err, refl, subst, arith}, specs.Prelude.{nat_le, if◌then◌else◌}, proofs.lemmas.Bool.leb-false}
+use Rattle.definitions.{specs.Statements.Statement, specs.Kinds.{word_bits, units, unit_bits, most_words}, specs.Pieces.{pieces_of, subfields_of}, specs.Forms.{Form, Names}, specs.Operations.Operation, specs.Operands.{Operand, BadOperand, ValueOperand, operand_of}, specs.Sizes.size_of, specs.EarlyValues.{Outcome, outcome_of, outcome_of_size, reserved_outcome, reserved, stays_with, early_value, early_names}, specs.Counters.{Counters, counters_at}, specs.Settled.{Settled, Unchanged, ReadStatement, read_of}, specs.Settling.{Seen, seen_of, place_of, settle, settled_with}, specs.StatementItems.{Item, Context, operand_items, items_of}, specs.Words.width_of, specs.declared.deck_kind.DeckKind.DeckKind, specs.declared.deck_kind.DeckKind.TheVariants.{Rel, Abs, Periph}, specs.declared.number_base.NumberBase.NumberBase, specs.declared.letter.Letter.Letter, proofs.WordLaws.{pow_positive, picked_cond}, specs.Laws.Filling.{HasFields, DoFill, DoFit, AreLongWhole}, proofs.OperandShapes.IsMade, proofs.OperandLaws.{IsValue, one_value-value, operand_of-made}, proofs.FieldRoomLaws.{words_whole, operand-fields}}
 use Rattle.definitions.specs.Operations as op
-use Rattle.definitions.specs.Operations.{Operation}
-use Rattle.definitions.specs.Operands.{Operand, BadOperand, ValueOperand, operand_of}
-use Rattle.definitions.specs.Sizes.{size_of}
-use Rattle.definitions.specs.EarlyValues.{Outcome, outcome_of, outcome_of_size, reserved_outcome, reserved, stays_with, early_value, early_names}
-use Rattle.definitions.specs.Counters.{Counters, counters_at}
-use Rattle.definitions.specs.Settled.{Settled, Unchanged, ReadStatement, read_of}
-use Rattle.definitions.specs.Settling.{Seen, seen_of, place_of, settle, settled_with}
-use Rattle.definitions.specs.StatementItems.{Item, Context, operand_items, items_of}
-use Rattle.definitions.specs.Words.{width_of}
-use Rattle.definitions.specs.declared.deck_kind.DeckKind.{DeckKind}
-use Rattle.definitions.specs.declared.deck_kind.DeckKind.TheVariants.{Rel, Abs, Periph}
-use Rattle.definitions.specs.declared.number_base.NumberBase.{NumberBase}
-use Rattle.definitions.specs.declared.letter.Letter.{Letter}
 use Rattle.definitions.specs.declared.letter.Letter.TheVariants as letter
-use Rattle.definitions.proofs.WordLaws.{pow_positive, picked_cond}
-use Rattle.definitions.specs.Laws.Filling.{HasFields, DoFill, DoFit, AreLongWhole}
-use Rattle.definitions.proofs.OperandShapes.{IsMade}
-use Rattle.definitions.proofs.OperandLaws.{IsValue, one_value-value, operand_of-made}
-use Rattle.definitions.proofs.FieldRoomLaws.{words_whole, operand-fields}
 
 -- fields fill a place where they have so many bits together
 fill-width : (kind : DeckKind) (place end : ℕ) (items : List Item) → width_of items ≡ (end - place) * unit_bits kind → DoFill kind place end items

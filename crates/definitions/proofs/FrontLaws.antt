@@ -1,16 +1,6 @@
 -- The scanned variable field is the longest front of its text whose blanks stand in counted items.
-use Rattle.std.proofs.Common.{ℕ, zero, suc, ◌≡◌, ◌≢◌, ◌+◌, ◌-◌, ◌<◌, ◌≤◌, ◌⊎◌, inl, inr, List, [], ◌∷◌, ◌++◌, Bool, true, false, ◌&&◌, nat_le, nat_eq, length, take, drop, refl, sym, ◌∙◌, ap, ap₂, subst, arith, append_assoc, append-nil, Option, Some, None}
-use Rattle.std.specs.Prelude.{take_while, if◌then◌else◌, cond}
-use Rattle.std.specs.List.{AllByRecursion}
-use Rattle.std.proofs.lemmas.Bool.{leb-true, le-leb, and_parts}
-use Rattle.std.proofs.lemmas.List.{take-append-le, length-append}
-use Rattle.std.proofs.lemmas.List.Sums.{take_while-cons}
-use Rattle.definitions.specs.Characters.{blank, is_digit, equals}
-use Rattle.definitions.specs.Numerals.{number_of}
-use Rattle.definitions.specs.CountedItems.{CountedSpan, item_letter_of, counted_item_with, counted_item_behind, counted_item_at}
-use Rattle.definitions.specs.Pieces.{Mark, Piece, IsMark, IsCountedItem, Plain, Spot, AtStart, AtEquals, Inside, Begun, ByMark, ByCountedItem, ByOther, mark_of, begun_by, begun_by_counted_item, begun_at, spot_behind, left_of, onto_plain, onto_pieces, pieces_at}
-use Rattle.definitions.specs.declared.item_letter.ItemLetter.{ItemLetter}
-use Rattle.definitions.specs.Laws.Cuts.{HasNoBlank, HasBlanksInItems, IsLongestFront}
+use Rattle.std.{proofs.Common.{ℕ, zero, suc, ◌≡◌, ◌≢◌, ◌+◌, ◌-◌, ◌<◌, ◌≤◌, ◌⊎◌, inl, inr, List, [], ◌∷◌, ◌++◌, Bool, true, false, ◌&&◌, nat_le, nat_eq, length, take, drop, refl, sym, ◌∙◌, ap, ap₂, subst, arith, append_assoc, append-nil, Option, Some, None}, specs.Prelude.{take_while, if◌then◌else◌, cond}, specs.List.AllByRecursion, proofs.lemmas.Bool.{leb-true, le-leb, and_parts}, proofs.lemmas.List.{take-append-le, length-append}, proofs.lemmas.List.Sums.take_while-cons}
+use Rattle.definitions.specs.{Characters.{blank, is_digit, equals}, Numerals.number_of, CountedItems.{CountedSpan, item_letter_of, counted_item_with, counted_item_behind, counted_item_at}, Pieces.{Mark, Piece, IsMark, IsCountedItem, Plain, Spot, AtStart, AtEquals, Inside, Begun, ByMark, ByCountedItem, ByOther, mark_of, begun_by, begun_by_counted_item, begun_at, spot_behind, left_of, onto_plain, onto_pieces, pieces_at}, declared.item_letter.ItemLetter.ItemLetter, Laws.Cuts.{HasNoBlank, HasBlanksInItems, IsLongestFront}}
 
 -- the field holds no blank outside an item, and ends at such a blank or where the text ends
 abbrev pub IsExtent : Spot → ℕ → List ℕ → List ℕ → Type 0

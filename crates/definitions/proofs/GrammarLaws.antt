@@ -1,13 +1,6 @@
 -- What `pairs_of` reads, as a relation: elements, each behind the mark of its operator.
-use Rattle.std.proofs.Common.{ℕ, ◌≡◌, inl, inr, List, [], ◌∷◌, ◌++◌, Option, Some, None, Bool, true, false, refl, sym, ◌∙◌, ap, subst, if◌then◌else◌}
-use Rattle.std.specs.Prelude.{codes}
-use Rattle.definitions.specs.Characters.{same_text}
-use Rattle.definitions.proofs.TextLaws.{same_text-true}
-use Rattle.definitions.specs.Pieces.{Mark, Plus, Minus, Star, Slash, Equals, Piece, IsMark, IsCountedItem, Plain}
-use Rattle.definitions.specs.Symbols.{Register, register_of, is_symbol, Number, number_read}
-use Rattle.definitions.specs.Expressions.{Sign, NoSign, PlusSign, MinusSign, OfNumber, OfCountedItem, Element, ANumber, ACountedItem, ASymbol, ARegister, LocationCounter, OriginCounter, ALiteral, Operator, Times, Divide, Add, Subtract, OperatorElement, element_of_number, element_of_name, element_of_text, counter_of, literal_of, element_at, onto_pairs, pairs_of}
-use Rattle.definitions.specs.Laws.Grammar.{IsNumberText, IsSymbolText, sign_pieces, IsElement}
-use Rattle.definitions.specs.declared.number_base.NumberBase.{NumberBase}
+use Rattle.std.{proofs.Common.{ℕ, ◌≡◌, inl, inr, List, [], ◌∷◌, ◌++◌, Option, Some, None, Bool, true, false, refl, sym, ◌∙◌, ap, subst, if◌then◌else◌}, specs.Prelude.codes}
+use Rattle.definitions.{specs.Characters.same_text, proofs.TextLaws.same_text-true, specs.Pieces.{Mark, Plus, Minus, Star, Slash, Equals, Piece, IsMark, IsCountedItem, Plain}, specs.Symbols.{Register, register_of, is_symbol, Number, number_read}, specs.Expressions.{Sign, NoSign, PlusSign, MinusSign, OfNumber, OfCountedItem, Element, ANumber, ACountedItem, ASymbol, ARegister, LocationCounter, OriginCounter, ALiteral, Operator, Times, Divide, Add, Subtract, OperatorElement, element_of_number, element_of_name, element_of_text, counter_of, literal_of, element_at, onto_pairs, pairs_of}, specs.Laws.Grammar.{IsNumberText, IsSymbolText, sign_pieces, IsElement}, specs.declared.number_base.NumberBase.NumberBase}
 
 -- an operator with the element that begins these pieces, and the pairs behind it
 abbrev pub pairs_from : NumberBase → Operator → List Piece → Option (List OperatorElement)

@@ -1,23 +1,7 @@
 -- Each field has the width that it was asked for, and room for what stands in it.
-use Rattle.std.proofs.Common.{◌≡◌, ℕ, ◌+◌, ◌^◌, ◌<◌, ◌≤◌, Bool, true, false, ◌&&◌, [], Option, None, Some, Result, Ok, Err, refl, arith}
-use Rattle.std.specs.Prelude.{ℤ, pos, negsuc, ◌-ℤ◌, nat_le, if◌then◌else◌}
-use Rattle.std.proofs.lemmas.Bool.{leb-true}
-use Rattle.definitions.specs.Kinds.{address_bits}
-use Rattle.definitions.specs.CountedItems.{CountedItem}
-use Rattle.definitions.specs.Symbols.{Number, Value, TooGreat}
-use Rattle.definitions.specs.Expressions.{Sign, Expression}
-use Rattle.definitions.specs.Forms.{Form, is_absolute, value_of}
-use Rattle.definitions.specs.Coding.{coded, coded_in, counted_item_in}
-use Rattle.definitions.specs.Settled.{Settled}
-use Rattle.definitions.specs.Literals.{signed_number}
-use Rattle.definitions.specs.StatementItems.{Item, Linked, Context, known, faulty, known_if, number_in, linked_item, form_item, value_item, counted_item_or_value, whole_counted_item, expression_item, final_names, count_item, count_of, short_item, shift_of, displacement_of, is_short, number_item}
-use Rattle.definitions.specs.declared.deck_kind.DeckKind.{DeckKind}
-use Rattle.definitions.specs.declared.deck_kind.DeckKind.TheVariants.{Rel, Abs, Periph}
-use Rattle.definitions.specs.declared.letter.Letter.{Letter}
+use Rattle.std.{proofs.Common.{◌≡◌, ℕ, ◌+◌, ◌^◌, ◌<◌, ◌≤◌, Bool, true, false, ◌&&◌, [], Option, None, Some, Result, Ok, Err, refl, arith}, specs.Prelude.{ℤ, pos, negsuc, ◌-ℤ◌, nat_le, if◌then◌else◌}, proofs.lemmas.Bool.leb-true}
+use Rattle.definitions.{specs.Kinds.address_bits, specs.CountedItems.CountedItem, specs.Symbols.{Number, Value, TooGreat}, specs.Expressions.{Sign, Expression}, specs.Forms.{Form, is_absolute, value_of}, specs.Coding.{coded, coded_in, counted_item_in}, specs.Settled.Settled, specs.Literals.signed_number, specs.StatementItems.{Item, Linked, Context, known, faulty, known_if, number_in, linked_item, form_item, value_item, counted_item_or_value, whole_counted_item, expression_item, final_names, count_item, count_of, short_item, shift_of, displacement_of, is_short, number_item}, specs.declared.deck_kind.DeckKind.DeckKind, specs.declared.deck_kind.DeckKind.TheVariants.{Rel, Abs, Periph}, specs.declared.letter.Letter.Letter, proofs.WordLaws.{pow_positive, picked_cond}, specs.Laws.Filling.HasRoom, proofs.CodingLaws.{coded_in-below, counted_item_in-below, short_below}}
 use Rattle.definitions.specs.declared.letter.Letter.TheVariants as letter
-use Rattle.definitions.proofs.WordLaws.{pow_positive, picked_cond}
-use Rattle.definitions.specs.Laws.Filling.{HasRoom}
-use Rattle.definitions.proofs.CodingLaws.{coded_in-below, counted_item_in-below, short_below}
 
 -- a field of so many bits that has room for what stands in it
 abbrev pub IsField : ℕ → Item → Type 0

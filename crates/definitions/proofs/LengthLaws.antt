@@ -1,11 +1,6 @@
 -- Local blocks stand at the sums of the lengths before them, common blocks at 0.
-use Rattle.std.proofs.Common.{◌≡◌, ℕ, ◌+◌, true, false, List, [], ◌∷◌, ◌++◌, refl, sym, ◌∙◌, arith, add_assoc, subst}
-use Rattle.std.specs.Prelude.{if◌then◌else◌}
-use Rattle.definitions.specs.Settled.{Settled}
-use Rattle.definitions.specs.Blocks.{is_common}
-use Rattle.definitions.specs.Lengths.{BlockLength, BlockRow, placed_row, rows_from, literals_row, rows_of, lengths_of, block_rows, local_words, total_length}
-use Rattle.definitions.specs.Literals.{literal_words}
-use Rattle.definitions.specs.declared.deck_kind.DeckKind.{DeckKind}
+use Rattle.std.{proofs.Common.{◌≡◌, ℕ, ◌+◌, true, false, List, [], ◌∷◌, ◌++◌, refl, sym, ◌∙◌, arith, add_assoc, subst}, specs.Prelude.if◌then◌else◌}
+use Rattle.definitions.specs.{Settled.Settled, Blocks.is_common, Lengths.{BlockLength, BlockRow, placed_row, rows_from, literals_row, rows_of, lengths_of, block_rows, local_words, total_length}, Literals.literal_words, declared.deck_kind.DeckKind.DeckKind}
 
 -- each row's base is the local lengths before it, from a base on, or 0 for a common block
 abbrev AreSums : ℕ → List BlockRow → Type 0

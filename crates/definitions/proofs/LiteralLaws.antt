@@ -1,25 +1,6 @@
 -- Each literal fits a word of 60 bits.
-use Rattle.std.proofs.Common.{◌≡◌, ℕ, suc, ◌+◌, ◌-◌, ◌*◌, ◌/◌, ◌^◌, ◌<◌, ◌≤◌, Bool, true, false, List, [], ◌∷◌, ◌++◌, length, Option, None, Some, refl, sym, ap, ◌∙◌, arith, length-append}
-use Rattle.std.specs.Prelude.{All, fold, unwrap_or, nat_eq, ℤ, pos, negsuc, nat_le, ◌||◌}
-use Rattle.std.specs.List.{AllByRecursion, list_any}
-use Rattle.std.proofs.lemmas.Nat.{pow-add}
-use Rattle.std.proofs.lemmas.List.Elements.{All-from_recursion}
-use Rattle.std.proofs.lemmas.List.Quantifiers.{position-Some}
-use Rattle.std.proofs.lemmas.Bool.{leb-true}
-use Rattle.std.proofs.Math.Nat.{mul-le-mul_right, mul-lt-mul_of_pos_right}
-use Rattle.std.proofs.Math.Pow.{pow_mono}
-use Rattle.std.proofs.lemmas.List.{length-replicate}
-use Rattle.definitions.specs.Characters.{characters, display_code_of}
-use Rattle.definitions.specs.CountedItems.{CountedItem, bits_needed}
-use Rattle.definitions.specs.Symbols.{Number, Value, TooGreat}
-use Rattle.definitions.specs.Expressions.{Sign, Literal, OfNumber, OfCountedItem}
-use Rattle.definitions.specs.Forms.{characters_number}
-use Rattle.definitions.specs.Coding.{fits, coded, coded_in, counted_item_in, counted_item_bits, at_left, justified, blanks}
-use Rattle.definitions.specs.Literals.{literal_word, literal_number_bits, signed_number, most_literals, with_word, with_literals, literal_words, operand_literals}
-use Rattle.definitions.specs.Settled.{Settled}
-use Rattle.definitions.specs.declared.item_letter.ItemLetter.{ItemLetter}
-use Rattle.definitions.specs.declared.item_letter.ItemLetter.TheVariants.{H, A, L, R, C}
-use Rattle.definitions.proofs.WordLaws.{pow_positive, picked_cond}
+use Rattle.std.{proofs.Common.{◌≡◌, ℕ, suc, ◌+◌, ◌-◌, ◌*◌, ◌/◌, ◌^◌, ◌<◌, ◌≤◌, Bool, true, false, List, [], ◌∷◌, ◌++◌, length, Option, None, Some, refl, sym, ap, ◌∙◌, arith, length-append}, specs.Prelude.{All, fold, unwrap_or, nat_eq, ℤ, pos, negsuc, nat_le, ◌||◌}, specs.List.{AllByRecursion, list_any}, proofs.lemmas.Nat.pow-add, proofs.lemmas.List.Elements.All-from_recursion, proofs.lemmas.List.Quantifiers.position-Some, proofs.lemmas.Bool.leb-true, proofs.Math.Nat.{mul-le-mul_right, mul-lt-mul_of_pos_right}, proofs.Math.Pow.pow_mono, proofs.lemmas.List.length-replicate}
+use Rattle.definitions.{specs.Characters.{characters, display_code_of}, specs.CountedItems.{CountedItem, bits_needed}, specs.Symbols.{Number, Value, TooGreat}, specs.Expressions.{Sign, Literal, OfNumber, OfCountedItem}, specs.Forms.characters_number, specs.Coding.{fits, coded, coded_in, counted_item_in, counted_item_bits, at_left, justified, blanks}, specs.Literals.{literal_word, literal_number_bits, signed_number, most_literals, with_word, with_literals, literal_words, operand_literals}, specs.Settled.Settled, specs.declared.item_letter.ItemLetter.ItemLetter, specs.declared.item_letter.ItemLetter.TheVariants.{H, A, L, R, C}, proofs.WordLaws.{pow_positive, picked_cond}}
 
 -- a coded value is below the power
 pub coded-below : (width : ℕ) (value : ℤ) → fits width value ≡ true → coded width value < 2 ^ width

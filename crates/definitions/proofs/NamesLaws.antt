@@ -1,10 +1,6 @@
 -- The value of an expression rests on the forms of its elements alone, and its relocation is one of theirs.
-use Rattle.std.proofs.Common.{◌≡◌, Bool, true, false, List, [], ◌∷◌, ◌++◌, Option, Some, None, refl, ap, ◌∙◌}
-use Rattle.std.specs.Prelude.{⊤, Result, Ok, Err, ◌==◌, ℤ, ◌+ℤ◌, ◌*ℤ◌, int_div, ◌&&◌, unsigned_abs, if◌then◌else◌, flat_map, map}
-use Rattle.std.specs.List.{AllByRecursion}
-use Rattle.definitions.specs.Expressions.{Element, Operator, Times, Divide, Add, Subtract, OperatorElement, Term, Expression, elements_of}
-use Rattle.definitions.specs.Forms.{Relocation, Part, Added, Subtracted, Form, Names, absolute, is_absolute, is_negative, same_relocation, Running, running_part, plus_relocation, is_zero, remaining, part_of, element_form, in_range, is_in_range, quotient, combined, combined_with, product, signed, plus_relocations, plus_term, sum_from, closed, value_of}
-use Rattle.definitions.specs.declared.letter.Letter.{Letter}
+use Rattle.std.{proofs.Common.{◌≡◌, Bool, true, false, List, [], ◌∷◌, ◌++◌, Option, Some, None, refl, ap, ◌∙◌}, specs.Prelude.{⊤, Result, Ok, Err, ◌==◌, ℤ, ◌+ℤ◌, ◌*ℤ◌, int_div, ◌&&◌, unsigned_abs, if◌then◌else◌, flat_map, map}, specs.List.AllByRecursion}
+use Rattle.definitions.specs.{Expressions.{Element, Operator, Times, Divide, Add, Subtract, OperatorElement, Term, Expression, elements_of}, Forms.{Relocation, Part, Added, Subtracted, Form, Names, absolute, is_absolute, is_negative, same_relocation, Running, running_part, plus_relocation, is_zero, remaining, part_of, element_form, in_range, is_in_range, quotient, combined, combined_with, product, signed, plus_relocations, plus_term, sum_from, closed, value_of}, declared.letter.Letter.Letter}
 use Rattle.definitions.specs.declared.letter.Letter.TheVariants as letter
 
 -- what holds of all holds of those in front and of those behind

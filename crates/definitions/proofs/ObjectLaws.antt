@@ -1,13 +1,6 @@
 -- The listing of an object shows its statements with their fields.
-use Rattle.std.proofs.Common.{◌≡◌, List, [], ◌∷◌, ◌++◌, refl, ap}
-use Rattle.std.specs.Prelude.{map, filter_map, reverse}
-use Rattle.definitions.specs.DeckInput.{Deck}
-use Rattle.definitions.specs.DeckKinds.{kind_of_statements, up_to_end, behind_end}
-use Rattle.definitions.specs.Statements.{Statement, statements_of}
-use Rattle.definitions.specs.Settled.{Settled}
-use Rattle.definitions.specs.Settling.{settled_all}
-use Rattle.definitions.specs.StatementItems.{Context}
-use Rattle.definitions.specs.Objects.{Shown, coded_of, shown_of, only_listed, context_of, object_of}
+use Rattle.std.{proofs.Common.{◌≡◌, List, [], ◌∷◌, ◌++◌, refl, ap}, specs.Prelude.{map, filter_map, reverse}}
+use Rattle.definitions.specs.{DeckInput.Deck, DeckKinds.{kind_of_statements, up_to_end, behind_end}, Statements.{Statement, statements_of}, Settled.Settled, Settling.settled_all, StatementItems.Context, Objects.{Shown, coded_of, shown_of, only_listed, context_of, object_of}}
 
 -- the statements up to END are shown with their fields
 settled-shown : (context : Context) (settled : List Settled) → filter_map (λ (shown : Shown). shown.coded) (map (shown_of context) settled) ≡ map (coded_of context) settled

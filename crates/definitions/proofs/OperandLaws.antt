@@ -1,25 +1,7 @@
 -- Operands as they are read are made of what their kind says.
-use Rattle.std.proofs.Common.{ℕ, ◌≡◌, suc, ◌+◌, ◌*◌, ◌<◌, ◌≤◌, Bool, true, false, ◌&&◌, List, [], ◌∷◌, ◌++◌, length, Option, Some, None, refl, subst, arith}
-use Rattle.std.specs.Prelude.{nat_le, nat_lt, map, drop, replicate, codes, take_while, not, nat_eq, if◌then◌else◌}
-use Rattle.std.specs.List.{list_all}
-use Rattle.std.proofs.lemmas.Bool.{leb-true}
-use Rattle.std.proofs.lemmas.List.{length-take}
-use Rattle.definitions.specs.Characters.{is_among, same_text, slash, comma, blank}
-use Rattle.definitions.specs.Pieces.{Slash, Piece, IsMark, Plain, pieces_of, subfields_of}
-use Rattle.definitions.specs.Kinds.{unit_bits, allows_literals}
-use Rattle.definitions.specs.Symbols.{Number, Value, number_read, is_block_name}
-use Rattle.definitions.specs.Expressions.{Expression}
-use Rattle.definitions.specs.PeripheralTable.{PeripheralForm, Ignored, Short, ShortJump, Shift, Wide, Long, PeripheralRow, row_among, peripheral_row, peripheral_rows}
-use Rattle.definitions.specs.Matching.{Instruction, central_of}
+use Rattle.std.{proofs.Common.{ℕ, ◌≡◌, suc, ◌+◌, ◌*◌, ◌<◌, ◌≤◌, Bool, true, false, ◌&&◌, List, [], ◌∷◌, ◌++◌, length, Option, Some, None, refl, subst, arith}, specs.Prelude.{nat_le, nat_lt, map, drop, replicate, codes, take_while, not, nat_eq, if◌then◌else◌}, specs.List.list_all, proofs.lemmas.Bool.leb-true, proofs.lemmas.List.length-take}
+use Rattle.definitions.{specs.Characters.{is_among, same_text, slash, comma, blank}, specs.Pieces.{Slash, Piece, IsMark, Plain, pieces_of, subfields_of}, specs.Kinds.{unit_bits, allows_literals}, specs.Symbols.{Number, Value, number_read, is_block_name}, specs.Expressions.Expression, specs.PeripheralTable.{PeripheralForm, Ignored, Short, ShortJump, Shift, Wide, Long, PeripheralRow, row_among, peripheral_row, peripheral_rows}, specs.Matching.{Instruction, central_of}, specs.Operations.Operation, specs.Operands.{Datum, BitField, Operand, Unread, BadOperand, ValueOperand, UseName, UseBefore, UseRefused, plain_of, onto_all, all_words, words_operand, data_word, con_word, count_read, bit_field, given_expression, vfd_field, all_fields, bits_operand, word_characters, text_operand, dis_operand, value_operand, one_value, is_common_name, common_operand, use_operand, base_operand, central_operand, one_or_two, just_one, by_form, peripheral_operand, instruction_operand, operand_of}, specs.declared.deck_kind.DeckKind.DeckKind, specs.declared.deck_kind.DeckKind.TheVariants.{Rel, Abs, Periph}, specs.declared.number_base.NumberBase.NumberBase, proofs.WordLaws.picked_cond, proofs.OperandShapes.{HasValues, HaveWidths, IsMade}, proofs.CentralLaws.{IsWholeIf, central_of-whole}}
 use Rattle.definitions.specs.Operations as op
-use Rattle.definitions.specs.Operations.{Operation}
-use Rattle.definitions.specs.Operands.{Datum, BitField, Operand, Unread, BadOperand, ValueOperand, UseName, UseBefore, UseRefused, plain_of, onto_all, all_words, words_operand, data_word, con_word, count_read, bit_field, given_expression, vfd_field, all_fields, bits_operand, word_characters, text_operand, dis_operand, value_operand, one_value, is_common_name, common_operand, use_operand, base_operand, central_operand, one_or_two, just_one, by_form, peripheral_operand, instruction_operand, operand_of}
-use Rattle.definitions.specs.declared.deck_kind.DeckKind.{DeckKind}
-use Rattle.definitions.specs.declared.deck_kind.DeckKind.TheVariants.{Rel, Abs, Periph}
-use Rattle.definitions.specs.declared.number_base.NumberBase.{NumberBase}
-use Rattle.definitions.proofs.WordLaws.{picked_cond}
-use Rattle.definitions.proofs.OperandShapes.{HasValues, HaveWidths, IsMade}
-use Rattle.definitions.proofs.CentralLaws.{IsWholeIf, central_of-whole}
 
 central_operand-made : (kind : DeckKind) (instruction : Option Instruction) → unit_bits kind ≡ 15 → IsWholeIf instruction → IsMade kind (central_operand instruction)
 central_operand-made kind None e h = tt

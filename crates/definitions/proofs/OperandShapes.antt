@@ -1,12 +1,6 @@
 -- What is known of operands as they are read: their digits, their codes, their widths, their lengths.
 use Rattle.std.proofs.Common.{◌≡◌, ◌+◌, ◌*◌, ◌%◌, ◌^◌, ◌<◌, ◌≤◌, List, [], ◌∷◌, length}
-use Rattle.definitions.specs.Kinds.{unit_bits}
-use Rattle.definitions.specs.Expressions.{Expression}
-use Rattle.definitions.specs.PeripheralTable.{PeripheralForm, Wide, Long}
-use Rattle.definitions.specs.Matching.{Instruction}
-use Rattle.definitions.specs.Operands.{Operand, CentralOperand, PeripheralOperand, BitsOperand, TextOperand, BitField, word_characters}
-use Rattle.definitions.specs.Sizes.{field_width}
-use Rattle.definitions.specs.declared.deck_kind.DeckKind.{DeckKind}
+use Rattle.definitions.specs.{Kinds.unit_bits, Expressions.Expression, PeripheralTable.{PeripheralForm, Wide, Long}, Matching.Instruction, Operands.{Operand, CentralOperand, PeripheralOperand, BitsOperand, TextOperand, BitField, word_characters}, Sizes.field_width, declared.deck_kind.DeckKind.DeckKind}
 
 -- the digits have their room, at most ten, and with the field they fill whole parcels
 pub record IsWhole (instruction : Instruction) : Type 0 where

@@ -1,13 +1,6 @@
 -- Places are lawful, and the least.
-use Rattle.std.proofs.Common.{◌≡◌, ◌≢◌, ℕ, ◌+◌, ◌-◌, ◌*◌, ◌/◌, ◌%◌, ◌≤◌, Bool, true, false, ◌&&◌, ◌||◌, ◌⊎◌, inl, inr, nat_eq, refl, arith, List}
-use Rattle.std.specs.Prelude.{if◌then◌else◌}
-use Rattle.std.proofs.lemmas.Bool.Decides.{eqb_tells}
-use Rattle.definitions.specs.Operations.{Operation}
-use Rattle.definitions.specs.Operands.{Operand}
-use Rattle.definitions.specs.Kinds.{units}
-use Rattle.definitions.specs.Places.{MayStand, least_place, is_at_word, is_upper, is_long}
-use Rattle.definitions.specs.declared.deck_kind.DeckKind.{DeckKind}
-use Rattle.definitions.specs.declared.deck_kind.DeckKind.TheVariants.{Rel, Abs, Periph}
+use Rattle.std.{proofs.Common.{◌≡◌, ◌≢◌, ℕ, ◌+◌, ◌-◌, ◌*◌, ◌/◌, ◌%◌, ◌≤◌, Bool, true, false, ◌&&◌, ◌||◌, ◌⊎◌, inl, inr, nat_eq, refl, arith, List}, specs.Prelude.if◌then◌else◌, proofs.lemmas.Bool.Decides.eqb_tells}
+use Rattle.definitions.specs.{Operations.Operation, Operands.Operand, Kinds.units, Places.{MayStand, least_place, is_at_word, is_upper, is_long}, declared.deck_kind.DeckKind.DeckKind, declared.deck_kind.DeckKind.TheVariants.{Rel, Abs, Periph}}
 
 -- the next word at or behind a place
 word_behind : (from : ℕ) → from ≤ (from + 4 - 1) / 4 * 4

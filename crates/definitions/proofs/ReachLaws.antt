@@ -1,39 +1,8 @@
 -- An instruction reaches at most four units, and any other statement with fields stands from a word to a word.
-use Rattle.std.proofs.Common.{ℕ, ◌≡◌, ◌≢◌, ◌+◌, ◌-◌, ◌*◌, ◌/◌, ◌%◌, ◌≤◌, Bool, true, false, not, List, [], ◌∷◌, length, Option, Some, None, Result, Ok, Err, refl, arith}
-use Rattle.std.specs.Prelude.{nat_le, nat_eq, map, reverse, take_while, drop, if◌then◌else◌}
-use Rattle.definitions.specs.DeckInput.{Deck}
-use Rattle.definitions.specs.DeckKinds.{kind_of_statements, up_to_end}
-use Rattle.definitions.specs.Statements.{Statement, statements_of}
-use Rattle.definitions.specs.Kinds.{units, word_bits, most_words, allows_literals}
-use Rattle.definitions.specs.Characters.{comma}
-use Rattle.definitions.specs.Symbols.{number_read}
-use Rattle.definitions.specs.Pieces.{Piece, pieces_of, subfields_of}
-use Rattle.definitions.specs.Expressions.{Expression}
-use Rattle.definitions.specs.Forms.{Form}
-use Rattle.definitions.specs.PeripheralTable.{PeripheralForm, Ignored, Short, ShortJump, Shift, Wide, Long, PeripheralRow, peripheral_row}
-use Rattle.definitions.specs.Matching.{Instruction, Field, NoField, OfK, OfN, central_of}
+use Rattle.std.{proofs.Common.{ℕ, ◌≡◌, ◌≢◌, ◌+◌, ◌-◌, ◌*◌, ◌/◌, ◌%◌, ◌≤◌, Bool, true, false, not, List, [], ◌∷◌, length, Option, Some, None, Result, Ok, Err, refl, arith}, specs.Prelude.{nat_le, nat_eq, map, reverse, take_while, drop, if◌then◌else◌}}
+use Rattle.definitions.{specs.DeckInput.Deck, specs.DeckKinds.{kind_of_statements, up_to_end}, specs.Statements.{Statement, statements_of}, specs.Kinds.{units, word_bits, most_words, allows_literals}, specs.Characters.comma, specs.Symbols.number_read, specs.Pieces.{Piece, pieces_of, subfields_of}, specs.Expressions.Expression, specs.Forms.Form, specs.PeripheralTable.{PeripheralForm, Ignored, Short, ShortJump, Shift, Wide, Long, PeripheralRow, peripheral_row}, specs.Matching.{Instruction, Field, NoField, OfK, OfN, central_of}, specs.Operations.{Operation, has_place}, specs.Operands.{Operand, Datum, BitField, CentralOperand, PeripheralOperand, WordsOperand, BitsOperand, TextOperand, BadOperand, plain_of, all_words, data_word, con_word, all_fields, vfd_field, words_operand, bits_operand, text_operand, dis_operand, one_value, count_read, central_operand, one_or_two, just_one, by_form, peripheral_operand, instruction_operand, operand_of}, specs.Sizes.{size_of, data_words, bits_of, field_width, form_units}, specs.Places.{Position, is_bad, is_at_word}, specs.EarlyValues.{Outcome, outcome_of, outcome_of_value, outcome_of_size, origin_outcome, origin_word, location_outcome, location_value, reserved_outcome, reserved, stays_with, early_value, early_names}, specs.Counters.{Counters, counters_at}, specs.Settled.{Settled, Unchanged, ReadStatement, read_of}, specs.Settling.{Seen, seen_of, place_of, settle, settled_with, settled_all}, specs.StatementItems.{Context, operand_items, items_of}, specs.Objects.{coded_of, context_of, object_of}, specs.declared.deck_kind.DeckKind.DeckKind, specs.declared.deck_kind.DeckKind.TheVariants.{Rel, Abs, Periph}, specs.declared.number_base.NumberBase.NumberBase, specs.declared.letter.Letter.Letter, proofs.WordLaws.picked_cond, proofs.PlaceLaws.least_place-lawful, specs.Laws.Filling.HasFields, specs.Laws.Reaching.{DoesReach, DoReach}, proofs.CentralLaws.{IsWholeIf, central_of-whole}, proofs.BareLaws.{IsBare, has_fields, one_value-bare, operand_of-bare, items_of-none}}
 use Rattle.definitions.specs.Operations as op
-use Rattle.definitions.specs.Operations.{Operation, has_place}
-use Rattle.definitions.specs.Operands.{Operand, Datum, BitField, CentralOperand, PeripheralOperand, WordsOperand, BitsOperand, TextOperand, BadOperand, plain_of, all_words, data_word, con_word, all_fields, vfd_field, words_operand, bits_operand, text_operand, dis_operand, one_value, count_read, central_operand, one_or_two, just_one, by_form, peripheral_operand, instruction_operand, operand_of}
-use Rattle.definitions.specs.Sizes.{size_of, data_words, bits_of, field_width, form_units}
-use Rattle.definitions.specs.Places.{Position, is_bad, is_at_word}
-use Rattle.definitions.specs.EarlyValues.{Outcome, outcome_of, outcome_of_value, outcome_of_size, origin_outcome, origin_word, location_outcome, location_value, reserved_outcome, reserved, stays_with, early_value, early_names}
-use Rattle.definitions.specs.Counters.{Counters, counters_at}
-use Rattle.definitions.specs.Settled.{Settled, Unchanged, ReadStatement, read_of}
-use Rattle.definitions.specs.Settling.{Seen, seen_of, place_of, settle, settled_with, settled_all}
-use Rattle.definitions.specs.StatementItems.{Context, operand_items, items_of}
-use Rattle.definitions.specs.Objects.{coded_of, context_of, object_of}
-use Rattle.definitions.specs.declared.deck_kind.DeckKind.{DeckKind}
-use Rattle.definitions.specs.declared.deck_kind.DeckKind.TheVariants.{Rel, Abs, Periph}
-use Rattle.definitions.specs.declared.number_base.NumberBase.{NumberBase}
-use Rattle.definitions.specs.declared.letter.Letter.{Letter}
 use Rattle.definitions.specs.declared.letter.Letter.TheVariants as letter
-use Rattle.definitions.proofs.WordLaws.{picked_cond}
-use Rattle.definitions.proofs.PlaceLaws.{least_place-lawful}
-use Rattle.definitions.specs.Laws.Filling.{HasFields}
-use Rattle.definitions.specs.Laws.Reaching.{DoesReach, DoReach}
-use Rattle.definitions.proofs.CentralLaws.{IsWholeIf, central_of-whole}
-use Rattle.definitions.proofs.BareLaws.{IsBare, has_fields, one_value-bare, operand_of-bare, items_of-none}
 
 -- an operand of at most four units
 abbrev IsShort : DeckKind → Operand → Type 0

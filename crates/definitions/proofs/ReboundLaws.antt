@@ -1,31 +1,8 @@
 -- A statement whose elements are bound alike in two decks of one kind has the same letters and the same fields in both.
-use Rattle.std.proofs.Common.{◌≡◌, ℕ, List, [], ◌∷◌, ◌++◌, Option, Some, None, refl, ap, ap₂, ◌∙◌}
-use Rattle.std.specs.Prelude.{false, Result, Ok, Err, ◌*◌, pos, neg_ℤ, ◌+ℤ◌, ◌-ℤ◌, nat_le, ◌&&◌, map, flat_map, if◌then◌else◌}
-use Rattle.std.specs.List.{AllByRecursion}
-use Rattle.definitions.specs.CountedItems.{CountedItem}
-use Rattle.definitions.specs.Expressions.{Element, ASymbol, Expression, elements_of}
-use Rattle.definitions.specs.Forms.{Block, External, Part, Added, Subtracted, Form, is_absolute, symbol_form, element_form, value_of}
-use Rattle.definitions.specs.Coding.{coded, coded_in, counted_item_in}
-use Rattle.definitions.specs.PeripheralTable.{PeripheralForm, Ignored, Short, ShortJump, Shift, Wide, Long}
-use Rattle.definitions.specs.Matching.{Field, NoField, OfK, OfN}
+use Rattle.std.{proofs.Common.{◌≡◌, ℕ, List, [], ◌∷◌, ◌++◌, Option, Some, None, refl, ap, ap₂, ◌∙◌}, specs.Prelude.{false, Result, Ok, Err, ◌*◌, pos, neg_ℤ, ◌+ℤ◌, ◌-ℤ◌, nat_le, ◌&&◌, map, flat_map, if◌then◌else◌}, specs.List.AllByRecursion}
+use Rattle.definitions.{specs.CountedItems.CountedItem, specs.Expressions.{Element, ASymbol, Expression, elements_of}, specs.Forms.{Block, External, Part, Added, Subtracted, Form, is_absolute, symbol_form, element_form, value_of}, specs.Coding.{coded, coded_in, counted_item_in}, specs.PeripheralTable.{PeripheralForm, Ignored, Short, ShortJump, Shift, Wide, Long}, specs.Matching.{Field, NoField, OfK, OfN}, specs.Operations.Operation, specs.Operands.{Operand, CentralOperand, PeripheralOperand, WordsOperand, BitsOperand, NamesOperand, Datum, ZeroWord, NumberWord, CountedItemWords, ExpressionWord, BitField}, specs.Kinds.{word_bits, address_bits}, specs.Settled.{Settled, defined}, specs.Laws.Agreement.{unnumbered, lawful_names}, specs.StatementItems.{Item, Context, final_names, part_value, number_in, counted_item_value, known_if, form_item, value_item, whole_counted_item, counted_item_or_value, expression_item, small_value, count_of, short_item, is_short, known, shift_of, displacement_of, instruction_items, second_value, peripheral_items, datum_item, vfd_value, zeros_to_word, operand_items, items_of}, specs.Lengths.base_in, specs.Sizes.bits_of, specs.Letters.{name_fault, entry_letters, letters_of}, specs.Entries.entry_fault, specs.Laws.Rebound.{field_elements, datum_elements, value_elements, form_elements, coded_elements, is_rebound}, specs.declared.deck_kind.DeckKind.DeckKind, specs.declared.deck_kind.DeckKind.TheVariants.{Rel, Abs, Periph}, specs.declared.letter.Letter.Letter, proofs.NamesLaws.{all-front, all-behind, Alike, value_of-alike, OfPart, OfValue, value_of-of}, proofs.BoundLaws.{Stands, IsBound, all-bound}}
 use Rattle.definitions.specs.Operations as op
-use Rattle.definitions.specs.Operations.{Operation}
-use Rattle.definitions.specs.Operands.{Operand, CentralOperand, PeripheralOperand, WordsOperand, BitsOperand, NamesOperand, Datum, ZeroWord, NumberWord, CountedItemWords, ExpressionWord, BitField}
-use Rattle.definitions.specs.Kinds.{word_bits, address_bits}
-use Rattle.definitions.specs.Settled.{Settled, defined}
-use Rattle.definitions.specs.Laws.Agreement.{unnumbered, lawful_names}
-use Rattle.definitions.specs.StatementItems.{Item, Context, final_names, part_value, number_in, counted_item_value, known_if, form_item, value_item, whole_counted_item, counted_item_or_value, expression_item, small_value, count_of, short_item, is_short, known, shift_of, displacement_of, instruction_items, second_value, peripheral_items, datum_item, vfd_value, zeros_to_word, operand_items, items_of}
-use Rattle.definitions.specs.Lengths.{base_in}
-use Rattle.definitions.specs.Sizes.{bits_of}
-use Rattle.definitions.specs.Letters.{name_fault, entry_letters, letters_of}
-use Rattle.definitions.specs.Entries.{entry_fault}
-use Rattle.definitions.specs.Laws.Rebound.{field_elements, datum_elements, value_elements, form_elements, coded_elements, is_rebound}
-use Rattle.definitions.specs.declared.deck_kind.DeckKind.{DeckKind}
-use Rattle.definitions.specs.declared.deck_kind.DeckKind.TheVariants.{Rel, Abs, Periph}
-use Rattle.definitions.specs.declared.letter.Letter.{Letter}
 use Rattle.definitions.specs.declared.letter.Letter.TheVariants as letter
-use Rattle.definitions.proofs.NamesLaws.{all-front, all-behind, Alike, value_of-alike, OfPart, OfValue, value_of-of}
-use Rattle.definitions.proofs.BoundLaws.{Stands, IsBound, all-bound}
 
 -- all of these are bound alike
 abbrev AreBound : Context → Context → Settled → List Element → Type 0

@@ -1,32 +1,7 @@
 -- Statements stand behind one another in the runs of their blocks.
-use Rattle.std.proofs.Common.{ℕ, ◌≡◌, ◌*◌, ◌%◌, ◌<◌, ◌≤◌, Bool, true, false, ◌&&◌, List, [], ◌∷◌, Option, Result, refl, subst, arith}
-use Rattle.std.specs.Prelude.{map, All, reverse, if◌then◌else◌}
-use Rattle.std.specs.List.{AllByRecursion}
-use Rattle.std.proofs.lemmas.List.Elements.{All-from_recursion}
-use Rattle.definitions.specs.Characters.{same_text}
-use Rattle.definitions.specs.DeckInput.{Deck}
-use Rattle.definitions.specs.DeckKinds.{kind_of_statements, up_to_end}
-use Rattle.definitions.specs.Statements.{Statement, statements_of}
-use Rattle.definitions.specs.Kinds.{units, most_words}
-use Rattle.definitions.specs.Forms.{Form}
+use Rattle.std.{proofs.Common.{ℕ, ◌≡◌, ◌*◌, ◌%◌, ◌<◌, ◌≤◌, Bool, true, false, ◌&&◌, List, [], ◌∷◌, Option, Result, refl, subst, arith}, specs.Prelude.{map, All, reverse, if◌then◌else◌}, specs.List.AllByRecursion, proofs.lemmas.List.Elements.All-from_recursion}
+use Rattle.definitions.{specs.Characters.same_text, specs.DeckInput.Deck, specs.DeckKinds.{kind_of_statements, up_to_end}, specs.Statements.{Statement, statements_of}, specs.Kinds.{units, most_words}, specs.Forms.Form, specs.Operations.{Operation, has_place}, specs.Places.{Position, position_in}, specs.EarlyValues.{early_value, early_names}, specs.Counters.{Counters, counters_at}, specs.Settled.{Settled, ReadStatement, read_of}, specs.Settling.{Seen, seen_of, place_of, settle, settled_with, settled_all}, specs.StatementItems.{Item, Context, items_of}, specs.Words.Coded, specs.Objects.{coded_of, context_of, object_of}, specs.declared.deck_kind.DeckKind.DeckKind, specs.declared.letter.Letter.Letter, proofs.WordLaws.picked_cond, proofs.TextLaws.same_text-true, specs.Laws.Rising.{end_with, run_end, IsLaidOut, AreLaidOut}, proofs.FillLaws.{settle-fill, settle-fit, settle-long}, proofs.EndLaws.{place_of-behind, place_of-within, outcome-ending}, proofs.BareLaws.{has_fields, unplaced_bare, settle-bare}}
 use Rattle.definitions.specs.Operations as op
-use Rattle.definitions.specs.Operations.{Operation, has_place}
-use Rattle.definitions.specs.Places.{Position, position_in}
-use Rattle.definitions.specs.EarlyValues.{early_value, early_names}
-use Rattle.definitions.specs.Counters.{Counters, counters_at}
-use Rattle.definitions.specs.Settled.{Settled, ReadStatement, read_of}
-use Rattle.definitions.specs.Settling.{Seen, seen_of, place_of, settle, settled_with, settled_all}
-use Rattle.definitions.specs.StatementItems.{Item, Context, items_of}
-use Rattle.definitions.specs.Words.{Coded}
-use Rattle.definitions.specs.Objects.{coded_of, context_of, object_of}
-use Rattle.definitions.specs.declared.deck_kind.DeckKind.{DeckKind}
-use Rattle.definitions.specs.declared.letter.Letter.{Letter}
-use Rattle.definitions.proofs.WordLaws.{picked_cond}
-use Rattle.definitions.proofs.TextLaws.{same_text-true}
-use Rattle.definitions.specs.Laws.Rising.{end_with, run_end, IsLaidOut, AreLaidOut}
-use Rattle.definitions.proofs.FillLaws.{settle-fill, settle-fit, settle-long}
-use Rattle.definitions.proofs.EndLaws.{place_of-behind, place_of-within, outcome-ending}
-use Rattle.definitions.proofs.BareLaws.{has_fields, unplaced_bare, settle-bare}
 
 -- a statement behind those that are settled stands at or behind the end of its block
 pub settle-behind : (kind : DeckKind) (earlier : List Settled) (statement : Statement) → (let settled = settle kind earlier statement in (position_in settled.block earlier).end ≤ settled.place)

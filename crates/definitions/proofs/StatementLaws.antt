@@ -1,11 +1,6 @@
 -- The statements of cards have all the cards.
-use Rattle.std.proofs.Common.{◌≡◌, List, [], ◌∷◌, ◌++◌, Bool, true, false, length, reverse, refl, sym, ap, ◌∙◌, append_assoc}
-use Rattle.std.specs.Prelude.{◌&&◌, nat_le}
-use Rattle.std.proofs.lemmas.List.{length-reverse}
-use Rattle.std.proofs.lemmas.Grind.{reverse_onto}
-use Rattle.std.proofs.lemmas.Bool.{and_parts}
-use Rattle.definitions.specs.Cards.{Card, is_comma_card}
-use Rattle.definitions.specs.Statements.{Statement, statements_of, cards_in, AreNumbered, onto_latest, continues, has_owner, comma_cards}
+use Rattle.std.{proofs.Common.{◌≡◌, List, [], ◌∷◌, ◌++◌, Bool, true, false, length, reverse, refl, sym, ap, ◌∙◌, append_assoc}, specs.Prelude.{◌&&◌, nat_le}, proofs.lemmas.List.length-reverse, proofs.lemmas.Grind.reverse_onto, proofs.lemmas.Bool.and_parts}
+use Rattle.definitions.specs.{Cards.{Card, is_comma_card}, Statements.{Statement, statements_of, cards_in, AreNumbered, onto_latest, continues, has_owner, comma_cards}}
 
 -- what continues has an owner in front of it
 has_owner-continues : (earlier : List Card) (card : Card) → continues earlier card ≡ true → has_owner earlier ≡ true

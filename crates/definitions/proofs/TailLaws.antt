@@ -1,15 +1,6 @@
 -- Where two decks agree at one place of a common tail, they agree at each later one.
-use Rattle.std.proofs.Common.{◌≡◌, ℕ, List, [], ◌∷◌, ◌++◌, Option, Some, None, refl, sym, ap, ap₂, ◌∙◌}
-use Rattle.std.specs.Prelude.{map}
-use Rattle.definitions.specs.Statements.{Statement}
-use Rattle.definitions.specs.Forms.{Form}
-use Rattle.definitions.specs.Settled.{Settled, defined_in, or_form, defined}
-use Rattle.definitions.specs.Settling.{View, settle, settled_from, settled_all}
-use Rattle.definitions.specs.Laws.States.{state_after, seen_from, effect_of, advanced}
-use Rattle.definitions.specs.Laws.Agreement.{early_symbols, Agree, unnumbered_statement, unnumbered, settled_tail, HaveSameCards, AgreeOnTail}
-use Rattle.definitions.specs.declared.deck_kind.DeckKind.{DeckKind}
-use Rattle.definitions.proofs.StateSteps.{AreInUse, seen_of-state, state_after-step}
-use Rattle.definitions.proofs.ViewLaws.{settled_from-agree}
+use Rattle.std.{proofs.Common.{◌≡◌, ℕ, List, [], ◌∷◌, ◌++◌, Option, Some, None, refl, sym, ap, ap₂, ◌∙◌}, specs.Prelude.map}
+use Rattle.definitions.{specs.Statements.Statement, specs.Forms.Form, specs.Settled.{Settled, defined_in, or_form, defined}, specs.Settling.{View, settle, settled_from, settled_all}, specs.Laws.States.{state_after, seen_from, effect_of, advanced}, specs.Laws.Agreement.{early_symbols, Agree, unnumbered_statement, unnumbered, settled_tail, HaveSameCards, AgreeOnTail}, specs.declared.deck_kind.DeckKind.DeckKind, proofs.StateSteps.{AreInUse, seen_of-state, state_after-step}, proofs.ViewLaws.settled_from-agree}
 
 or_form-assoc : (a b c : Option Form) → or_form (or_form a b) c ≡ or_form a (or_form b c)
 or_form-assoc None b c = refl

@@ -1,11 +1,6 @@
 -- How `grouped` makes terms of pairs, and that the grammar's terms are pairs.
-use Rattle.std.proofs.Common.{◌≡◌, List, [], ◌∷◌, ◌++◌, refl, sym, ◌∙◌, ap, subst, append_assoc}
-use Rattle.std.proofs.lemmas.List.{append-nil}
-use Rattle.definitions.specs.Pieces.{Mark, Piece, IsMark}
-use Rattle.definitions.specs.Expressions.{Element, Operator, Times, Divide, Add, Subtract, OperatorElement, Term, Grouped, onto_grouped, grouped}
-use Rattle.definitions.specs.Laws.Grammar.{IsFactorMark, IsTermMark, AreFactors, AreTerms}
-use Rattle.definitions.specs.declared.number_base.NumberBase.{NumberBase}
-use Rattle.definitions.proofs.GrammarLaws.{link_of, mark_between, AreLinks}
+use Rattle.std.proofs.{Common.{◌≡◌, List, [], ◌∷◌, ◌++◌, refl, sym, ◌∙◌, ap, subst, append_assoc}, lemmas.List.append-nil}
+use Rattle.definitions.{specs.Pieces.{Mark, Piece, IsMark}, specs.Expressions.{Element, Operator, Times, Divide, Add, Subtract, OperatorElement, Term, Grouped, onto_grouped, grouped}, specs.Laws.Grammar.{IsFactorMark, IsTermMark, AreFactors, AreTerms}, specs.declared.number_base.NumberBase.NumberBase, proofs.GrammarLaws.{link_of, mark_between, AreLinks}}
 
 -- an operator that stands between factors
 abbrev pub JoinsFactors : Operator → Type 0

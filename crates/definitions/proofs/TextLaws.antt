@@ -1,6 +1,5 @@
 -- What the test of two texts shows.
-use Rattle.std.proofs.Common.{ℕ, ◌≡◌, ◌≢◌, ◌⊎◌, inl, inr, List, [], ◌∷◌, Bool, true, false, ◌&&◌, refl, ap, ap₂}
-use Rattle.std.proofs.lemmas.Bool.Decides.{eqb_tells}
+use Rattle.std.proofs.{Common.{ℕ, ◌≡◌, ◌≢◌, ◌⊎◌, inl, inr, List, [], ◌∷◌, Bool, true, false, ◌&&◌, refl, ap, ap₂}, lemmas.Bool.Decides.eqb_tells}
 use Rattle.definitions.specs.Characters.{same_text}
 
 -- what the test of two texts shows

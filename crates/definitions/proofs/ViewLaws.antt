@@ -1,24 +1,8 @@
 -- A statement rests on the early values of its own symbols and of those that its operand reads early, and on no others.
-use Rattle.std.proofs.Common.{◌≡◌, ℕ, Bool, true, false, ◌||◌, List, [], ◌∷◌, ◌++◌, Option, Some, None, refl, ap, ap₂, ◌∙◌}
-use Rattle.std.specs.Prelude.{if◌then◌else◌, is_some, flat_map}
-use Rattle.definitions.specs.Statements.{Statement, is_stray}
-use Rattle.definitions.specs.Symbols.{is_symbol}
-use Rattle.definitions.specs.Expressions.{Element, ANumber, ACountedItem, ASymbol, ARegister, LocationCounter, OriginCounter, ALiteral, Expression, elements_of}
-use Rattle.definitions.specs.Forms.{Form, element_form, symbol_form, value_of}
+use Rattle.std.{proofs.Common.{◌≡◌, ℕ, Bool, true, false, ◌||◌, List, [], ◌∷◌, ◌++◌, Option, Some, None, refl, ap, ap₂, ◌∙◌}, specs.Prelude.{if◌then◌else◌, is_some, flat_map}}
+use Rattle.definitions.{specs.Statements.{Statement, is_stray}, specs.Symbols.is_symbol, specs.Expressions.{Element, ANumber, ACountedItem, ASymbol, ARegister, LocationCounter, OriginCounter, ALiteral, Expression, elements_of}, specs.Forms.{Form, element_form, symbol_form, value_of}, specs.Operations.{Operation, is_labelled}, specs.Operands.{Operand, NamesOperand, ValueOperand}, specs.Settled.{ReadStatement, read_of, Settled, Definition, defined_in}, specs.Counters.{Counters, counters_at}, specs.EarlyValues.{early_names, early_value, equated, outcome_of}, specs.Settling.{View, is_known, external, externals, external_letters, letter_where, location_letters, first_definition, definitions_of, operand_letters, settled_letters, is_refused, settled_with, settled_from, place_of}, specs.Laws.States.{BlockState, seen_from}, specs.Laws.Agreement.{symbols_of_element, symbols_in, own_symbols, operand_symbols, lawful_names, defines_location, early_symbols, Agree}, specs.declared.deck_kind.DeckKind.DeckKind, specs.declared.deck_kind.DeckKind.TheVariants.{Rel, Abs, Periph}, specs.declared.letter.Letter.Letter, proofs.NamesLaws.{all-front, all-behind, Alike, value_of-alike}}
 use Rattle.definitions.specs.Operations as op
-use Rattle.definitions.specs.Operations.{Operation, is_labelled}
-use Rattle.definitions.specs.Operands.{Operand, NamesOperand, ValueOperand}
-use Rattle.definitions.specs.Settled.{ReadStatement, read_of, Settled, Definition, defined_in}
-use Rattle.definitions.specs.Counters.{Counters, counters_at}
-use Rattle.definitions.specs.EarlyValues.{early_names, early_value, equated, outcome_of}
-use Rattle.definitions.specs.Settling.{View, is_known, external, externals, external_letters, letter_where, location_letters, first_definition, definitions_of, operand_letters, settled_letters, is_refused, settled_with, settled_from, place_of}
-use Rattle.definitions.specs.Laws.States.{BlockState, seen_from}
-use Rattle.definitions.specs.Laws.Agreement.{symbols_of_element, symbols_in, own_symbols, operand_symbols, lawful_names, defines_location, early_symbols, Agree}
-use Rattle.definitions.specs.declared.deck_kind.DeckKind.{DeckKind}
-use Rattle.definitions.specs.declared.deck_kind.DeckKind.TheVariants.{Rel, Abs, Periph}
-use Rattle.definitions.specs.declared.letter.Letter.{Letter}
 use Rattle.definitions.specs.declared.letter.Letter.TheVariants as letter
-use Rattle.definitions.proofs.NamesLaws.{all-front, all-behind, Alike, value_of-alike}
 
 -- views that agree on two lists of names together agree on each
 agree-front : (v w : View) (a b : List (List ℕ)) → Agree v w (a ++ b) → Agree v w a

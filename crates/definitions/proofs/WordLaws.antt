@@ -1,16 +1,7 @@
 -- Each stored word fits a word of its deck.
-use Rattle.std.proofs.Common.{◌≡◌, ℕ, zero, suc, ◌+◌, ◌-◌, ◌*◌, ◌/◌, ◌%◌, ◌^◌, ◌<◌, Bool, true, false, nat_eq, List, [], ◌∷◌, ◌++◌, refl, ap, arith}
-use Rattle.std.specs.Prelude.{All, filter, flat_map, map, if◌then◌else◌}
-use Rattle.std.specs.List.{AllByRecursion, list_any}
+use Rattle.std.{proofs.Common.{◌≡◌, ℕ, zero, suc, ◌+◌, ◌-◌, ◌*◌, ◌/◌, ◌%◌, ◌^◌, ◌<◌, Bool, true, false, nat_eq, List, [], ◌∷◌, ◌++◌, refl, ap, arith}, specs.Prelude.{All, filter, flat_map, map, if◌then◌else◌}, specs.List.{AllByRecursion, list_any}, proofs.lemmas.List.Elements.All-from_recursion}
 use Rattle.std.proofs.Math.Nat.{mod-lt, pow-suc as pow-succ}
-use Rattle.std.proofs.lemmas.List.Elements.{All-from_recursion}
-use Rattle.definitions.specs.Characters.{same_text}
-use Rattle.definitions.specs.Kinds.{units, unit_bits, word_bits}
-use Rattle.definitions.specs.Operations.{is_instruction}
-use Rattle.definitions.specs.Words.{Parcel, Coded, Linking, StoredWord, cut, parcels_from, parcels_of, onto_runs, runs_of, in_word, latest_in_word, pass, filling_of, bits_at, word_of_parcels, stored, with_number, rising, words_in, stored_words, joined}
-use Rattle.definitions.specs.StatementItems.{Item}
-use Rattle.definitions.specs.declared.deck_kind.DeckKind.{DeckKind}
-use Rattle.definitions.specs.declared.deck_kind.DeckKind.TheVariants.{Rel, Abs, Periph}
+use Rattle.definitions.specs.{Characters.same_text, Kinds.{units, unit_bits, word_bits}, Operations.is_instruction, Words.{Parcel, Coded, Linking, StoredWord, cut, parcels_from, parcels_of, onto_runs, runs_of, in_word, latest_in_word, pass, filling_of, bits_at, word_of_parcels, stored, with_number, rising, words_in, stored_words, joined}, StatementItems.Item, declared.deck_kind.DeckKind.DeckKind, declared.deck_kind.DeckKind.TheVariants.{Rel, Abs, Periph}}
 
 -- numbers in increasing order with the words of a run among them
 abbrev pub with_words_of : DeckKind → List Parcel → List ℕ → List ℕ

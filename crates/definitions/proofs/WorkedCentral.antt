@@ -1,7 +1,6 @@
 -- Worked decks, computed: central decks with their listing, map, image and status.
 use Rattle.std.proofs.Common.{◌≡◌, ℕ, List, [], ◌∷◌, refl, codes}
-use Rattle.definitions.specs.Answer.{answer_of}
-use Rattle.definitions.proofs.WorkedText.{text}
+use Rattle.definitions.{specs.Answer.answer_of, proofs.WorkedText.text}
 
 -- one central deck
 abbrev bare_deck : List ℕ

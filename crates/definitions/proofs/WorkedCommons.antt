@@ -1,7 +1,6 @@
 -- Worked decks, computed: labelled common.
 use Rattle.std.proofs.Common.{◌≡◌, ℕ, List, [], ◌∷◌, refl, codes}
-use Rattle.definitions.specs.Answer.{answer_of}
-use Rattle.definitions.proofs.WorkedText.{text}
+use Rattle.definitions.{specs.Answer.answer_of, proofs.WorkedText.text}
 
 -- common blocks of several decks
 abbrev commons_001 : List ℕ

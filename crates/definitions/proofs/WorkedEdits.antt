@@ -1,15 +1,6 @@
 -- Worked edits, computed: where two decks agree again, and which statements are coded again.
-use Rattle.std.proofs.Common.{◌≡◌, ◌≤◌, ℕ, List, [], ◌∷◌, refl, ap, codes, arith, take, drop, reverse}
-use Rattle.std.specs.Prelude.{map}
-use Rattle.definitions.specs.Cards.{Card}
-use Rattle.definitions.specs.Statements.{Statement, statements_of}
-use Rattle.definitions.specs.DeckKinds.{up_to_end}
-use Rattle.definitions.specs.Settled.{Settled}
-use Rattle.definitions.specs.Settling.{settled_all}
-use Rattle.definitions.specs.Laws.States.{UsedBlock, BlockState}
-use Rattle.definitions.specs.Laws.Edits.{Edited, IsUntouched, Split, DoAgree, IsWithinDue}
-use Rattle.definitions.specs.Laws.Rebound.{rebound_front, rebound_tail, IsWithinDueCode}
-use Rattle.definitions.specs.declared.deck_kind.DeckKind.TheVariants.{Rel}
+use Rattle.std.{proofs.Common.{◌≡◌, ◌≤◌, ℕ, List, [], ◌∷◌, refl, ap, codes, arith, take, drop, reverse}, specs.Prelude.map}
+use Rattle.definitions.specs.{Cards.Card, Statements.{Statement, statements_of}, DeckKinds.up_to_end, Settled.Settled, Settling.settled_all, Laws.States.{UsedBlock, BlockState}, Laws.Edits.{Edited, IsUntouched, Split, DoAgree, IsWithinDue}, Laws.Rebound.{rebound_front, rebound_tail, IsWithinDueCode}, declared.deck_kind.DeckKind.TheVariants.Rel}
 
 -- the statements of these cards up to END
 abbrev deck : List Card → List Statement

@@ -1,21 +1,7 @@
 -- The decks of the folder `examples`, computed: NAME.deck with its whole output NAME.out.
-use Rattle.std.proofs.Common.{◌≡◌, ℕ, List, [], ◌∷◌, refl, codes}
-use Rattle.definitions.specs.Answer.{answer_of}
-use Rattle.definitions.proofs.WorkedText.{text}
-use Rattle.std.specs.Prelude.{map, Option, Some, None}
-use Rattle.definitions.specs.Statements.{Statement, statements_of}
-use Rattle.definitions.specs.Fields.{fields_of}
-use Rattle.definitions.specs.Pieces.{Plus, Equals, IsMark, Plain, pieces_of, subfields_of}
-use Rattle.definitions.specs.Operations.{Instruction, operation_of}
-use Rattle.definitions.specs.DeckKinds.{kind_of_statements}
+use Rattle.std.{proofs.Common.{◌≡◌, ℕ, List, [], ◌∷◌, refl, codes}, specs.Prelude.{map, Option, Some, None}}
+use Rattle.definitions.{specs.Answer.answer_of, proofs.WorkedText.text, specs.Statements.{Statement, statements_of}, specs.Fields.fields_of, specs.Pieces.{Plus, Equals, IsMark, Plain, pieces_of, subfields_of}, specs.Operations.{Instruction, operation_of}, specs.DeckKinds.kind_of_statements, specs.Matching.central_of, specs.Settled.Settled, specs.Settling.settled_all, specs.Literals.literal_words, specs.Lengths.block_rows, specs.declared.deck_kind.DeckKind.TheVariants.Abs, specs.declared.number_base.NumberBase.TheVariants.Decimal}
 use Rattle.definitions.specs.Matching as M
-use Rattle.definitions.specs.Matching.{central_of}
-use Rattle.definitions.specs.Settled.{Settled}
-use Rattle.definitions.specs.Settling.{settled_all}
-use Rattle.definitions.specs.Literals.{literal_words}
-use Rattle.definitions.specs.Lengths.{block_rows}
-use Rattle.definitions.specs.declared.deck_kind.DeckKind.TheVariants.{Abs}
-use Rattle.definitions.specs.declared.number_base.NumberBase.TheVariants.{Decimal}
 
 -- the first deck of the README
 abbrev first : List ℕ

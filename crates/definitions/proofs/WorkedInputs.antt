@@ -1,7 +1,6 @@
 -- Worked inputs, computed: bytes that are no decks.
 use Rattle.std.proofs.Common.{◌≡◌, ℕ, List, [], ◌∷◌, ◌++◌, refl, codes}
-use Rattle.definitions.specs.Answer.{answer_of}
-use Rattle.definitions.proofs.WorkedText.{text, line_feed}
+use Rattle.definitions.{specs.Answer.answer_of, proofs.WorkedText.{text, line_feed}}
 
 -- told: BadName 1
 abbrev input_001 : List ℕ

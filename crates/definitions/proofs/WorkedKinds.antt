@@ -1,7 +1,6 @@
 -- Worked decks, computed: peripheral and absolute decks, and a link.
 use Rattle.std.proofs.Common.{◌≡◌, ℕ, List, [], ◌∷◌, refl, codes}
-use Rattle.definitions.specs.Answer.{answer_of}
-use Rattle.definitions.proofs.WorkedText.{text}
+use Rattle.definitions.{specs.Answer.answer_of, proofs.WorkedText.text}
 
 -- a peripheral deck
 abbrev peripheral_program : List ℕ

@@ -1,7 +1,6 @@
 -- Worked decks, computed: every row of the peripheral table with its octal, and the edges of single rules.
 use Rattle.std.proofs.Common.{◌≡◌, ℕ, List, [], ◌∷◌, refl, codes}
-use Rattle.definitions.specs.Answer.{answer_of}
-use Rattle.definitions.proofs.WorkedText.{text}
+use Rattle.definitions.{specs.Answer.answer_of, proofs.WorkedText.text}
 
 -- each row of the peripheral table
 abbrev periph_ops : List ℕ

@@ -1,7 +1,6 @@
 -- Worked decks, computed: the edges of single rules.
 use Rattle.std.proofs.Common.{◌≡◌, ℕ, List, [], ◌∷◌, refl, codes}
-use Rattle.definitions.specs.Answer.{answer_of}
-use Rattle.definitions.proofs.WorkedText.{text}
+use Rattle.definitions.{specs.Answer.answer_of, proofs.WorkedText.text}
 
 -- blocks of an absolute deck as numbers
 abbrev abs_blocks : List ℕ

@@ -1,7 +1,6 @@
 -- Worked decks, computed: every row of the central table with its octal.
 use Rattle.std.proofs.Common.{◌≡◌, ℕ, List, [], ◌∷◌, refl, codes}
-use Rattle.definitions.specs.Answer.{answer_of}
-use Rattle.definitions.proofs.WorkedText.{text}
+use Rattle.definitions.{specs.Answer.answer_of, proofs.WorkedText.text}
 
 -- each row of the central table
 abbrev central_all : List ℕ

@@ -1,6 +1,5 @@
 -- How worked decks are written down.
-use Rattle.std.proofs.Common.{ℕ, List, [], ◌∷◌, ◌++◌}
-use Rattle.std.specs.Prelude.{flat_map}
+use Rattle.std.{proofs.Common.{ℕ, List, [], ◌∷◌, ◌++◌}, specs.Prelude.flat_map}
 
 -- lines, each with its line feed
 abbrev pub text : List (List ℕ) → List ℕ

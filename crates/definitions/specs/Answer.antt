@@ -1,10 +1,6 @@
 -- The answer of `compass asm` to the bytes of its standard input: output, message and exit status (ours).
 use Rattle.std.specs.Prelude.{ℕ, ◌+◌, ◌==◌, List, [], ◌++◌, codes, reverse, if◌then◌else◌}
-use Rattle.definitions.specs.Numerals.{decimal_of}
-use Rattle.definitions.specs.InputLines.{lines_of}
-use Rattle.definitions.specs.DeckInput.{Input, Decks, Faulty, InputFault, BadLineTooWide, BadLineBadCharacter, LastLineCut, BadName, NameTaken, TooManyDecks, DeckFull, input_of, in_input_order}
-use Rattle.definitions.specs.Listing.{line}
-use Rattle.definitions.specs.Build.{Build, build_of}
+use Rattle.definitions.specs.{Numerals.decimal_of, InputLines.lines_of, DeckInput.{Input, Decks, Faulty, InputFault, BadLineTooWide, BadLineBadCharacter, LastLineCut, BadName, NameTaken, TooManyDecks, DeckFull, input_of, in_input_order}, Listing.line, Build.{Build, build_of}}
 
 -- what a run of `compass asm` leaves: the bytes of its output, its message, and its exit status
 pub record Answer : Type 0 where

@@ -1,9 +1,6 @@
 -- Blocks: the stack of USE, and the blocks in order of first use (COMPASS 60492600, USE; that the stack has no bound is ours).
-use Rattle.std.specs.Prelude.{ℕ, List, [], ◌∷◌, ◌++◌, Bool, false, ◌==◌, ◌||◌, nat_lt, codes, length, drop, if◌then◌else◌}
-use Rattle.std.specs.List.{list_any}
-use Rattle.definitions.specs.Characters.{same_text, slash}
-use Rattle.definitions.specs.Operands.{Operand, UseName, UseBefore}
-use Rattle.definitions.specs.Settled.{Settled, BlockChange, NoChange, Opens, Closes}
+use Rattle.std.specs.{Prelude.{ℕ, List, [], ◌∷◌, ◌++◌, Bool, false, ◌==◌, ◌||◌, nat_lt, codes, length, drop, if◌then◌else◌}, List.list_any}
+use Rattle.definitions.specs.{Characters.{same_text, slash}, Operands.{Operand, UseName, UseBefore}, Settled.{Settled, BlockChange, NoChange, Opens, Closes}}
 
 -- the name of the nominal block
 abbrev pub nominal : List ℕ

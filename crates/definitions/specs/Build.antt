@@ -1,12 +1,6 @@
 -- A build: what assembling and linking decks gives, and what it counts.
 use Rattle.std.specs.Prelude.{ℕ, ◌+◌, List, [], ◌∷◌, ◌++◌, flat_map, map, length}
-use Rattle.definitions.specs.DeckInput.{Deck}
-use Rattle.definitions.specs.Objects.{Object, object_of}
-use Rattle.definitions.specs.Listing.{deck_listing, errors_of}
-use Rattle.definitions.specs.Layout.{layout_of}
-use Rattle.definitions.specs.LinkLines.{link_lines}
-use Rattle.definitions.specs.Map.{map_text}
-use Rattle.definitions.specs.Image.{image_text}
+use Rattle.definitions.specs.{DeckInput.Deck, Objects.{Object, object_of}, Listing.{deck_listing, errors_of}, Layout.layout_of, LinkLines.link_lines, Map.map_text, Image.image_text}
 
 -- the listing of each object in order, and the link map behind them
 abbrev pub listing_of_objects : List Object → List ℕ

@@ -1,7 +1,6 @@
 -- Characters: the 64 of the set with their display codes, and the classes that the language distinguishes
 -- (COMPASS 60492600, character set; the marks of symbols are ours).
-use Rattle.std.specs.Prelude.{ℕ, ◌+◌, List, [], ◌∷◌, Option, Bool, true, false, ◌==◌, ◌&&◌, ◌||◌, nat_le, codes, position, slice_index}
-use Rattle.std.specs.List.{list_any}
+use Rattle.std.specs.{Prelude.{ℕ, ◌+◌, List, [], ◌∷◌, Option, Bool, true, false, ◌==◌, ◌&&◌, ◌||◌, nat_le, codes, position, slice_index}, List.list_any}
 
 -- the characters in the order of their display codes, 00 to 77 octal
 abbrev pub characters : List ℕ

@@ -1,10 +1,6 @@
 -- How a value and an item stand in a field of so many bits (COMPASS 60492600, data generation; negative numbers by ones' complement).
 use Rattle.std.specs.Prelude.{ℕ, ◌+◌, ◌-◌, ◌*◌, ◌/◌, ◌^◌, List, ◌++◌, Option, Some, None, Bool, nat_le, length, replicate, ℤ, pos, negsuc, unsigned_abs, if◌then◌else◌}
-use Rattle.definitions.specs.Characters.{blank}
-use Rattle.definitions.specs.CountedItems.{CountedItem, bits_needed}
-use Rattle.definitions.specs.Forms.{characters_number}
-use Rattle.definitions.specs.declared.item_letter.ItemLetter.{ItemLetter}
-use Rattle.definitions.specs.declared.item_letter.ItemLetter.TheVariants.{H, A, L, R, C}
+use Rattle.definitions.specs.{Characters.blank, CountedItems.{CountedItem, bits_needed}, Forms.characters_number, declared.item_letter.ItemLetter.ItemLetter, declared.item_letter.ItemLetter.TheVariants.{H, A, L, R, C}}
 
 -- a value fits where its size is at most the greatest of the field
 abbrev pub fits : ℕ → ℤ → Bool

@@ -1,9 +1,6 @@
 -- Counted items (COMPASS 60492600, data items): a count, one of H A L R C, and that many characters.
 use Rattle.std.specs.Prelude.{ℕ, ◌+◌, ◌*◌, List, [], ◌∷◌, Option, Some, None, ◌&&◌, nat_le, length, take, drop, codes, take_while, if◌then◌else◌}
-use Rattle.definitions.specs.Characters.{is_digit, is_among}
-use Rattle.definitions.specs.Numerals.{number_of}
-use Rattle.definitions.specs.declared.item_letter.ItemLetter.{ItemLetter}
-use Rattle.definitions.specs.declared.item_letter.ItemLetter.TheVariants.{H, A, L, R, C}
+use Rattle.definitions.specs.{Characters.{is_digit, is_among}, Numerals.number_of, declared.item_letter.ItemLetter.ItemLetter, declared.item_letter.ItemLetter.TheVariants.{H, A, L, R, C}}
 
 -- the letter that a character is, if it is one of the five
 abbrev pub item_letter_of : ℕ → Option ItemLetter

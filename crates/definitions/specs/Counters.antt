@@ -1,12 +1,6 @@
 -- The two counters: `*O` is the word of a statement's place, `*` the same until LOC sets it (COMPASS 60492600, LOC, ORG).
 use Rattle.std.specs.Prelude.{ℕ, ◌/◌, List, [], ◌∷◌, Option, Some, None, pos, ◌+ℤ◌, ◌-ℤ◌, if◌then◌else◌}
-use Rattle.definitions.specs.Characters.{same_text}
-use Rattle.definitions.specs.Symbols.{is_nominal}
-use Rattle.definitions.specs.Forms.{Form, absolute, Added, Block}
-use Rattle.definitions.specs.Kinds.{units}
-use Rattle.definitions.specs.Settled.{Settled, Counting, Unchanged, Counts, Ended}
-use Rattle.definitions.specs.declared.deck_kind.DeckKind.{DeckKind}
-use Rattle.definitions.specs.declared.deck_kind.DeckKind.TheVariants.{Rel}
+use Rattle.definitions.specs.{Characters.same_text, Symbols.is_nominal, Forms.{Form, absolute, Added, Block}, Kinds.units, Settled.{Settled, Counting, Unchanged, Counts, Ended}, declared.deck_kind.DeckKind.DeckKind, declared.deck_kind.DeckKind.TheVariants.Rel}
 
 -- the word of a block in which a place lies
 abbrev pub word_of_place : DeckKind → ℕ → ℕ

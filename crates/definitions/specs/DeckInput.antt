@@ -1,10 +1,6 @@
 -- The cut of input into decks (ours): each card whose operation is IDENT begins one; the first fault in line order counts.
-use Rattle.std.specs.Prelude.{ℕ, ◌+◌, ◌==◌, List, [], ◌∷◌, Bool, not, ◌&&◌, ◌||◌, nat_le, codes, length, take_while, reverse, map, if◌then◌else◌}
-use Rattle.std.specs.List.{list_all, list_any}
-use Rattle.definitions.specs.Characters.{is_letter, is_digit, same_text, blank, comma}
-use Rattle.definitions.specs.InputLines.{InputLine, Line, TooLong, Cut}
-use Rattle.definitions.specs.Cards.{Card, CardRead, IsCard, TooWide, BadCharacter, card_of}
-use Rattle.definitions.specs.Fields.{Fields, fields_of}
+use Rattle.std.specs.{Prelude.{ℕ, ◌+◌, ◌==◌, List, [], ◌∷◌, Bool, not, ◌&&◌, ◌||◌, nat_le, codes, length, take_while, reverse, map, if◌then◌else◌}, List.{list_all, list_any}}
+use Rattle.definitions.specs.{Characters.{is_letter, is_digit, same_text, blank, comma}, InputLines.{InputLine, Line, TooLong, Cut}, Cards.{Card, CardRead, IsCard, TooWide, BadCharacter, card_of}, Fields.{Fields, fields_of}}
 
 -- a deck: its name and its cards, oldest first
 pub record Deck : Type 0 where

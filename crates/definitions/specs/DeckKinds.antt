@@ -1,15 +1,7 @@
 -- What is known of a deck by its statements' fields alone: END, the kind of the deck, and the number base
 -- (COMPASS 60492600, END, ABS, PERIPH, BASE).
-use Rattle.std.specs.Prelude.{List, [], ◌∷◌, Option, Some, None, Bool, true, false, codes, map, reverse, if◌then◌else◌}
-use Rattle.std.specs.List.{list_any}
-use Rattle.definitions.specs.Characters.{same_text}
-use Rattle.definitions.specs.Statements.{Statement}
-use Rattle.definitions.specs.Fields.{Fields, fields_of}
-use Rattle.definitions.specs.Operations.{Operation, Kind, pseudo_instructions, pseudo_among, is_neutral}
-use Rattle.definitions.specs.declared.deck_kind.DeckKind.{DeckKind}
-use Rattle.definitions.specs.declared.deck_kind.DeckKind.TheVariants.{Rel}
-use Rattle.definitions.specs.declared.number_base.NumberBase.{NumberBase}
-use Rattle.definitions.specs.declared.number_base.NumberBase.TheVariants.{Decimal, Octal}
+use Rattle.std.specs.{Prelude.{List, [], ◌∷◌, Option, Some, None, Bool, true, false, codes, map, reverse, if◌then◌else◌}, List.list_any}
+use Rattle.definitions.specs.{Characters.same_text, Statements.Statement, Fields.{Fields, fields_of}, Operations.{Operation, Kind, pseudo_instructions, pseudo_among, is_neutral}, declared.deck_kind.DeckKind.DeckKind, declared.deck_kind.DeckKind.TheVariants.Rel, declared.number_base.NumberBase.NumberBase, declared.number_base.NumberBase.TheVariants.{Decimal, Octal}}
 
 -- whether a statement is END
 abbrev pub is_end : Fields → Bool

@@ -1,18 +1,8 @@
 -- BSS, BSSZ, ORG, LOC and EQU: their value as the earlier statements give it, or their letter
 -- (COMPASS 60492600, BSS, ORG, LOC, EQU; the order of the letters is ours).
 use Rattle.std.specs.Prelude.{ℕ, ◌+◌, ◌*◌, List, [], ◌∷◌, Option, Some, None, Result, Ok, Err, Bool, true, false, ◌&&◌, nat_le, nat_lt, ℤ, pos, negsuc, if◌then◌else◌}
-use Rattle.definitions.specs.Characters.{same_text}
-use Rattle.definitions.specs.Kinds.{units, most_words, is_absolute_deck}
-use Rattle.definitions.specs.Symbols.{is_nominal}
-use Rattle.definitions.specs.Forms.{Form, Names, Part, Added, Block, absolute, is_absolute, value_of}
-use Rattle.definitions.specs.Operands.{Operand, ValueOperand}
+use Rattle.definitions.specs.{Characters.same_text, Kinds.{units, most_words, is_absolute_deck}, Symbols.is_nominal, Forms.{Form, Names, Part, Added, Block, absolute, is_absolute, value_of}, Operands.{Operand, ValueOperand}, Operations.Operation, Sizes.size_of, Counters.Counters, Settled.{LocationSetting, Unchanged, Counts, Ended}, declared.deck_kind.DeckKind.DeckKind, declared.letter.Letter.Letter}
 use Rattle.definitions.specs.Operations as op
-use Rattle.definitions.specs.Operations.{Operation}
-use Rattle.definitions.specs.Sizes.{size_of}
-use Rattle.definitions.specs.Counters.{Counters}
-use Rattle.definitions.specs.Settled.{LocationSetting, Unchanged, Counts, Ended}
-use Rattle.definitions.specs.declared.deck_kind.DeckKind.{DeckKind}
-use Rattle.definitions.specs.declared.letter.Letter.{Letter}
 use Rattle.definitions.specs.declared.letter.Letter.TheVariants as letter
 
 -- only symbols that are seen early, and no literals

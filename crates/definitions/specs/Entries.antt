@@ -1,13 +1,7 @@
 -- Entries and externals: the names that a deck gives to others, and those that it takes (COMPASS 60492600, ENTRY, EXT; the order is ours).
 use Rattle.std.specs.Prelude.{ℕ, List, [], ◌∷◌, ◌++◌, Option, Some, None, filter_map}
-use Rattle.definitions.specs.Forms.{Form, Added, Subtracted, Block, External}
+use Rattle.definitions.specs.{Forms.{Form, Added, Subtracted, Block, External}, Operations.Operation, Operands.{Operand, NamesOperand}, Settled.{Settled, Definition, defined, defined_in}, declared.deck_kind.DeckKind.DeckKind, declared.deck_kind.DeckKind.TheVariants.Periph, declared.letter.Letter.Letter}
 use Rattle.definitions.specs.Operations as op
-use Rattle.definitions.specs.Operations.{Operation}
-use Rattle.definitions.specs.Operands.{Operand, NamesOperand}
-use Rattle.definitions.specs.Settled.{Settled, Definition, defined, defined_in}
-use Rattle.definitions.specs.declared.deck_kind.DeckKind.{DeckKind}
-use Rattle.definitions.specs.declared.deck_kind.DeckKind.TheVariants.{Periph}
-use Rattle.definitions.specs.declared.letter.Letter.{Letter}
 use Rattle.definitions.specs.declared.letter.Letter.TheVariants as letter
 
 -- a name may be entered where it is defined, and is no external and no block that is subtracted

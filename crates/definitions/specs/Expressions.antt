@@ -1,11 +1,6 @@
 -- Expressions: the tree, and how the pieces of a subfield are read (COMPASS 60492600, address expressions).
-use Rattle.std.specs.Prelude.{ℕ, zero, suc, List, [], ◌∷◌, Option, Some, None, Bool, true, false, ◌&&◌, nat_le, codes, map, flat_map, if◌then◌else◌}
-use Rattle.std.specs.List.{list_all}
-use Rattle.definitions.specs.Characters.{same_text}
-use Rattle.definitions.specs.CountedItems.{CountedItem, bits_needed}
-use Rattle.definitions.specs.Pieces.{Mark, Plus, Minus, Star, Slash, Equals, Piece, IsMark, IsCountedItem, Plain}
-use Rattle.definitions.specs.Symbols.{Register, register_of, is_symbol, Number, number_read}
-use Rattle.definitions.specs.declared.number_base.NumberBase.{NumberBase}
+use Rattle.std.specs.{Prelude.{ℕ, zero, suc, List, [], ◌∷◌, Option, Some, None, Bool, true, false, ◌&&◌, nat_le, codes, map, flat_map, if◌then◌else◌}, List.list_all}
+use Rattle.definitions.specs.{Characters.same_text, CountedItems.{CountedItem, bits_needed}, Pieces.{Mark, Plus, Minus, Star, Slash, Equals, Piece, IsMark, IsCountedItem, Plain}, Symbols.{Register, register_of, is_symbol, Number, number_read}, declared.number_base.NumberBase.NumberBase}
 
 -- no sign, plus or minus
 pub data Sign : Type 0 where

@@ -1,9 +1,6 @@
 -- The fields of a statement (COMPASS 60492600, statement format).
 use Rattle.std.specs.Prelude.{ℕ, ◌-◌, ◌==◌, List, [], ◌∷◌, not, nat_lt, length, drop, codes, take_while, if◌then◌else◌}
-use Rattle.definitions.specs.Characters.{blank, same_text}
-use Rattle.definitions.specs.Cards.{Card}
-use Rattle.definitions.specs.Statements.{text_of, is_unread}
-use Rattle.definitions.specs.Pieces.{AtStart, field_at}
+use Rattle.definitions.specs.{Characters.{blank, same_text}, Cards.Card, Statements.{text_of, is_unread}, Pieces.{AtStart, field_at}}
 
 -- location field, operation and variable field
 pub record Fields : Type 0 where

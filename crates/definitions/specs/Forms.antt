@@ -1,11 +1,7 @@
 -- Forms: the value of an expression is a number and at most one block or external with a sign
 -- (COMPASS 60492600, evaluation of expressions; the range is ours).
 use Rattle.std.specs.Prelude.{ℕ, ◌*◌, ◌+◌, ◌==◌, List, [], ◌∷◌, Option, Some, None, Result, Ok, Err, Bool, true, false, ◌&&◌, nat_le, length, fold, unwrap_or, ℤ, pos, negsuc, ◌+ℤ◌, ◌*ℤ◌, neg_ℤ, unsigned_abs, int_div, if◌then◌else◌}
-use Rattle.definitions.specs.Characters.{display_code_of, same_text}
-use Rattle.definitions.specs.CountedItems.{CountedItem}
-use Rattle.definitions.specs.Symbols.{Number, Value, TooGreat, greatest}
-use Rattle.definitions.specs.Expressions.{Literal, Element, ANumber, ACountedItem, ASymbol, ARegister, LocationCounter, OriginCounter, ALiteral, Operator, Divide, Subtract, OperatorElement, Term, Expression}
-use Rattle.definitions.specs.declared.letter.Letter.{Letter}
+use Rattle.definitions.specs.{Characters.{display_code_of, same_text}, CountedItems.CountedItem, Symbols.{Number, Value, TooGreat, greatest}, Expressions.{Literal, Element, ANumber, ACountedItem, ASymbol, ARegister, LocationCounter, OriginCounter, ALiteral, Operator, Divide, Subtract, OperatorElement, Term, Expression}, declared.letter.Letter.Letter}
 use Rattle.definitions.specs.declared.letter.Letter.TheVariants as letter
 
 -- what is known at the link alone: where a block stands, what an external is; the literals block is `=`

@@ -1,14 +1,6 @@
 -- The octal image (ours): each deck that has a section, with its stored words in order of address, and then the common blocks.
 use Rattle.std.specs.Prelude.{ℕ, ◌==◌, List, [], ◌∷◌, ◌++◌, Bool, true, false, not, Option, Some, None, unwrap_or, codes, filter, flat_map, map, if◌then◌else◌}
-use Rattle.definitions.specs.Numerals.{octal_of}
-use Rattle.definitions.specs.Kinds.{kind_text}
-use Rattle.definitions.specs.Words.{StoredWord, rising, stored_words}
-use Rattle.definitions.specs.Objects.{Object}
-use Rattle.definitions.specs.Listing.{line}
-use Rattle.definitions.specs.Layout.{Based, Common, Layout, AddressedWord, addressed, object_words, is_beyond}
-use Rattle.definitions.specs.LinkValues.{linking_of}
-use Rattle.definitions.specs.declared.deck_kind.DeckKind.{DeckKind}
-use Rattle.definitions.specs.declared.deck_kind.DeckKind.TheVariants.{Rel, Periph}
+use Rattle.definitions.specs.{Numerals.octal_of, Kinds.kind_text, Words.{StoredWord, rising, stored_words}, Objects.Object, Listing.line, Layout.{Based, Common, Layout, AddressedWord, addressed, object_words, is_beyond}, LinkValues.linking_of, declared.deck_kind.DeckKind.DeckKind, declared.deck_kind.DeckKind.TheVariants.{Rel, Periph}}
 
 -- a stored word behind its address: 20 digits behind 6, in a peripheral deck 4 behind 4
 abbrev pub word_line : DeckKind → AddressedWord → List ℕ

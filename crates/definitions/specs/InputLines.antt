@@ -1,6 +1,5 @@
 -- Lines of input (ours): at most 256 bytes before a line feed, without one carriage return directly before it.
-use Rattle.std.specs.Prelude.{ℕ, ◌==◌, ◌-◌, List, [], ◌∷◌, length, take, slice_index, nat_lt, if◌then◌else◌}
-use Rattle.std.specs.List.{slice_split}
+use Rattle.std.specs.{Prelude.{ℕ, ◌==◌, ◌-◌, List, [], ◌∷◌, length, take, slice_index, nat_lt, if◌then◌else◌}, List.slice_split}
 use Rattle.definitions.specs.Characters.{line_feed, carriage_return}
 
 -- a line as it comes in: its bytes, or more than 256 of them, or bytes that no line feed ends

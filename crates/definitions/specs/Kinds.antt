@@ -1,7 +1,6 @@
 -- What depends on the kind of a deck alone (6600 reference 60100000, central memory, peripheral processors; COMPASS 60492600, ABS, PERIPH).
 use Rattle.std.specs.Prelude.{ℕ, List, Bool, true, false, codes}
-use Rattle.definitions.specs.declared.deck_kind.DeckKind.{DeckKind}
-use Rattle.definitions.specs.declared.deck_kind.DeckKind.TheVariants.{Rel, Abs, Periph}
+use Rattle.definitions.specs.declared.deck_kind.DeckKind.{DeckKind, TheVariants.{Rel, Abs, Periph}}
 
 -- the kind of a deck as it is written
 abbrev pub kind_text : DeckKind → List ℕ

@@ -1,14 +1,6 @@
 -- The layout of a link: where decks and common blocks stand, and the words of a deck with their addresses (ours; labelled common: COMPASS 60492600, USE).
-use Rattle.std.specs.Prelude.{ℕ, ◌+◌, List, [], ◌∷◌, Bool, true, false, not, max, flat_map, filter, nat_lt, nat_le, if◌then◌else◌}
-use Rattle.std.specs.List.{list_any}
-use Rattle.definitions.specs.Characters.{same_text}
-use Rattle.definitions.specs.Kinds.{memory_end}
-use Rattle.definitions.specs.Blocks.{literals_block, is_common}
-use Rattle.definitions.specs.Lengths.{BlockLength, BlockRow, base_in, total_length}
-use Rattle.definitions.specs.Words.{Linking, StoredWord, stored_words}
-use Rattle.definitions.specs.Objects.{Object}
-use Rattle.definitions.specs.declared.deck_kind.DeckKind.{DeckKind}
-use Rattle.definitions.specs.declared.deck_kind.DeckKind.TheVariants.{Rel}
+use Rattle.std.specs.{Prelude.{ℕ, ◌+◌, List, [], ◌∷◌, Bool, true, false, not, max, flat_map, filter, nat_lt, nat_le, if◌then◌else◌}, List.list_any}
+use Rattle.definitions.specs.{Characters.same_text, Kinds.memory_end, Blocks.{literals_block, is_common}, Lengths.{BlockLength, BlockRow, base_in, total_length}, Words.{Linking, StoredWord, stored_words}, Objects.Object, declared.deck_kind.DeckKind.DeckKind, declared.deck_kind.DeckKind.TheVariants.Rel}
 
 -- where the first REL deck stands
 abbrev pub first_base : ℕ

@@ -1,11 +1,6 @@
 -- Lengths and bases of blocks (COMPASS 60492600, blocks, labelled common; that the literals come last is ours).
 use Rattle.std.specs.Prelude.{ℕ, ◌+◌, ◌-◌, ◌/◌, List, [], ◌∷◌, ◌++◌, max, map, ◌&&◌, not, nat_lt, length, if◌then◌else◌}
-use Rattle.definitions.specs.Characters.{same_text}
-use Rattle.definitions.specs.Kinds.{units}
-use Rattle.definitions.specs.Settled.{Settled}
-use Rattle.definitions.specs.Blocks.{blocks_used, changes, literals_block, is_common}
-use Rattle.definitions.specs.Literals.{literal_words}
-use Rattle.definitions.specs.declared.deck_kind.DeckKind.{DeckKind}
+use Rattle.definitions.specs.{Characters.same_text, Kinds.units, Settled.Settled, Blocks.{blocks_used, changes, literals_block, is_common}, Literals.literal_words, declared.deck_kind.DeckKind.DeckKind}
 
 -- one more than the last word that the statement's items or its reservation reach; an ORG reaches none
 abbrev pub reached : DeckKind → Settled → ℕ

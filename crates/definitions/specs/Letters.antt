@@ -1,15 +1,7 @@
 -- The letters of a statement, once each in alphabetical order (ours).
 use Rattle.std.specs.Prelude.{ℕ, List, [], ◌∷◌, ◌++◌, Option, Some, None, codes, flat_map, filter}
-use Rattle.definitions.specs.Characters.{is_among}
+use Rattle.definitions.specs.{Characters.is_among, Operations.Operation, Operands.{Operand, NamesOperand}, Settled.{Settled, defined}, Entries.entry_fault, StatementItems.{Item, Context, operand_items}, declared.deck_kind.DeckKind.DeckKind, declared.deck_kind.DeckKind.TheVariants.Periph, declared.letter.Letter.Letter}
 use Rattle.definitions.specs.Operations as op
-use Rattle.definitions.specs.Operations.{Operation}
-use Rattle.definitions.specs.Operands.{Operand, NamesOperand}
-use Rattle.definitions.specs.Settled.{Settled, defined}
-use Rattle.definitions.specs.Entries.{entry_fault}
-use Rattle.definitions.specs.StatementItems.{Item, Context, operand_items}
-use Rattle.definitions.specs.declared.deck_kind.DeckKind.{DeckKind}
-use Rattle.definitions.specs.declared.deck_kind.DeckKind.TheVariants.{Periph}
-use Rattle.definitions.specs.declared.letter.Letter.{Letter}
 use Rattle.definitions.specs.declared.letter.Letter.TheVariants as letter
 
 -- a letter as it is written

@@ -1,14 +1,6 @@
 -- The LINK lines: what went wrong in a link, each with its letter and its deck (ours).
 use Rattle.std.specs.Prelude.{ℕ, ◌+◌, ◌*◌, ◌/◌, List, [], ◌∷◌, ◌++◌, Bool, codes, flat_map, reverse, if◌then◌else◌}
-use Rattle.definitions.specs.Numerals.{octal_of}
-use Rattle.definitions.specs.Kinds.{unit_bits, word_bits}
-use Rattle.definitions.specs.Settled.{Definition}
-use Rattle.definitions.specs.Blocks.{is_named}
-use Rattle.definitions.specs.StatementItems.{Item}
-use Rattle.definitions.specs.Words.{Coded}
-use Rattle.definitions.specs.Listing.{line}
-use Rattle.definitions.specs.Layout.{Based, Common, Layout, block_base}
-use Rattle.definitions.specs.LinkValues.{names_of, entry_names, is_unfit}
+use Rattle.definitions.specs.{Numerals.octal_of, Kinds.{unit_bits, word_bits}, Settled.Definition, Blocks.is_named, StatementItems.Item, Words.Coded, Listing.line, Layout.{Based, Common, Layout, block_base}, LinkValues.{names_of, entry_names, is_unfit}}
 
 -- a LINK line: its letter, its deck, and what it reports
 abbrev pub link_line : List ℕ → List ℕ → List ℕ → List ℕ

@@ -1,12 +1,6 @@
 -- The values of a link: what entries and externals are worth, and what the link gives a field (ours).
 use Rattle.std.specs.Prelude.{ℕ, List, [], ◌∷◌, Option, Some, None, Bool, true, false, flat_map, unwrap_or, ℤ, pos, ◌+ℤ◌, if◌then◌else◌}
-use Rattle.definitions.specs.Characters.{same_text}
-use Rattle.definitions.specs.Coding.{coded_in}
-use Rattle.definitions.specs.Forms.{Form}
-use Rattle.definitions.specs.Settled.{Definition}
-use Rattle.definitions.specs.StatementItems.{Item, Known, Linked, part_value}
-use Rattle.definitions.specs.Words.{Linking}
-use Rattle.definitions.specs.Layout.{Based, Common, Layout, block_base}
+use Rattle.definitions.specs.{Characters.same_text, Coding.coded_in, Forms.Form, Settled.Definition, StatementItems.{Item, Known, Linked, part_value}, Words.Linking, Layout.{Based, Common, Layout, block_base}}
 
 -- the value of a form in a deck that stands at a base, from the values of externals
 abbrev pub form_value : (List ℕ → ℤ) → List Common → Based → Form → ℤ

@@ -1,18 +1,7 @@
 -- The listing of a deck (ours).
 use Rattle.std.specs.Prelude.{ℕ, ◌+◌, ◌/◌, ◌%◌, List, [], ◌∷◌, ◌++◌, Bool, codes, length, filter, flat_map, reverse, nat_lt, pos, ◌+ℤ◌, unwrap_or, Option, Some, None}
-use Rattle.definitions.specs.Characters.{line_feed}
-use Rattle.definitions.specs.Numerals.{octal_of, digits_of, decimal_of}
-use Rattle.definitions.specs.Cards.{Card}
-use Rattle.definitions.specs.Kinds.{kind_text}
-use Rattle.definitions.specs.Coding.{coded_in}
+use Rattle.definitions.specs.{Characters.line_feed, Numerals.{octal_of, digits_of, decimal_of}, Cards.Card, Kinds.kind_text, Coding.coded_in, Operations.Operation, Lengths.{BlockRow, base_in}, StatementItems.{Item, part_value}, Words.{Coded, Linking, joined, width_of, cut}, Objects.{Object, Shown}, declared.deck_kind.DeckKind.DeckKind, declared.deck_kind.DeckKind.TheVariants.Periph}
 use Rattle.definitions.specs.Operations as op
-use Rattle.definitions.specs.Operations.{Operation}
-use Rattle.definitions.specs.Lengths.{BlockRow, base_in}
-use Rattle.definitions.specs.StatementItems.{Item, part_value}
-use Rattle.definitions.specs.Words.{Coded, Linking, joined, width_of, cut}
-use Rattle.definitions.specs.Objects.{Object, Shown}
-use Rattle.definitions.specs.declared.deck_kind.DeckKind.{DeckKind}
-use Rattle.definitions.specs.declared.deck_kind.DeckKind.TheVariants.{Periph}
 
 -- a text and the line feed that ends it
 abbrev pub line : List ℕ → List ℕ

@@ -1,15 +1,6 @@
 -- Literals: the words behind equals signs, each distinct word once, in order of first use (COMPASS 60492600, literals; that they come last is ours).
-use Rattle.std.specs.Prelude.{ℕ, ◌+◌, ◌==◌, List, [], ◌∷◌, ◌++◌, Option, Some, None, Result, Ok, Err, ◌||◌, nat_le, nat_lt, length, flat_map, filter_map, unwrap_or, ℤ, pos, neg_ℤ, if◌then◌else◌}
-use Rattle.std.specs.List.{list_any}
-use Rattle.definitions.specs.Symbols.{Number, Value, TooGreat}
-use Rattle.definitions.specs.Expressions.{Sign, MinusSign, Literal, OfNumber, OfCountedItem, Element, ALiteral, Expression, elements_of}
-use Rattle.definitions.specs.Forms.{Form, Added, Block}
-use Rattle.definitions.specs.Coding.{coded_in, counted_item_in}
-use Rattle.definitions.specs.Matching.{Field, NoField, OfK, OfN}
-use Rattle.definitions.specs.Operands.{Operand, CentralOperand, WordsOperand, BitsOperand, Datum, ExpressionWord, BitField}
-use Rattle.definitions.specs.Settled.{Settled}
-use Rattle.definitions.specs.Blocks.{literals_block}
-use Rattle.definitions.specs.declared.letter.Letter.{Letter}
+use Rattle.std.specs.{Prelude.{ℕ, ◌+◌, ◌==◌, List, [], ◌∷◌, ◌++◌, Option, Some, None, Result, Ok, Err, ◌||◌, nat_le, nat_lt, length, flat_map, filter_map, unwrap_or, ℤ, pos, neg_ℤ, if◌then◌else◌}, List.list_any}
+use Rattle.definitions.specs.{Symbols.{Number, Value, TooGreat}, Expressions.{Sign, MinusSign, Literal, OfNumber, OfCountedItem, Element, ALiteral, Expression, elements_of}, Forms.{Form, Added, Block}, Coding.{coded_in, counted_item_in}, Matching.{Field, NoField, OfK, OfN}, Operands.{Operand, CentralOperand, WordsOperand, BitsOperand, Datum, ExpressionWord, BitField}, Settled.Settled, Blocks.literals_block, declared.letter.Letter.Letter}
 use Rattle.definitions.specs.declared.letter.Letter.TheVariants as letter
 
 -- a number with its sign

@@ -1,14 +1,6 @@
 -- The link map (ours): each deck with its base, each entry with its value, and the LINK lines.
 use Rattle.std.specs.Prelude.{ℕ, List, [], ◌∷◌, ◌++◌, codes, flat_map, unwrap_or, if◌then◌else◌}
-use Rattle.definitions.specs.Numerals.{octal_of}
-use Rattle.definitions.specs.Coding.{coded_in}
-use Rattle.definitions.specs.Settled.{Definition}
-use Rattle.definitions.specs.Blocks.{is_named}
-use Rattle.definitions.specs.Listing.{line}
-use Rattle.definitions.specs.Kinds.{kind_text}
-use Rattle.definitions.specs.Layout.{Based, Common, Layout, deck_length}
-use Rattle.definitions.specs.LinkValues.{entry_value, names_of}
-use Rattle.definitions.specs.LinkLines.{link_lines}
+use Rattle.definitions.specs.{Numerals.octal_of, Coding.coded_in, Settled.Definition, Blocks.is_named, Listing.line, Kinds.kind_text, Layout.{Based, Common, Layout, deck_length}, LinkValues.{entry_value, names_of}, LinkLines.link_lines}
 
 -- a deck in the map: name, kind, base and length
 abbrev pub deck_line : Based → List ℕ

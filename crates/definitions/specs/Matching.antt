@@ -1,11 +1,6 @@
 -- How an operation and its operand are matched with the rows of the central table.
-use Rattle.std.specs.Prelude.{ℕ, ◌+◌, ◌-◌, ◌*◌, ◌==◌, List, [], ◌∷◌, ◌++◌, Option, Some, None, Bool, true, false, ◌&&◌, nat_le, codes, length, filter, map, if◌then◌else◌}
-use Rattle.std.specs.List.{slice_split}
-use Rattle.definitions.specs.Characters.{same_text, is_among, comma, zero_digit}
-use Rattle.definitions.specs.Pieces.{Mark, Comma, Plus, Minus, Star, Slash, Equals, Piece, IsMark, IsCountedItem, Plain}
-use Rattle.definitions.specs.Expressions.{Expression, Sign, PlusSign, Term, Operator, Subtract, Element, ARegister, OperatorElement, expression_of, is_plain}
-use Rattle.definitions.specs.CentralTable.{Row, SumRow, central_rows, ignoring_rows, sum_rows}
-use Rattle.definitions.specs.declared.number_base.NumberBase.{NumberBase}
+use Rattle.std.specs.{Prelude.{ℕ, ◌+◌, ◌-◌, ◌*◌, ◌==◌, List, [], ◌∷◌, ◌++◌, Option, Some, None, Bool, true, false, ◌&&◌, nat_le, codes, length, filter, map, if◌then◌else◌}, List.slice_split}
+use Rattle.definitions.specs.{Characters.{same_text, is_among, comma, zero_digit}, Pieces.{Mark, Comma, Plus, Minus, Star, Slash, Equals, Piece, IsMark, IsCountedItem, Plain}, Expressions.{Expression, Sign, PlusSign, Term, Operator, Subtract, Element, ARegister, OperatorElement, expression_of, is_plain}, CentralTable.{Row, SumRow, central_rows, ignoring_rows, sum_rows}, declared.number_base.NumberBase.NumberBase}
 
 -- the digits of i, j and k
 pub record RegisterDigits : Type 0 where

@@ -1,17 +1,6 @@
 -- The object of a deck: its statements with their fields and letters, its blocks, entries and externals.
 use Rattle.std.specs.Prelude.{ℕ, List, [], map, reverse, ◌++◌, Option, Some, None}
-use Rattle.definitions.specs.DeckInput.{Deck}
-use Rattle.definitions.specs.Statements.{Statement, statements_of}
-use Rattle.definitions.specs.DeckKinds.{kind_of_statements, up_to_end, behind_end}
-use Rattle.definitions.specs.Settled.{Settled, Definition}
-use Rattle.definitions.specs.Settling.{settled_all}
-use Rattle.definitions.specs.Literals.{literal_words}
-use Rattle.definitions.specs.Lengths.{BlockRow, block_rows}
-use Rattle.definitions.specs.StatementItems.{Context, items_of}
-use Rattle.definitions.specs.Letters.{letters_of, in_order}
-use Rattle.definitions.specs.Entries.{entries_of, externals_of}
-use Rattle.definitions.specs.Words.{Coded}
-use Rattle.definitions.specs.declared.deck_kind.DeckKind.{DeckKind}
+use Rattle.definitions.specs.{DeckInput.Deck, Statements.{Statement, statements_of}, DeckKinds.{kind_of_statements, up_to_end, behind_end}, Settled.{Settled, Definition}, Settling.settled_all, Literals.literal_words, Lengths.{BlockRow, block_rows}, StatementItems.{Context, items_of}, Letters.{letters_of, in_order}, Entries.{entries_of, externals_of}, Words.Coded, declared.deck_kind.DeckKind.DeckKind}
 
 -- a statement of the listing: its cards, its letters and its fields
 pub record Shown : Type 0 where

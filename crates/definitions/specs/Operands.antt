@@ -1,18 +1,7 @@
 -- Operands: what a variable field is to its operation, before any name is known.
 use Rattle.std.specs.Prelude.{ℕ, ◌+◌, ◌-◌, ◌*◌, ◌/◌, ◌==◌, List, [], ◌∷◌, ◌++◌, Option, Some, None, Bool, false, not, ◌&&◌, nat_le, codes, map, length, drop, take, take_while, replicate, if◌then◌else◌}
-use Rattle.definitions.specs.Characters.{is_among, same_text, blank, slash, comma}
-use Rattle.definitions.specs.CountedItems.{CountedItem}
-use Rattle.definitions.specs.Pieces.{Plus, Minus, Slash, Piece, IsMark, IsCountedItem, Plain, pieces_of, subfields_of}
-use Rattle.definitions.specs.Kinds.{word_bits, allows_literals}
-use Rattle.definitions.specs.Symbols.{Number, Value, number_read, is_block_name, is_linked_name}
-use Rattle.definitions.specs.Expressions.{Sign, NoSign, PlusSign, MinusSign, Expression, expression_of, is_plain}
-use Rattle.definitions.specs.PeripheralTable.{PeripheralForm, Ignored, Long, PeripheralRow, peripheral_row}
-use Rattle.definitions.specs.Matching.{Instruction, central_of}
+use Rattle.definitions.specs.{Characters.{is_among, same_text, blank, slash, comma}, CountedItems.CountedItem, Pieces.{Plus, Minus, Slash, Piece, IsMark, IsCountedItem, Plain, pieces_of, subfields_of}, Kinds.{word_bits, allows_literals}, Symbols.{Number, Value, number_read, is_block_name, is_linked_name}, Expressions.{Sign, NoSign, PlusSign, MinusSign, Expression, expression_of, is_plain}, PeripheralTable.{PeripheralForm, Ignored, Long, PeripheralRow, peripheral_row}, Matching.{Instruction, central_of}, Operations.Operation, declared.deck_kind.DeckKind.DeckKind, declared.deck_kind.DeckKind.TheVariants.{Rel, Periph}, declared.number_base.NumberBase.NumberBase}
 use Rattle.definitions.specs.Operations as op
-use Rattle.definitions.specs.Operations.{Operation}
-use Rattle.definitions.specs.declared.deck_kind.DeckKind.{DeckKind}
-use Rattle.definitions.specs.declared.deck_kind.DeckKind.TheVariants.{Rel, Periph}
-use Rattle.definitions.specs.declared.number_base.NumberBase.{NumberBase}
 
 -- what fills words of DATA or CON
 pub data Datum : Type 0 where

@@ -1,12 +1,6 @@
 -- Operations, the kind of a deck and the number base (COMPASS 60492600, pseudo-instructions).
-use Rattle.std.specs.Prelude.{ℕ, List, [], ◌∷◌, Option, Some, None, Bool, true, false, ◌||◌, codes, if◌then◌else◌}
-use Rattle.std.specs.List.{list_any}
-use Rattle.definitions.specs.Characters.{same_text}
-use Rattle.definitions.specs.CentralTable.{Row, SumRow, central_rows, ignoring_rows, sum_rows}
-use Rattle.definitions.specs.PeripheralTable.{peripheral_row}
-use Rattle.definitions.specs.Matching.{is_operation}
-use Rattle.definitions.specs.declared.deck_kind.DeckKind.{DeckKind}
-use Rattle.definitions.specs.declared.deck_kind.DeckKind.TheVariants.{Abs, Periph}
+use Rattle.std.specs.{Prelude.{ℕ, List, [], ◌∷◌, Option, Some, None, Bool, true, false, ◌||◌, codes, if◌then◌else◌}, List.list_any}
+use Rattle.definitions.specs.{Characters.same_text, CentralTable.{Row, SumRow, central_rows, ignoring_rows, sum_rows}, PeripheralTable.peripheral_row, Matching.is_operation, declared.deck_kind.DeckKind.DeckKind, declared.deck_kind.DeckKind.TheVariants.{Abs, Periph}}
 
 -- the operations that the language distinguishes
 pub data Operation : Type 0 where

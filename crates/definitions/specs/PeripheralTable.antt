@@ -1,7 +1,5 @@
 -- The peripheral instructions (6600 reference 60100000, peripheral instructions; COMPASS 60492600, PPU instructions).
-use Rattle.std.specs.Prelude.{ℕ, ◌+◌, List, [], ◌∷◌, ◌++◌, codes, Option, Some, None, if◌then◌else◌}
-use Rattle.std.specs.List.{slice_split}
-use Rattle.std.specs.Prelude.{◌==◌}
+use Rattle.std.specs.{Prelude.{ℕ, ◌+◌, List, [], ◌∷◌, ◌++◌, codes, Option, Some, None, if◌then◌else◌, ◌==◌}, List.slice_split}
 use Rattle.definitions.specs.Characters.{same_text, blank}
 
 -- what stands behind the two digits of the operation

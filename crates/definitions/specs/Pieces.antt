@@ -1,9 +1,7 @@
 -- The pieces of a variable field, by its marks alone: marks, counted items, and runs of other characters
 -- (COMPASS 60492600, subfields and data items).
-use Rattle.std.specs.Prelude.{ℕ, zero, suc, ◌-◌, ◌==◌, List, [], ◌∷◌, Option, Some, None, if◌then◌else◌}
-use Rattle.std.specs.List.{onto_first}
-use Rattle.definitions.specs.Characters.{blank, comma, plus, minus, star, slash, equals}
-use Rattle.definitions.specs.CountedItems.{CountedItem, CountedSpan, counted_item_at}
+use Rattle.std.specs.{Prelude.{ℕ, zero, suc, ◌-◌, ◌==◌, List, [], ◌∷◌, Option, Some, None, if◌then◌else◌}, List.onto_first}
+use Rattle.definitions.specs.{Characters.{blank, comma, plus, minus, star, slash, equals}, CountedItems.{CountedItem, CountedSpan, counted_item_at}}
 
 -- the five marks that separate, and the equals sign of a literal
 pub data Mark : Type 0 where

@@ -1,16 +1,8 @@
 -- Places: the least lawful place at or behind the end of the latest earlier placed statement of the block
 -- (COMPASS 60492600, forcing upper; which instructions ask for upper is ours).
 use Rattle.std.specs.Prelude.{ℕ, ◌≡◌, ◌≢◌, IsTrue, ◌+◌, ◌-◌, ◌*◌, ◌/◌, ◌%◌, ◌==◌, List, [], ◌∷◌, Bool, true, false, not, ◌&&◌, ◌||◌, codes, if◌then◌else◌}
-use Rattle.definitions.specs.Characters.{same_text}
-use Rattle.definitions.specs.Kinds.{units}
-use Rattle.definitions.specs.Symbols.{is_symbol}
+use Rattle.definitions.specs.{Characters.same_text, Kinds.units, Symbols.is_symbol, Operations.{Operation, is_data, is_reserving}, Operands.{Operand, BadOperand}, Sizes.size_of, Settled.Settled, declared.deck_kind.DeckKind.DeckKind, declared.deck_kind.DeckKind.TheVariants.Periph}
 use Rattle.definitions.specs.Operations as op
-use Rattle.definitions.specs.Operations.{Operation, is_data, is_reserving}
-use Rattle.definitions.specs.Operands.{Operand, BadOperand}
-use Rattle.definitions.specs.Sizes.{size_of}
-use Rattle.definitions.specs.Settled.{Settled}
-use Rattle.definitions.specs.declared.deck_kind.DeckKind.{DeckKind}
-use Rattle.definitions.specs.declared.deck_kind.DeckKind.TheVariants.{Periph}
 
 -- whether an operand is flagged V
 abbrev pub is_bad : Operand → Bool

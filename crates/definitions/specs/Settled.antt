@@ -1,15 +1,7 @@
 -- What a statement is once the statements before it are known: its block, its place, its counters and what it defines.
 -- Lists of settled statements are read newest first.
 use Rattle.std.specs.Prelude.{ℕ, List, [], ◌∷◌, Option, Some, None, Bool, if◌then◌else◌}
-use Rattle.definitions.specs.Characters.{same_text}
-use Rattle.definitions.specs.Statements.{Statement}
-use Rattle.definitions.specs.Fields.{Fields, fields_of}
-use Rattle.definitions.specs.Forms.{Form}
-use Rattle.definitions.specs.Operations.{Operation, operation_of}
-use Rattle.definitions.specs.Operands.{Operand, operand_of}
-use Rattle.definitions.specs.declared.deck_kind.DeckKind.{DeckKind}
-use Rattle.definitions.specs.declared.number_base.NumberBase.{NumberBase}
-use Rattle.definitions.specs.declared.letter.Letter.{Letter}
+use Rattle.definitions.specs.{Characters.same_text, Statements.Statement, Fields.{Fields, fields_of}, Forms.Form, Operations.{Operation, operation_of}, Operands.{Operand, operand_of}, declared.deck_kind.DeckKind.DeckKind, declared.number_base.NumberBase.NumberBase, declared.letter.Letter.Letter}
 
 -- what is read of a statement before any name is known
 pub record ReadStatement : Type 0 where

@@ -1,25 +1,7 @@
 -- One statement after another: what each is once those before it are known. A statement sees of those before it one record, `Seen`, and nothing else.
-use Rattle.std.specs.Prelude.{ℕ, ◌==◌, List, [], ◌∷◌, ◌++◌, Option, Some, None, Result, Bool, true, false, not, ◌&&◌, ◌||◌, codes, length, map, pos, is_some, if◌then◌else◌}
-use Rattle.std.specs.List.{list_all}
-use Rattle.definitions.specs.Characters.{same_text}
-use Rattle.definitions.specs.Statements.{Statement, is_stray}
-use Rattle.definitions.specs.Pieces.{pieces_of, subfields_of}
-use Rattle.definitions.specs.Kinds.{is_absolute_deck}
-use Rattle.definitions.specs.Symbols.{is_symbol}
-use Rattle.definitions.specs.Forms.{Form, Added, External}
+use Rattle.std.specs.{Prelude.{ℕ, ◌==◌, List, [], ◌∷◌, ◌++◌, Option, Some, None, Result, Bool, true, false, not, ◌&&◌, ◌||◌, codes, length, map, pos, is_some, if◌then◌else◌}, List.list_all}
+use Rattle.definitions.specs.{Characters.same_text, Statements.{Statement, is_stray}, Pieces.{pieces_of, subfields_of}, Kinds.is_absolute_deck, Symbols.is_symbol, Forms.{Form, Added, External}, Operations.{Operation, is_neutral, has_place, is_labelled}, DeckKinds.number_base_after, Operands.{Operand, NamesOperand, UseName, UseRefused}, Settled.{ReadStatement, read_of, Settled, Counting, LocationSetting, Ended, Definition, defined, defined_in}, Blocks.{changes, open_names, block_in_use, blocks_used, is_accepted, change_of}, Places.{Position, position_in, is_bad, allows_minus, least_place, to_word, asks_after}, Counters.{Counters, counting_in, counters_at}, EarlyValues.{early_names, early_value, equated, outcome_of}, declared.deck_kind.DeckKind.DeckKind, declared.deck_kind.DeckKind.TheVariants.{Rel, Periph}, declared.number_base.NumberBase.NumberBase, declared.letter.Letter.Letter}
 use Rattle.definitions.specs.Operations as op
-use Rattle.definitions.specs.Operations.{Operation, is_neutral, has_place, is_labelled}
-use Rattle.definitions.specs.DeckKinds.{number_base_after}
-use Rattle.definitions.specs.Operands.{Operand, NamesOperand, UseName, UseRefused}
-use Rattle.definitions.specs.Settled.{ReadStatement, read_of, Settled, Counting, LocationSetting, Ended, Definition, defined, defined_in}
-use Rattle.definitions.specs.Blocks.{changes, open_names, block_in_use, blocks_used, is_accepted, change_of}
-use Rattle.definitions.specs.Places.{Position, position_in, is_bad, allows_minus, least_place, to_word, asks_after}
-use Rattle.definitions.specs.Counters.{Counters, counting_in, counters_at}
-use Rattle.definitions.specs.EarlyValues.{early_names, early_value, equated, outcome_of}
-use Rattle.definitions.specs.declared.deck_kind.DeckKind.{DeckKind}
-use Rattle.definitions.specs.declared.deck_kind.DeckKind.TheVariants.{Rel, Periph}
-use Rattle.definitions.specs.declared.number_base.NumberBase.{NumberBase}
-use Rattle.definitions.specs.declared.letter.Letter.{Letter}
 use Rattle.definitions.specs.declared.letter.Letter.TheVariants as letter
 
 -- the values of the symbols that earlier statements define

@@ -1,11 +1,6 @@
 -- Sizes: how many parcels or peripheral words an operand fills (6600 reference 60100000, instruction formats; COMPASS 60492600, data generation).
 use Rattle.std.specs.Prelude.{ℕ, ◌+◌, ◌-◌, ◌*◌, ◌/◌, List, [], ◌∷◌}
-use Rattle.definitions.specs.Coding.{words_needed}
-use Rattle.definitions.specs.PeripheralTable.{PeripheralForm, Wide, Long}
-use Rattle.definitions.specs.Matching.{Field, NoField, OfK, OfN}
-use Rattle.definitions.specs.Operands.{Operand, CentralOperand, PeripheralOperand, WordsOperand, BitsOperand, TextOperand, Datum, CountedItemWords, BitField}
-use Rattle.definitions.specs.Kinds.{word_bits, units, address_bits}
-use Rattle.definitions.specs.declared.deck_kind.DeckKind.{DeckKind}
+use Rattle.definitions.specs.{Coding.words_needed, PeripheralTable.{PeripheralForm, Wide, Long}, Matching.{Field, NoField, OfK, OfN}, Operands.{Operand, CentralOperand, PeripheralOperand, WordsOperand, BitsOperand, TextOperand, Datum, CountedItemWords, BitField}, Kinds.{word_bits, units, address_bits}, declared.deck_kind.DeckKind.DeckKind}
 
 -- how many words a piece of DATA or CON fills
 abbrev pub datum_words : DeckKind → Datum → ℕ

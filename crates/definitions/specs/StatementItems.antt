@@ -1,24 +1,8 @@
 -- The items of a statement: fields of so many bits one behind the other, with their contents and letters
 -- (COMPASS 60492600, data generation; 6600 reference 60100000, instruction formats).
 use Rattle.std.specs.Prelude.{ℕ, ◌+◌, ◌-◌, ◌*◌, ◌/◌, ◌%◌, List, [], ◌∷◌, ◌++◌, Option, Some, None, Result, Ok, Err, Bool, ◌&&◌, nat_le, map, ℤ, pos, negsuc, ◌+ℤ◌, ◌-ℤ◌, neg_ℤ, unsigned_abs, if◌then◌else◌}
-use Rattle.definitions.specs.CountedItems.{CountedItem}
-use Rattle.definitions.specs.Symbols.{Number, Value, TooGreat}
-use Rattle.definitions.specs.Expressions.{Sign, NoSign, Expression, Term, Element, ACountedItem}
-use Rattle.definitions.specs.Forms.{Form, Names, Part, Added, Subtracted, Block, External, absolute, is_absolute, characters_number, value_of}
-use Rattle.definitions.specs.Coding.{coded, coded_in, counted_item_in, counted_item_bits, words_needed}
-use Rattle.definitions.specs.PeripheralTable.{PeripheralForm, Short, ShortJump, Shift, Wide, Long}
-use Rattle.definitions.specs.Matching.{Field, NoField, OfK, OfN}
+use Rattle.definitions.specs.{CountedItems.CountedItem, Symbols.{Number, Value, TooGreat}, Expressions.{Sign, NoSign, Expression, Term, Element, ACountedItem}, Forms.{Form, Names, Part, Added, Subtracted, Block, External, absolute, is_absolute, characters_number, value_of}, Coding.{coded, coded_in, counted_item_in, counted_item_bits, words_needed}, PeripheralTable.{PeripheralForm, Short, ShortJump, Shift, Wide, Long}, Matching.{Field, NoField, OfK, OfN}, Operations.Operation, Operands.{Operand, CentralOperand, PeripheralOperand, WordsOperand, BitsOperand, TextOperand, Datum, ZeroWord, NumberWord, CountedItemWords, ExpressionWord, BitField}, Kinds.{word_bits, units, address_bits}, Sizes.bits_of, Literals.{signed_number, literal_form}, Lengths.{BlockRow, base_in}, Settled.{Settled, defined}, declared.deck_kind.DeckKind.DeckKind, declared.deck_kind.DeckKind.TheVariants.Rel, declared.letter.Letter.Letter}
 use Rattle.definitions.specs.Operations as op
-use Rattle.definitions.specs.Operations.{Operation}
-use Rattle.definitions.specs.Operands.{Operand, CentralOperand, PeripheralOperand, WordsOperand, BitsOperand, TextOperand, Datum, ZeroWord, NumberWord, CountedItemWords, ExpressionWord, BitField}
-use Rattle.definitions.specs.Kinds.{word_bits, units, address_bits}
-use Rattle.definitions.specs.Sizes.{bits_of}
-use Rattle.definitions.specs.Literals.{signed_number, literal_form}
-use Rattle.definitions.specs.Lengths.{BlockRow, base_in}
-use Rattle.definitions.specs.Settled.{Settled, defined}
-use Rattle.definitions.specs.declared.deck_kind.DeckKind.{DeckKind}
-use Rattle.definitions.specs.declared.deck_kind.DeckKind.TheVariants.{Rel}
-use Rattle.definitions.specs.declared.letter.Letter.{Letter}
 use Rattle.definitions.specs.declared.letter.Letter.TheVariants as letter
 
 -- bits that are known, or a form that the link makes a number of

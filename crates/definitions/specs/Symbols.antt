@@ -1,10 +1,6 @@
 -- Symbols, register names and numbers as runs of characters (COMPASS 60492600, names, registers, numeric constants).
-use Rattle.std.specs.Prelude.{ℕ, ◌+◌, ◌-◌, ◌*◌, ◌^◌, ◌==◌, List, [], ◌∷◌, Option, Some, None, Bool, true, false, not, ◌&&◌, ◌||◌, nat_le, nat_lt, length, drop, codes, take_while, if◌then◌else◌}
-use Rattle.std.specs.List.{list_all}
-use Rattle.definitions.specs.Characters.{is_digit, is_symbol_character, is_among, same_text, zero_digit}
-use Rattle.definitions.specs.Numerals.{number_of}
-use Rattle.definitions.specs.declared.number_base.NumberBase.{NumberBase}
-use Rattle.definitions.specs.declared.number_base.NumberBase.TheVariants.{Decimal, Octal}
+use Rattle.std.specs.{Prelude.{ℕ, ◌+◌, ◌-◌, ◌*◌, ◌^◌, ◌==◌, List, [], ◌∷◌, Option, Some, None, Bool, true, false, not, ◌&&◌, ◌||◌, nat_le, nat_lt, length, drop, codes, take_while, if◌then◌else◌}, List.list_all}
+use Rattle.definitions.specs.{Characters.{is_digit, is_symbol_character, is_among, same_text, zero_digit}, Numerals.number_of, declared.number_base.NumberBase.NumberBase, declared.number_base.NumberBase.TheVariants.{Decimal, Octal}}
 
 -- a register: A, B or X, and its digit
 pub record Register : Type 0 where

@@ -1,14 +1,6 @@
 -- Words: what the items of a block leave in each word (COMPASS 60492600, ORG; that the latest run counts alone is ours).
-use Rattle.std.specs.Prelude.{ℕ, zero, suc, ◌+◌, ◌-◌, ◌*◌, ◌/◌, ◌%◌, ◌^◌, ◌==◌, List, [], ◌∷◌, ◌++◌, Bool, true, false, nat_lt, filter, flat_map, map, if◌then◌else◌}
-use Rattle.std.specs.List.{list_any, range_with_len, sum_by}
-use Rattle.definitions.specs.Characters.{same_text}
-use Rattle.definitions.specs.Forms.{Form}
-use Rattle.definitions.specs.Operations.{is_instruction}
-use Rattle.definitions.specs.Kinds.{units, unit_bits}
-use Rattle.definitions.specs.Settled.{Settled}
-use Rattle.definitions.specs.StatementItems.{Item, Content, Known, Linked}
-use Rattle.definitions.specs.declared.deck_kind.DeckKind.{DeckKind}
-use Rattle.definitions.specs.declared.deck_kind.DeckKind.TheVariants.{Periph}
+use Rattle.std.specs.{Prelude.{ℕ, zero, suc, ◌+◌, ◌-◌, ◌*◌, ◌/◌, ◌%◌, ◌^◌, ◌==◌, List, [], ◌∷◌, ◌++◌, Bool, true, false, nat_lt, filter, flat_map, map, if◌then◌else◌}, List.{list_any, range_with_len, sum_by}}
+use Rattle.definitions.specs.{Characters.same_text, Forms.Form, Operations.is_instruction, Kinds.{units, unit_bits}, Settled.Settled, StatementItems.{Item, Content, Known, Linked}, declared.deck_kind.DeckKind.DeckKind, declared.deck_kind.DeckKind.TheVariants.Periph}
 
 -- how the link makes bits of a form in a field
 abbrev pub Linking : Type 0

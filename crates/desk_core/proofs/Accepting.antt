@@ -1,18 +1,7 @@
 -- Calls whose outcome is a change, where nothing speaks against it.
 use Rattle.std.proofs.Common.{◌≡◌, ℕ, ◌+◌, List, [], ◌∷◌, Option, None, Some, Result, Ok, Err, option_map, refl}
-use Rattle.desk_core.specs.Joins.Language.{Deck}
-use Rattle.desk_core.specs.Joins.Edits.{Edit}
-use Rattle.desk_core.specs.Changes.{Added, Dropped, Edited, Put}
-use Rattle.desk_core.specs.Desks.{Desk, DeskDeck, deck_named}
-use Rattle.desk_core.specs.Joins.Calls.{Call, AddDeck, PutDeck, DropDeck, EditDeck, Batch, EditSince, BatchSince, Undo, Changed, Carried}
-use Rattle.desk_core.specs.Changing.{accepted, against_add, added, add_deck, against_put, put_where, put_deck, against_drop, dropped, drop_deck, edited, against_edit, edit_deck, against_batch, batch}
+use Rattle.desk_core.{specs.Joins.Language.Deck, specs.Joins.Edits.Edit, specs.Changes.{Added, Dropped, Edited, Put}, specs.Desks.{Desk, DeskDeck, deck_named}, specs.Joins.Calls.{Call, AddDeck, PutDeck, DropDeck, EditDeck, Batch, EditSince, BatchSince, Undo, Changed, Carried, NoDeck, TouchedCard}, specs.Changing.{accepted, against_add, added, add_deck, against_put, put_where, put_deck, against_drop, dropped, drop_deck, edited, against_edit, edit_deck, against_batch, batch}, specs.Carrying.{carried_since, against_carry, accept_carried, edit_since_of, edit_since, batch_since_of, batch_since, alone}, specs.Undoing.{backs_at, against_change, undo_where, undo}, specs.Runs.change_asked, proofs.DecksSeen.{decks_of-added, decks_of-put_new, decks_of-put_over, decks_of-dropped, decks_of-edited}, proofs.Outcomes.{Comes, by_changing, refused_stays, unless_comes}}
 use Rattle.cards.specs.declared.carrying.Touched.{Touched}
-use Rattle.desk_core.specs.Joins.Calls.{NoDeck, TouchedCard}
-use Rattle.desk_core.specs.Carrying.{carried_since, against_carry, accept_carried, edit_since_of, edit_since, batch_since_of, batch_since, alone}
-use Rattle.desk_core.specs.Undoing.{backs_at, against_change, undo_where, undo}
-use Rattle.desk_core.specs.Runs.{change_asked}
-use Rattle.desk_core.proofs.DecksSeen.{decks_of-added, decks_of-put_new, decks_of-put_over, decks_of-dropped, decks_of-edited}
-use Rattle.desk_core.proofs.Outcomes.{Comes, by_changing, refused_stays, unless_comes}
 
 pub add_comes : (deck : Deck) (desk : Desk) → Comes desk (AddDeck deck) (add_deck deck desk)
 add_comes deck desk = unless_comes desk (AddDeck deck) (against_add deck desk) (accepted (added deck desk))

@@ -1,11 +1,6 @@
 -- Answers by what speaks against a call.
 use Rattle.std.proofs.Common.{◌≡◌, Bool, true, false, List, ◌∷◌, inr, Option, Some, None, option_map, refl, ap, IsTrue}
-use Rattle.desk_core.specs.Joins.Causes.{when, first_cause}
-use Rattle.desk_core.specs.Desks.{Desk}
-use Rattle.desk_core.specs.Joins.Calls.{Reply, Refused, Refusal, OutOfMemory}
-use Rattle.desk_core.specs.Answers.{Answer, unless}
-use Rattle.desk_core.specs.Steps.{is_made}
-use Rattle.desk_core.specs.Joins.Turns.{IsAnswer, MayAnswer}
+use Rattle.desk_core.specs.{Joins.Causes.{when, first_cause}, Desks.Desk, Joins.Calls.{Reply, Refused, Refusal, OutOfMemory}, Answers.{Answer, unless}, Steps.is_made, Joins.Turns.{IsAnswer, MayAnswer}}
 
 -- a cause that is shown
 pub told : (against : Option Refusal) (refusal : Refusal) (desk : Desk) (a : Answer) → against ≡ Some refusal → IsAnswer (unless against desk a) (Refused refusal) desk

@@ -1,15 +1,7 @@
 -- Edits that take back, made one by one from the last.
-use Rattle.std.proofs.Common.{◌≡◌, ℕ, ◌+◌, ◌-◌, ◌<◌, List, [], ◌∷◌, ◌++◌, length, take, drop, get_or, None, refl, sym, ap, ◌∙◌, arith, append_assoc, append-nil}
-use Rattle.std.proofs.lemmas.List.{at_drop_more, take-append-drop}
-use Rattle.std.proofs.lemmas.List.Sums.{fold-append}
-use Rattle.cards.specs.Counts.{fault_at, count_after}
-use Rattle.cards.proofs.FaultLaws.{fault-of-count, edited-length}
-use Rattle.desk_core.specs.Joins.Language.{Card}
-use Rattle.desk_core.specs.Joins.Edits.{Edit, fault_of, edited, edited_by, first_fault}
-use Rattle.desk_core.specs.declared.past.Back.{Back}
-use Rattle.desk_core.specs.Joins.Stored.{backs_from}
-use Rattle.desk_core.proofs.CardCounts.{first-applies}
-use Rattle.desk_core.proofs.PastLaws.{fault-later}
+use Rattle.std.proofs.{Common.{◌≡◌, ℕ, ◌+◌, ◌-◌, ◌<◌, List, [], ◌∷◌, ◌++◌, length, take, drop, get_or, None, refl, sym, ap, ◌∙◌, arith, append_assoc, append-nil}, lemmas.List.{at_drop_more, take-append-drop}, lemmas.List.Sums.fold-append}
+use Rattle.cards.{specs.Counts.{fault_at, count_after}, proofs.FaultLaws.{fault-of-count, edited-length}}
+use Rattle.desk_core.{specs.Joins.Language.Card, specs.Joins.Edits.{Edit, fault_of, edited, edited_by, first_fault}, specs.declared.past.Back.Back, specs.Joins.Stored.backs_from, proofs.CardCounts.first-applies, proofs.PastLaws.fault-later}
 
 backs-append : (a b : List Back) → backs_from (a ++ b) ≡ backs_from b ++ backs_from a
 backs-append [] b = sym (append-nil (backs_from b))

@@ -1,8 +1,7 @@
 -- Edits that apply leave no more cards than a deck may have.
 use Rattle.std.proofs.Common.{◌≡◌, ℕ, ◌+◌, ◌≤◌, List, [], ◌∷◌, length, Option, Some, None, option_map, refl}
 use Rattle.cards.proofs.FaultLaws.{edited-few}
-use Rattle.desk_core.specs.Joins.Language.{Card}
-use Rattle.desk_core.specs.Joins.Edits.{Edit, EditFault, fault_of, edited, edited_by, first_fault}
+use Rattle.desk_core.specs.Joins.{Language.Card, Edits.{Edit, EditFault, fault_of, edited, edited_by, first_fault}}
 
 -- a fault, one edit later
 abbrev later : ℕ × EditFault → ℕ × EditFault

@@ -1,32 +1,7 @@
 -- What is kept of a deck brings back the cards that it had at each version, and what is stated of it is that, in every run.
-use Rattle.std.proofs.Common.{◌≡◌, ℕ, ◌+◌, ◌-◌, ◌≤◌, nat_lt, Bool, true, false, cond, List, [], ◌∷◌, ◌++◌, length, take, map, find, inl, inr, Option, Some, None, refl, sym, ap, ap₂, ◌∙◌, subst, arith}
-use Rattle.std.proofs.lemmas.Bool.{ltb-false}
-use Rattle.std.proofs.lemmas.Bool.Decides.{leb_tells}
-use Rattle.std.proofs.lemmas.List.{take_all, take-append-le}
-use Rattle.std.proofs.Math.Seq.{take-length}
+use Rattle.std.proofs.{Common.{◌≡◌, ℕ, ◌+◌, ◌-◌, ◌≤◌, nat_lt, Bool, true, false, cond, List, [], ◌∷◌, ◌++◌, length, take, map, find, inl, inr, Option, Some, None, refl, sym, ap, ap₂, ◌∙◌, subst, arith}, lemmas.Bool.ltb-false, lemmas.Bool.Decides.leb_tells, lemmas.List.{take_all, take-append-le}, Math.Seq.take-length}
 use Rattle.turn_office.specs.Histories.{Leads}
-use Rattle.desk_core.specs.Joins.Language.{Card, Deck, same_text}
-use Rattle.desk_core.specs.Joins.Causes.{when}
-use Rattle.desk_core.specs.Joins.Edits.{Edit, edited_by}
-use Rattle.desk_core.specs.Changes.{Change, decks_after}
-use Rattle.desk_core.specs.Past.{Past, KeptEdit, behind, backs_of}
-use Rattle.desk_core.specs.Led.{HaveLed}
-use Rattle.desk_core.specs.Desks.{Desk, DeskDeck, new_desk_at, deck_of, decks_of, is_named, deck_named}
-use Rattle.desk_core.specs.Joins.Calls.{Call, Changes, CardsAt, Reply, ChangesAre, CardsBefore, Refused, OutOfMemory, NoDeck, OldVersion, Forgotten}
-use Rattle.desk_core.specs.Answers.{Answer}
-use Rattle.desk_core.specs.Earlier.{against_since, edits_behind, changes_of, cards_at_of}
-use Rattle.desk_core.specs.Carrying.{cards_of}
-use Rattle.desk_core.specs.Steps.{Steps}
-use Rattle.desk_core.specs.Runs.{History, LedSince, Runs, changes_in, decks_at, cards_named}
-use Rattle.desk_core.proofs.AnswerLaws.{unrefused, no-reason, head-clear}
-use Rattle.desk_core.proofs.Outcomes.{Outcome, by_staying, by_changing, by_publishing}
-use Rattle.desk_core.proofs.Publishing.{step_comes}
-use Rattle.desk_core.proofs.Told.{IsTold, told_first}
-use Rattle.desk_core.proofs.EveryRun.{next_told, told_last}
-use Rattle.desk_core.proofs.TellingDecks.{found_told, all_next}
-use Rattle.desk_core.proofs.EachDeck.{OfDeck, IsKept, AllSo, so-next, named-found}
-use Rattle.desk_core.proofs.PastRises.{none-behind, since-after, cards-after}
-use Rattle.desk_core.proofs.PastAlways.{HasPast, past-kept, led_there}
+use Rattle.desk_core.{specs.Joins.Language.{Card, Deck, same_text}, specs.Joins.Causes.when, specs.Joins.Edits.{Edit, edited_by}, specs.Changes.{Change, decks_after}, specs.Past.{Past, KeptEdit, behind, backs_of}, specs.Led.HaveLed, specs.Desks.{Desk, DeskDeck, new_desk_at, deck_of, decks_of, is_named, deck_named}, specs.Joins.Calls.{Call, Changes, CardsAt, Reply, ChangesAre, CardsBefore, Refused, OutOfMemory, NoDeck, OldVersion, Forgotten}, specs.Answers.Answer, specs.Earlier.{against_since, edits_behind, changes_of, cards_at_of}, specs.Carrying.cards_of, specs.Steps.Steps, specs.Runs.{History, LedSince, Runs, changes_in, decks_at, cards_named}, proofs.AnswerLaws.{unrefused, no-reason, head-clear}, proofs.Outcomes.{Outcome, by_staying, by_changing, by_publishing}, proofs.Publishing.step_comes, proofs.Told.{IsTold, told_first}, proofs.EveryRun.{next_told, told_last}, proofs.TellingDecks.{found_told, all_next}, proofs.EachDeck.{OfDeck, IsKept, AllSo, so-next, named-found}, proofs.PastRises.{none-behind, since-after, cards-after}, proofs.PastAlways.{HasPast, past-kept, led_there}}
 
 -- the cards of a deck that is found among the desk's
 cards-head : (name : List ℕ) (d deck : DeskDeck) (decks : List DeskDeck) (named : Bool) → cond named (Some d) (find (is_named name) decks) ≡ Some deck →

@@ -1,22 +1,7 @@
 -- What the code does to the deck at a place with edits that were carried is what the answer says of the deck of its name.
-use Rattle.std.proofs.Common.{◌≡◌, ℕ, ◌+◌, List, [], ◌∷◌, length, refl, arith, sym, ap, ◌∙◌, subst, inl, not, true, Option, Some, None, option_map, Result, Ok}
-use Rattle.std.specs.Prelude.{slice_get, slice_index_or}
-use Rattle.std.specs.Option.{ForSome}
+use Rattle.std.{proofs.Common.{◌≡◌, ℕ, ◌+◌, List, [], ◌∷◌, length, refl, arith, sym, ap, ◌∙◌, subst, inl, not, true, Option, Some, None, option_map, Result, Ok}, specs.Prelude.{slice_get, slice_index_or}, specs.Option.ForSome}
 use Rattle.cards.specs.declared.carrying.Touched.{Touched}
-use Rattle.desk_core.specs.Joins.Edits.{Edit, first_fault}
-use Rattle.desk_core.specs.Desks.{Desk, DeskDeck, is_named}
-use Rattle.desk_core.specs.Joins.OwnNames.{IsPlaceOf, changed_at}
-use Rattle.desk_core.specs.Joins.Calls.{Refused, Refusal, Carried, BatchSize, OutOfMemory}
-use Rattle.desk_core.specs.Joins.Causes.{when}
-use Rattle.desk_core.specs.Earlier.{against_since}
-use Rattle.desk_core.specs.Answers.{Answer, against_next}
-use Rattle.desk_core.specs.Changing.{edited_deck, is_batch}
-use Rattle.desk_core.specs.Carrying.{cards_of, carried_since, against_carried, against_carry, bad_edit, accept_carried, batch_since, batch_since_of, edit_since, edit_since_of, alone}
-use Rattle.desk_core.specs.Steps.{is_made}
-use Rattle.desk_core.specs.Joins.Turns.{IsAnswer, MayAnswer}
-use Rattle.desk_core.proofs.AnswerLaws.{told, done, lacking, head-clear, map-clear}
-use Rattle.desk_core.proofs.PlaceLaws.{element-at}
-use Rattle.desk_core.proofs.ChangeDone.{next_with, edited-same}
+use Rattle.desk_core.{specs.Joins.Edits.{Edit, first_fault}, specs.Desks.{Desk, DeskDeck, is_named}, specs.Joins.OwnNames.{IsPlaceOf, changed_at}, specs.Joins.Calls.{Refused, Refusal, Carried, BatchSize, OutOfMemory}, specs.Joins.Causes.when, specs.Earlier.against_since, specs.Answers.{Answer, against_next}, specs.Changing.{edited_deck, is_batch}, specs.Carrying.{cards_of, carried_since, against_carried, against_carry, bad_edit, accept_carried, batch_since, batch_since_of, edit_since, edit_since_of, alone}, specs.Steps.is_made, specs.Joins.Turns.{IsAnswer, MayAnswer}, proofs.AnswerLaws.{told, done, lacking, head-clear, map-clear}, proofs.PlaceLaws.element-at, proofs.ChangeDone.{next_with, edited-same}}
 
 -- where nothing speaks against edits, they apply to the cards that were seen, and as they were carried; and there is a version more
 pub record IsClear (seen : ℕ) (edits moved : List Edit) (desk : Desk) (deck : DeskDeck) : Type 0 where

@@ -1,16 +1,6 @@
 -- Changes made at the place where a deck was found.
-use Rattle.std.proofs.Common.{◌≡◌, ℕ, ◌+◌, ◌==◌, Bool, true, false, cond, List, [], ◌∷◌, remove, inl, Some, None, refl, sym, ap, ◌∙◌, subst, eq-eqb, ne_eqb}
-use Rattle.std.specs.Prelude.{slice_get}
-use Rattle.desk_core.specs.Joins.Language.{Deck}
-use Rattle.desk_core.specs.Joins.Edits.{Edit}
-use Rattle.desk_core.specs.Desks.{Desk, DeskDeck, is_named, deck_named}
-use Rattle.desk_core.specs.Joins.Calls.{Reply, Changed, Refused, NoDeck}
-use Rattle.desk_core.specs.Answers.{Answer, unless}
-use Rattle.desk_core.specs.Changing.{accepted, against_add, added, add_deck, against_put, replaced_deck, put, put_where, put_deck, against_drop, dropped, drop_deck, edited_deck, edited, against_edit, edit_deck, against_batch, batch}
-use Rattle.desk_core.specs.Joins.OwnNames.{IsPlaceOf, changed_at}
-use Rattle.desk_core.specs.Joins.Turns.{IsAnswer, MayAnswer}
-use Rattle.desk_core.proofs.AnswerLaws.{done}
-use Rattle.desk_core.proofs.PlaceLaws.{element-at, found-with, found-removed}
+use Rattle.std.{proofs.Common.{◌≡◌, ℕ, ◌+◌, ◌==◌, Bool, true, false, cond, List, [], ◌∷◌, remove, inl, Some, None, refl, sym, ap, ◌∙◌, subst, eq-eqb, ne_eqb}, specs.Prelude.slice_get}
+use Rattle.desk_core.{specs.Joins.Language.Deck, specs.Joins.Edits.Edit, specs.Desks.{Desk, DeskDeck, is_named, deck_named}, specs.Joins.Calls.{Reply, Changed, Refused, NoDeck}, specs.Answers.{Answer, unless}, specs.Changing.{accepted, against_add, added, add_deck, against_put, replaced_deck, put, put_where, put_deck, against_drop, dropped, drop_deck, edited_deck, edited, against_edit, edit_deck, against_batch, batch}, specs.Joins.OwnNames.{IsPlaceOf, changed_at}, specs.Joins.Turns.{IsAnswer, MayAnswer}, proofs.AnswerLaws.done, proofs.PlaceLaws.{element-at, found-with, found-removed}}
 
 -- a desk with other decks, one version on
 abbrev pub next_with : Desk → List DeskDeck → Desk

@@ -1,26 +1,8 @@
 -- What is stated of a desk after a call that changes decks.
-use Rattle.std.proofs.Common.{◌≡◌, ℕ, ◌+◌, ◌==◌, Bool, true, false, cond, not, ◌||◌, List, [], ◌∷◌, ◌++◌, is_some, inl, inr, Option, Some, None, Result, Ok, Err, option_map, refl, sym, ap, ◌∙◌, subst, arith, eq-eqb, ne_eqb}
-use Rattle.std.specs.Option.{option_or}
-use Rattle.std.proofs.lemmas.Bool.{cases_Bool}
-use Rattle.turn_office.specs.declared.history.Entry.{Entry}
-use Rattle.turn_office.specs.Histories.{entry}
-use Rattle.desk_core.specs.Joins.Language.{Deck, same_text}
-use Rattle.desk_core.specs.Joins.Causes.{when, first_cause}
-use Rattle.desk_core.specs.Joins.Edits.{Edit}
-use Rattle.desk_core.specs.Desks.{Desk, DeskDeck, deck_named, is_named}
-use Rattle.desk_core.specs.Joins.Calls.{Call, AddDeck, PutDeck, DropDeck, EditDeck, Batch, EditSince, BatchSince, Undo, Reply, Changed, Carried, Refused, Refusal, NoDeck, TouchedCard}
-use Rattle.desk_core.specs.Answers.{Answer, answers, unless}
+use Rattle.std.{proofs.Common.{◌≡◌, ℕ, ◌+◌, ◌==◌, Bool, true, false, cond, not, ◌||◌, List, [], ◌∷◌, ◌++◌, is_some, inl, inr, Option, Some, None, Result, Ok, Err, option_map, refl, sym, ap, ◌∙◌, subst, arith, eq-eqb, ne_eqb}, specs.Option.option_or, proofs.lemmas.Bool.cases_Bool}
+use Rattle.turn_office.specs.{declared.history.Entry.Entry, Histories.entry}
+use Rattle.desk_core.{specs.Joins.Language.{Deck, same_text}, specs.Joins.Causes.{when, first_cause}, specs.Joins.Edits.Edit, specs.Desks.{Desk, DeskDeck, deck_named, is_named}, specs.Joins.Calls.{Call, AddDeck, PutDeck, DropDeck, EditDeck, Batch, EditSince, BatchSince, Undo, Reply, Changed, Carried, Refused, Refusal, NoDeck, TouchedCard}, specs.Answers.{Answer, answers, unless}, specs.Carrying.{carried_since, against_carry, accept_carried, edit_since_of, edit_since, batch_since_of, batch_since, alone}, specs.Undoing.{backs_at, against_change, undo_where, undo}, specs.Changing.{accepted, against_add, added_deck, added, add_deck, against_put, replaced_deck, put, put_where, put_deck, against_drop, dropped, drop_deck, edited_deck, edited, against_edit, edit_deck, against_batch, batch}, specs.Runs.History, specs.Jobs.{identity_in, identity_of, Effect, Edits, Leaves, effect_if, effect_on, after_effect, since_job}, proofs.Same.{equal_texts, same_text-itself}, proofs.JobsTold.{name_in, name_of, since_of, IsMeant, IsLeaseTold, IsDeckTold, IsUnreached, IsDeskTold, LeasesNone, lease_told_still, deck_told_next}, proofs.TellingDecks.{found_told, none_found, all_next, all_added, all_put}, proofs.QuietSteps.{IsQuiet, quiet, told_quiet, told_dropped}, proofs.TouchedSteps.{Touches, told_touched}}
 use Rattle.cards.specs.declared.carrying.Touched.{Touched}
-use Rattle.desk_core.specs.Carrying.{carried_since, against_carry, accept_carried, edit_since_of, edit_since, batch_since_of, batch_since, alone}
-use Rattle.desk_core.specs.Undoing.{backs_at, against_change, undo_where, undo}
-use Rattle.desk_core.specs.Changing.{accepted, against_add, added_deck, added, add_deck, against_put, replaced_deck, put, put_where, put_deck, against_drop, dropped, drop_deck, edited_deck, edited, against_edit, edit_deck, against_batch, batch}
-use Rattle.desk_core.specs.Runs.{History}
-use Rattle.desk_core.specs.Jobs.{identity_in, identity_of, Effect, Edits, Leaves, effect_if, effect_on, after_effect, since_job}
-use Rattle.desk_core.proofs.Same.{equal_texts, same_text-itself}
-use Rattle.desk_core.proofs.JobsTold.{name_in, name_of, since_of, IsMeant, IsLeaseTold, IsDeckTold, IsUnreached, IsDeskTold, LeasesNone, lease_told_still, deck_told_next}
-use Rattle.desk_core.proofs.TellingDecks.{found_told, none_found, all_next, all_added, all_put}
-use Rattle.desk_core.proofs.QuietSteps.{IsQuiet, quiet, told_quiet, told_dropped}
-use Rattle.desk_core.proofs.TouchedSteps.{Touches, told_touched}
 
 -- a cause that is not shown is not present
 absent : (present : Bool) (refusal : Refusal) (later : List (Option Refusal)) → first_cause (when present refusal ∷ later) ≡ None → present ≡ false

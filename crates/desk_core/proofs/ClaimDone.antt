@@ -1,15 +1,6 @@
 -- Claims of the deck at the place where it was found.
-use Rattle.std.proofs.Common.{◌≡◌, ℕ, ◌+◌, true, cond, List, inl, Some, None, find, refl, sym, ap, ◌∙◌, subst}
-use Rattle.std.specs.Prelude.{slice_get}
-use Rattle.std.specs.List.{list_any}
-use Rattle.desk_core.specs.Desks.{Desk, DeskDeck}
-use Rattle.desk_core.specs.Joins.Calls.{Refused, Refusal, OutOfMemory, DeckJob, DeckWork}
-use Rattle.desk_core.specs.Answers.{Answer, unless, against_next}
-use Rattle.desk_core.specs.Claiming.{is_behind, is_free, given, deck_work, hand_out, claim_deck, claim_link, claim}
-use Rattle.desk_core.specs.Joins.OwnNames.{IsPlaceOf, changed_at}
-use Rattle.desk_core.specs.Joins.Turns.{MayAnswer}
-use Rattle.desk_core.proofs.AnswerLaws.{told, done, lacking}
-use Rattle.desk_core.proofs.PlaceLaws.{element-at, named-with}
+use Rattle.std.{proofs.Common.{◌≡◌, ℕ, ◌+◌, true, cond, List, inl, Some, None, find, refl, sym, ap, ◌∙◌, subst}, specs.Prelude.slice_get, specs.List.list_any}
+use Rattle.desk_core.{specs.Desks.{Desk, DeskDeck}, specs.Joins.Calls.{Refused, Refusal, OutOfMemory, DeckJob, DeckWork}, specs.Answers.{Answer, unless, against_next}, specs.Claiming.{is_behind, is_free, given, deck_work, hand_out, claim_deck, claim_link, claim}, specs.Joins.OwnNames.{IsPlaceOf, changed_at}, specs.Joins.Turns.MayAnswer, proofs.AnswerLaws.{told, done, lacking}, proofs.PlaceLaws.{element-at, named-with}}
 
 module _ (desk : Desk) (place : ℕ) (behind : list_any is_behind desk.decks ≡ true) (is : IsPlaceOf is_free (Some place) desk.decks) where
   -- the deck that is due

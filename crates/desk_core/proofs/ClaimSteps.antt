@@ -1,20 +1,7 @@
 -- What is stated of a desk after a claim, and what a job that it hands out has to carry.
-use Rattle.std.proofs.Common.{◌≡◌, ℕ, ◌+◌, ◌≤◌, ◌==◌, Bool, true, false, cond, ◌||◌, List, is_some, is_none, find, Option, Some, None, refl, ap, ◌∙◌, subst, arith, eq-eqb, ne_eqb, unwrap_or}
-use Rattle.std.specs.List.{list_any}
-use Rattle.std.proofs.lemmas.Bool.{cond_both, and_parts}
+use Rattle.std.{proofs.Common.{◌≡◌, ℕ, ◌+◌, ◌≤◌, ◌==◌, Bool, true, false, cond, ◌||◌, List, is_some, is_none, find, Option, Some, None, refl, ap, ◌∙◌, subst, arith, eq-eqb, ne_eqb, unwrap_or}, specs.List.list_any, proofs.lemmas.Bool.{cond_both, and_parts}}
 use Rattle.turn_office.specs.Histories.{entry}
-use Rattle.desk_core.specs.Joins.Edits.{Edit}
-use Rattle.desk_core.specs.Desks.{Desk, DeskDeck, Lease, Kept, is_leased_at}
-use Rattle.desk_core.specs.Joins.Calls.{Claim, DeckJob, DeckWork, Refusal}
-use Rattle.desk_core.specs.Answers.{Answer, unless, against_next}
-use Rattle.desk_core.specs.Claiming.{claim, claim_deck, claim_link, hand_out, hand_out_link, deck_work, given, start_of, edits_for, is_behind, is_free, is_published}
-use Rattle.desk_core.specs.Runs.{History}
-use Rattle.desk_core.specs.Jobs.{deck_of_lease, HandsOut, since_job, IsDue, IsDueFrom}
-use Rattle.desk_core.proofs.JobsTold.{IsDeckTold, IsDeskTold}
-use Rattle.desk_core.proofs.TellingDecks.{found_told}
-use Rattle.desk_core.proofs.QuietSteps.{quiet, told_linked}
-use Rattle.desk_core.proofs.TouchedSteps.{told_touched}
-use Rattle.desk_core.proofs.ChangeSteps.{Next, next_quiet, next_unless}
+use Rattle.desk_core.{specs.Joins.Edits.Edit, specs.Desks.{Desk, DeskDeck, Lease, Kept, is_leased_at}, specs.Joins.Calls.{Claim, DeckJob, DeckWork, Refusal}, specs.Answers.{Answer, unless, against_next}, specs.Claiming.{claim, claim_deck, claim_link, hand_out, hand_out_link, deck_work, given, start_of, edits_for, is_behind, is_free, is_published}, specs.Runs.History, specs.Jobs.{deck_of_lease, HandsOut, since_job, IsDue, IsDueFrom}, proofs.JobsTold.{IsDeckTold, IsDeskTold}, proofs.TellingDecks.found_told, proofs.QuietSteps.{quiet, told_linked}, proofs.TouchedSteps.told_touched, proofs.ChangeSteps.{Next, next_quiet, next_unless}}
 
 -- the next lease is none that was given before
 next_is_new : {A : Type 0} (leases : ℕ) (a : A) (number : ℕ) → number ≤ leases → cond (leases + 1 == number) (Some a) None ≡ None

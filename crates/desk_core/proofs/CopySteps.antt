@@ -1,12 +1,7 @@
 -- Edits made on a copy of cards, one after the other, with what takes each of them back.
-use Rattle.std.proofs.Common.{◌≡◌, ℕ, ◌+◌, ◌<◌, List, [], ◌∷◌, ◌++◌, length, drop, get_or, None, sym, ap, ap₂, subst, ◌∙◌, append_assoc}
-use Rattle.std.proofs.lemmas.List.{at_drop_more}
+use Rattle.std.proofs.{Common.{◌≡◌, ℕ, ◌+◌, ◌<◌, List, [], ◌∷◌, ◌++◌, length, drop, get_or, None, sym, ap, ap₂, subst, ◌∙◌, append_assoc}, lemmas.List.at_drop_more}
 use Rattle.cards.proofs.FaultLaws.{applies-in, made-in}
-use Rattle.desk_core.specs.Joins.Language.{Card}
-use Rattle.desk_core.specs.Joins.Edits.{Edit, edited, edited_by, first_fault}
-use Rattle.desk_core.specs.declared.past.Back.{Back}
-use Rattle.desk_core.specs.Past.{undo_of}
-use Rattle.desk_core.specs.Joins.Stored.{backs_made}
+use Rattle.desk_core.specs.{Joins.Language.Card, Joins.Edits.{Edit, edited, edited_by, first_fault}, declared.past.Back.Back, Past.undo_of, Joins.Stored.backs_made}
 
 -- what takes back those that are left
 backs-more : (by : List ℕ) (edits : List Edit) (place : ℕ) (edit : Edit) (cards : List Card) → place < length edits → edit ≡ get_or edits place edit →

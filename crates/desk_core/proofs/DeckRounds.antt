@@ -1,29 +1,7 @@
 -- A round at a desk without leases where a deck is behind: the deck is built, or loses a record of other cards.
-use Rattle.std.proofs.Common.{◌≡◌, inl, inr, ℕ, ◌+◌, ◌==◌, ◌<◌, ◌≤◌, Bool, true, false, cond, not, ◌&&◌, List, length, find, is_none, Option, Some, None, refl, sym, ap, ◌∙◌, subst, arith, eq-eqb}
-use Rattle.std.specs.Prelude.{slice_get}
-use Rattle.std.specs.List.{list_any}
-use Rattle.std.proofs.lemmas.Bool.{cases_Bool, cond_both, cond-true, cond-false, and_from, and_parts, not-true, le-ltb}
-use Rattle.desk_core.specs.Joins.Language.{Deck}
-use Rattle.desk_core.specs.Joins.Causes.{when}
-use Rattle.desk_core.specs.Joins.Edits.{edited_by, first_fault}
-use Rattle.desk_core.specs.Desks.{Desk, DeskDeck, Kept, deck_of, greatest_number}
-use Rattle.desk_core.specs.Joins.Calls.{Call, DeliverDeck, GiveUp, DeckWork, Reply, Stored, Refused, Refusal, Foreign, VersionsSpent}
-use Rattle.desk_core.specs.Answers.{Answer, answers, unless, against_next}
-use Rattle.desk_core.specs.Claiming.{claim, claim_deck, claim_link, hand_out, is_behind, is_free, given, deck_work, start_of, edits_for}
-use Rattle.desk_core.specs.Delivering.{same_deck, lost, stored, is_for}
-use Rattle.desk_core.specs.Joins.Delivered.{foreign_at, result_at}
-use Rattle.desk_core.specs.Steps.{answer}
-use Rattle.desk_core.specs.Making.{start_deck, start_cards, done_of}
-use Rattle.desk_core.specs.Rounds.{end_of_deck, after_job, after_round}
-use Rattle.desk_core.specs.Joins.OwnNames.{HaveOwnNames, IsPlaceOf, has_lease, changed_at}
-use Rattle.desk_core.specs.Progress.{is_given}
-use Rattle.desk_core.specs.Joins.Turns.{IsAnswer}
-use Rattle.desk_core.proofs.Same.{same_deck-itself}
-use Rattle.desk_core.proofs.PlaceLaws.{named-with, own-with, each}
+use Rattle.std.{proofs.Common.{◌≡◌, inl, inr, ℕ, ◌+◌, ◌==◌, ◌<◌, ◌≤◌, Bool, true, false, cond, not, ◌&&◌, List, length, find, is_none, Option, Some, None, refl, sym, ap, ◌∙◌, subst, arith, eq-eqb}, specs.Prelude.slice_get, specs.List.list_any, proofs.lemmas.Bool.{cases_Bool, cond_both, cond-true, cond-false, and_from, and_parts, not-true, le-ltb}}
+use Rattle.desk_core.{specs.Joins.Language.Deck, specs.Joins.Causes.when, specs.Joins.Edits.{edited_by, first_fault}, specs.Desks.{Desk, DeskDeck, Kept, deck_of, greatest_number}, specs.Joins.Calls.{Call, DeliverDeck, GiveUp, DeckWork, Reply, Stored, Refused, Refusal, Foreign, VersionsSpent}, specs.Answers.{Answer, answers, unless, against_next}, specs.Claiming.{claim, claim_deck, claim_link, hand_out, is_behind, is_free, given, deck_work, start_of, edits_for}, specs.Delivering.{same_deck, lost, stored, is_for}, specs.Joins.Delivered.{foreign_at, result_at}, specs.Steps.answer, specs.Making.{start_deck, start_cards, done_of}, specs.Rounds.{end_of_deck, after_job, after_round}, specs.Joins.OwnNames.{HaveOwnNames, IsPlaceOf, has_lease, changed_at}, specs.Progress.is_given, specs.Joins.Turns.IsAnswer, proofs.Same.same_deck-itself, proofs.PlaceLaws.{named-with, own-with, each}, proofs.TellingDecks.found_told, proofs.Progress.found, proofs.RoundsLeft.{rounds_with, rounds_of, rounds_left, some_of, place_found, place_within, get-with, with-twice, rounds-with, ungiven-with, found-leased}}
 use Rattle.desk_core.proofs.DeliverDone as deliver_done
-use Rattle.desk_core.proofs.TellingDecks.{found_told}
-use Rattle.desk_core.proofs.Progress.{found}
-use Rattle.desk_core.proofs.RoundsLeft.{rounds_with, rounds_of, rounds_left, some_of, place_found, place_within, get-with, with-twice, rounds-with, ungiven-with, found-leased}
 
 -- no lease is out, and each deck has a name of its own
 pub record IsResting (desk : Desk) : Type 0 where

@@ -1,12 +1,6 @@
 -- Names and cards of a desk's decks, after each way in which the desk puts its decks in another form.
-use Rattle.std.proofs.Common.{◌≡◌, ℕ, Bool, true, false, cond, not, ◌||◌, List, [], ◌∷◌, ◌++◌, map, filter, find, is_some, Option, None, Some, refl, sym, ap, ap₂, ◌∙◌}
-use Rattle.std.specs.List.{list_any}
-use Rattle.std.proofs.lemmas.List.{map-append}
-use Rattle.desk_core.specs.Joins.Language.{Card, Deck, same_text}
-use Rattle.desk_core.specs.Joins.Edits.{Edit, edited_by}
-use Rattle.desk_core.specs.Changes.{Put, edited_if_named, put_over, changed}
-use Rattle.desk_core.specs.Desks.{DeskDeck, deck_of, is_named, put_if_named}
-use Rattle.desk_core.specs.Changing.{edited_deck, added_deck, replaced_deck}
+use Rattle.std.{proofs.Common.{◌≡◌, ℕ, Bool, true, false, cond, not, ◌||◌, List, [], ◌∷◌, ◌++◌, map, filter, find, is_some, Option, None, Some, refl, sym, ap, ap₂, ◌∙◌}, specs.List.list_any, proofs.lemmas.List.map-append}
+use Rattle.desk_core.specs.{Joins.Language.{Card, Deck, same_text}, Joins.Edits.{Edit, edited_by}, Changes.{Put, edited_if_named, put_over, changed}, Desks.{DeskDeck, deck_of, is_named, put_if_named}, Changing.{edited_deck, added_deck, replaced_deck}}
 
 kept_head : (named : Bool) (form deck : DeskDeck) → deck_of form ≡ deck_of deck → deck_of (cond named form deck) ≡ deck_of deck
 kept_head true form deck same = same

@@ -1,18 +1,6 @@
 -- Results for the deck at the place where its lease was found.
-use Rattle.std.proofs.Common.{◌≡◌, ℕ, ◌==◌, not, ◌&&◌, ◌||◌, is_none, Bool, true, false, cond, List, length, Option, Some, None, find, refl, sym, ap, ◌∙◌, subst, inl, inr, eq-eqb, map}
-use Rattle.std.specs.Prelude.{slice_get}
-use Rattle.std.proofs.lemmas.Bool.{cases_Bool}
-use Rattle.std.proofs.lemmas.List.{length-map}
-use Rattle.desk_core.specs.Joins.Language.{Card, Deck}
-use Rattle.desk_core.specs.Desks.{Desk, DeskDeck, Kept, deck_of, with_deck}
-use Rattle.desk_core.specs.Joins.Calls.{Reply, Refused, Foreign, Stale, Stored, Cleared, Done}
-use Rattle.desk_core.specs.Answers.{Answer, answers}
-use Rattle.desk_core.specs.Joins.Delivered.{foreign_at, kept_at, result_at}
-use Rattle.desk_core.specs.Delivering.{same_cards, same_decks, same_deck, is_record_of, lost, given_back, stored, is_for, take_result, deliver_to, deliver_deck, give_up_of, give_up}
-use Rattle.desk_core.specs.Joins.OwnNames.{IsPlaceOf, has_lease, changed_at}
-use Rattle.desk_core.specs.Joins.Turns.{IsAnswer}
-use Rattle.desk_core.proofs.PlaceLaws.{element-at, named-with}
-use Rattle.desk_core.proofs.Same.{equal_cards, equal_lists}
+use Rattle.std.{proofs.Common.{◌≡◌, ℕ, ◌==◌, not, ◌&&◌, ◌||◌, is_none, Bool, true, false, cond, List, length, Option, Some, None, find, refl, sym, ap, ◌∙◌, subst, inl, inr, eq-eqb, map}, specs.Prelude.slice_get, proofs.lemmas.Bool.cases_Bool, proofs.lemmas.List.length-map}
+use Rattle.desk_core.{specs.Joins.Language.{Card, Deck}, specs.Desks.{Desk, DeskDeck, Kept, deck_of, with_deck}, specs.Joins.Calls.{Reply, Refused, Foreign, Stale, Stored, Cleared, Done}, specs.Answers.{Answer, answers}, specs.Joins.Delivered.{foreign_at, kept_at, result_at}, specs.Delivering.{same_cards, same_decks, same_deck, is_record_of, lost, given_back, stored, is_for, take_result, deliver_to, deliver_deck, give_up_of, give_up}, specs.Joins.OwnNames.{IsPlaceOf, has_lease, changed_at}, specs.Joins.Turns.IsAnswer, proofs.PlaceLaws.{element-at, named-with}, proofs.Same.{equal_cards, equal_lists}}
 
 -- lists of other lengths are not the same
 pub other-cards : (a b : List Card) → (length a == length b) ≡ false → same_cards a b ≡ false

@@ -1,31 +1,8 @@
 -- What holds of each deck after each step: a property of its name, cards and past that the changes of a desk keep.
-use Rattle.std.proofs.Common.{◌≡◌, ℕ, ◌+◌, ◌≤◌, ◌==◌, nat_le, nat_lt, Bool, true, false, cond, not, ◌||◌, is_none, List, [], ◌∷◌, length, map, find, is_some, Option, Some, None, Result, Ok, Err, option_map, refl, sym, ap, ◌∙◌, subst, inl, inr}
-use Rattle.std.specs.List.{list_any, AllByRecursion}
-use Rattle.std.proofs.lemmas.Bool.{cond_both, ltb-false}
+use Rattle.std.{proofs.Common.{◌≡◌, ℕ, ◌+◌, ◌≤◌, ◌==◌, nat_le, nat_lt, Bool, true, false, cond, not, ◌||◌, is_none, List, [], ◌∷◌, length, map, find, is_some, Option, Some, None, Result, Ok, Err, option_map, refl, sym, ap, ◌∙◌, subst, inl, inr}, specs.List.{list_any, AllByRecursion}, proofs.lemmas.Bool.{cond_both, ltb-false}}
 use Rattle.cards.specs.declared.carrying.Touched.{Touched}
 use Rattle.turn_office.specs.Histories.{Leads}
-use Rattle.desk_core.specs.Joins.Language.{Card, Deck}
-use Rattle.desk_core.specs.Joins.Causes.{when}
-use Rattle.desk_core.specs.Joins.Edits.{Edit, most_cards, fault_of, first_fault, edited_by}
-use Rattle.desk_core.specs.Past.{Past, begun_at, past_after}
-use Rattle.desk_core.specs.Desks.{Desk, DeskDeck, Publication, most_decks, is_named, deck_named, put_if_named, is_leased, is_leased_at, decks_of}
-use Rattle.desk_core.specs.Joins.Calls.{Call, AddDeck, PutDeck, DropDeck, EditDeck, Batch, EditSince, BatchSince, Undo, Changes, CardsAt, Cards, Show, Status, Claim, DeliverDeck, DeliverLink, OfferObject, Publish, GiveUp, Done, Reply, Refusal, NameTaken, TooManyDecks, DeckFull, NoDeck, BatchSize}
-use Rattle.desk_core.specs.Answers.{Answer, unless, against_next}
-use Rattle.desk_core.specs.Changing.{accepted, against_add, added_deck, added, against_put, replaced_deck, put, put_where, against_drop, dropped, edited_deck, edited, against_edit, against_batch, refusal_of, is_batch, against_seen}
-use Rattle.desk_core.specs.Carrying.{carried_since, against_carry, accept_carried, edit_since_of, batch_since_of, bad_edit, alone}
-use Rattle.desk_core.specs.Undoing.{backs_at, against_change, undo_where}
-use Rattle.desk_core.specs.Earlier.{against_since, changes_of, cards_at_of}
-use Rattle.desk_core.specs.Claiming.{claim, claim_deck, claim_link, hand_out, hand_out_link, given, is_behind, is_free, is_published}
-use Rattle.desk_core.specs.Delivering.{deliver_to, take_result, deck_leased, lost, given_back, stored, is_for, is_sound, same_decks, deliver_link, offer_object, publish, give_up_of}
-use Rattle.desk_core.specs.Joins.OwnNames.{HaveOwnNames}
-use Rattle.desk_core.specs.Steps.{answer, Steps}
-use Rattle.desk_core.specs.Runs.{History}
-use Rattle.desk_core.proofs.AnswerLaws.{no-reason, head-clear, map-clear}
-use Rattle.desk_core.proofs.CarryDone.{carry-clear}
-use Rattle.desk_core.proofs.OwnAlways.{own-answer}
-use Rattle.desk_core.proofs.PastLaws.{one-applies}
-use Rattle.desk_core.proofs.Same.{equal_texts}
-use Rattle.desk_core.proofs.TellingDecks.{none_found, all_next, all_weaker, all_filtered, all_added, all_put}
+use Rattle.desk_core.{specs.Joins.Language.{Card, Deck}, specs.Joins.Causes.when, specs.Joins.Edits.{Edit, most_cards, fault_of, first_fault, edited_by}, specs.Past.{Past, begun_at, past_after}, specs.Desks.{Desk, DeskDeck, Publication, most_decks, is_named, deck_named, put_if_named, is_leased, is_leased_at, decks_of}, specs.Joins.Calls.{Call, AddDeck, PutDeck, DropDeck, EditDeck, Batch, EditSince, BatchSince, Undo, Changes, CardsAt, Cards, Show, Status, Claim, DeliverDeck, DeliverLink, OfferObject, Publish, GiveUp, Done, Reply, Refusal, NameTaken, TooManyDecks, DeckFull, NoDeck, BatchSize}, specs.Answers.{Answer, unless, against_next}, specs.Changing.{accepted, against_add, added_deck, added, against_put, replaced_deck, put, put_where, against_drop, dropped, edited_deck, edited, against_edit, against_batch, refusal_of, is_batch, against_seen}, specs.Carrying.{carried_since, against_carry, accept_carried, edit_since_of, batch_since_of, bad_edit, alone}, specs.Undoing.{backs_at, against_change, undo_where}, specs.Earlier.{against_since, changes_of, cards_at_of}, specs.Claiming.{claim, claim_deck, claim_link, hand_out, hand_out_link, given, is_behind, is_free, is_published}, specs.Delivering.{deliver_to, take_result, deck_leased, lost, given_back, stored, is_for, is_sound, same_decks, deliver_link, offer_object, publish, give_up_of}, specs.Joins.OwnNames.HaveOwnNames, specs.Steps.{answer, Steps}, specs.Runs.History, proofs.AnswerLaws.{no-reason, head-clear, map-clear}, proofs.CarryDone.carry-clear, proofs.OwnAlways.own-answer, proofs.PastLaws.one-applies, proofs.Same.equal_texts, proofs.TellingDecks.{none_found, all_next, all_weaker, all_filtered, all_added, all_put}}
 
 named-head : (name : List ℕ) (d : DeskDeck) (decks : List DeskDeck) (named : Bool) → is_named name d ≡ named → find (is_named d.name) decks ≡ None →
     AllByRecursion (λ (x : DeskDeck). is_named name x ≡ true → find (is_named name) decks ≡ Some x) decks →

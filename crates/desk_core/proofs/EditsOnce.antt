@@ -1,16 +1,7 @@
 -- What the jobs of a deck carry is a part of its accepted edits.
-use Rattle.std.proofs.Common.{◌≡◌, ℕ, ◌==◌, Bool, true, false, cond, List, [], ◌∷◌, ◌++◌, reverse, Option, Some, None, refl, sym, ap, ◌∙◌, subst, append_assoc, append-nil, eqb-true}
-use Rattle.std.specs.Prelude.{⊤}
+use Rattle.std.{proofs.Common.{◌≡◌, ℕ, ◌==◌, Bool, true, false, cond, List, [], ◌∷◌, ◌++◌, reverse, Option, Some, None, refl, sym, ap, ◌∙◌, subst, append_assoc, append-nil, eqb-true}, specs.Prelude.⊤}
 use Rattle.turn_office.specs.Histories.{Leads}
-use Rattle.desk_core.specs.Joins.Edits.{Edit}
-use Rattle.desk_core.specs.Desks.{Desk, new_desk_at}
-use Rattle.desk_core.specs.Joins.Calls.{Call, EditDeck, Batch, EditSince, BatchSince, Undo, Claim, DeliverDeck, GiveUp, Reply, Changed, Carried, DeckJob, Cleared, Refused, Foreign, Start, FromRecord, FromCards}
-use Rattle.desk_core.specs.Steps.{Steps}
-use Rattle.desk_core.specs.Runs.{History, Runs}
-use Rattle.desk_core.specs.Jobs.{identity_of, deck_of_lease, Effect, HandsOut, Loses, Edits, Leaves, effect_if, effect_on, after_effect, since_job, IsDueFrom, accepted_by, handed_by, accepted_edits, handed_edits, IsPartOf}
-use Rattle.desk_core.proofs.JobsTold.{IsDeskTold, desk_told_first}
-use Rattle.desk_core.proofs.JobsOnce.{step_next, step_due, reverse_onto}
-use Rattle.desk_core.proofs.Parts.{part_nothing, part_itself, part_append, part_less}
+use Rattle.desk_core.{specs.Joins.Edits.Edit, specs.Desks.{Desk, new_desk_at}, specs.Joins.Calls.{Call, EditDeck, Batch, EditSince, BatchSince, Undo, Claim, DeliverDeck, GiveUp, Reply, Changed, Carried, DeckJob, Cleared, Refused, Foreign, Start, FromRecord, FromCards}, specs.Steps.Steps, specs.Runs.{History, Runs}, specs.Jobs.{identity_of, deck_of_lease, Effect, HandsOut, Loses, Edits, Leaves, effect_if, effect_on, after_effect, since_job, IsDueFrom, accepted_by, handed_by, accepted_edits, handed_edits, IsPartOf}, proofs.JobsTold.{IsDeskTold, desk_told_first}, proofs.JobsOnce.{step_next, step_due, reverse_onto}, proofs.Parts.{part_nothing, part_itself, part_append, part_less}}
 
 -- the edits that a deck's record lacks, if it has one
 abbrev lacking : Option (List Edit) → List Edit

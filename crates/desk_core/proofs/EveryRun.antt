@@ -1,18 +1,7 @@
 -- What every run of a desk shows.
-use Rattle.std.proofs.Common.{◌≡◌, inl, inr, ℕ, true, false, List, [], ◌∷◌, ◌++◌, Option, Some, None, sym, ap, ◌∙◌, subst, arith, append_assoc, append-nil}
-use Rattle.std.specs.List.{cons_option}
-use Rattle.turn_office.specs.declared.history.Entry.{Entry}
-use Rattle.turn_office.specs.Histories.{Leads}
-use Rattle.desk_core.specs.Joins.Language.{listing_of, image_of}
-use Rattle.desk_core.specs.Changes.{Change}
-use Rattle.desk_core.specs.Desks.{Desk, Publication, new_desk_at}
-use Rattle.desk_core.specs.Joins.Calls.{Call, Show, Reply, Shown, Refused, Refusal, OutOfMemory}
-use Rattle.desk_core.specs.Reading.{show_reply}
-use Rattle.desk_core.specs.Steps.{Steps}
-use Rattle.desk_core.specs.Runs.{History, Runs, change_asked, accepts, change_in, changes_in, IsBuildOf, IsUnchanged, IsOfItsChanges}
-use Rattle.desk_core.proofs.Outcomes.{Outcome, by_staying, by_changing, by_publishing}
-use Rattle.desk_core.proofs.Publishing.{step_comes}
-use Rattle.desk_core.proofs.Told.{IsTold, told_first, told_still, told_change, told_publication}
+use Rattle.std.{proofs.Common.{◌≡◌, inl, inr, ℕ, true, false, List, [], ◌∷◌, ◌++◌, Option, Some, None, sym, ap, ◌∙◌, subst, arith, append_assoc, append-nil}, specs.List.cons_option}
+use Rattle.turn_office.specs.{declared.history.Entry.Entry, Histories.Leads}
+use Rattle.desk_core.{specs.Joins.Language.{listing_of, image_of}, specs.Changes.Change, specs.Desks.{Desk, Publication, new_desk_at}, specs.Joins.Calls.{Call, Show, Reply, Shown, Refused, Refusal, OutOfMemory}, specs.Reading.show_reply, specs.Steps.Steps, specs.Runs.{History, Runs, change_asked, accepts, change_in, changes_in, IsBuildOf, IsUnchanged, IsOfItsChanges}, proofs.Outcomes.{Outcome, by_staying, by_changing, by_publishing}, proofs.Publishing.step_comes, proofs.Told.{IsTold, told_first, told_still, told_change, told_publication}}
 
 -- an entry whose reply accepts nothing made no change
 silent_entry : (entry : Entry Call Reply) → accepts entry.reply ≡ false → change_in entry ≡ None

@@ -1,13 +1,6 @@
 -- A claim that answers Idle shows the version that is published.
-use Rattle.std.proofs.Common.{◌≡◌, inl, inr, ℕ, true, find, Option, Some, None, refl, sym, eqb-true}
-use Rattle.std.specs.List.{list_any}
-use Rattle.std.proofs.lemmas.Bool.{cond_both}
-use Rattle.desk_core.specs.Desks.{Desk, DeskDeck, Publication, is_leased_at}
-use Rattle.desk_core.specs.Joins.Calls.{Claim, Reply, Idle, Refused, Refusal, OutOfMemory}
-use Rattle.desk_core.specs.Answers.{Answer, unless, against_next}
-use Rattle.desk_core.specs.Claiming.{claim, claim_deck, claim_link, hand_out, hand_out_link, is_behind, is_free, is_published}
-use Rattle.desk_core.specs.Steps.{Steps}
-use Rattle.desk_core.specs.Runs.{IsPublishedAt}
+use Rattle.std.{proofs.Common.{◌≡◌, inl, inr, ℕ, true, find, Option, Some, None, refl, sym, eqb-true}, specs.List.list_any, proofs.lemmas.Bool.cond_both}
+use Rattle.desk_core.specs.{Desks.{Desk, DeskDeck, Publication, is_leased_at}, Joins.Calls.{Claim, Reply, Idle, Refused, Refusal, OutOfMemory}, Answers.{Answer, unless, against_next}, Claiming.{claim, claim_deck, claim_link, hand_out, hand_out_link, is_behind, is_free, is_published}, Steps.Steps, Runs.IsPublishedAt}
 
 -- where the reply is Idle, its version is the desk's and the publication's
 abbrev Tells : Desk → Reply → Type 0

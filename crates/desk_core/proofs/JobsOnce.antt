@@ -1,22 +1,7 @@
 -- Each deck job is what the history before it makes due.
-use Rattle.std.proofs.Common.{◌≡◌, inl, inr, ℕ, List, Option, Some, None, [], ◌∷◌, ◌++◌, reverse, refl, sym, ap, ◌∙◌, subst, append_assoc, append-nil}
-use Rattle.std.proofs.lemmas.List.{reverse-append}
-use Rattle.turn_office.specs.declared.history.Entry.{Entry}
-use Rattle.turn_office.specs.Histories.{Leads, entry}
-use Rattle.desk_core.specs.Desks.{Desk, DeskDeck, deck_named, new_desk_at}
-use Rattle.desk_core.specs.Past.{backs_of}
-use Rattle.desk_core.specs.Answers.{answers}
-use Rattle.desk_core.specs.Earlier.{against_since, edits_behind, changes_of, cards_at_of}
-use Rattle.desk_core.specs.Joins.Calls.{Call, AddDeck, PutDeck, DropDeck, EditDeck, Batch, EditSince, BatchSince, Undo, Changes, CardsAt, Cards, Show, Status, Claim, DeliverDeck, DeliverLink, OfferObject, Publish, GiveUp, DeckWork, Reply, DeckJob, ChangesAre, CardsBefore, Refused, OutOfMemory, NoDeck}
-use Rattle.desk_core.specs.Reading.{cards_reply, show_reply}
-use Rattle.desk_core.specs.Steps.{answer, Steps}
-use Rattle.desk_core.specs.Runs.{History, Runs}
-use Rattle.desk_core.specs.Jobs.{IsDue}
-use Rattle.desk_core.proofs.JobsTold.{IsDeskTold, desk_told_first}
-use Rattle.desk_core.proofs.QuietSteps.{quiet, starved_quiet}
-use Rattle.desk_core.proofs.ChangeSteps.{Next, next_quiet, next_unless, add_next, put_next, drop_next, edit_next, batch_next, edit_since_next, batch_since_next, undo_next}
-use Rattle.desk_core.proofs.ClaimSteps.{claim_next, claim_due}
-use Rattle.desk_core.proofs.ResultSteps.{deliver_deck_next, deliver_link_next, offer_next, publish_next, give_up_next}
+use Rattle.std.proofs.{Common.{◌≡◌, inl, inr, ℕ, List, Option, Some, None, [], ◌∷◌, ◌++◌, reverse, refl, sym, ap, ◌∙◌, subst, append_assoc, append-nil}, lemmas.List.reverse-append}
+use Rattle.turn_office.specs.{declared.history.Entry.Entry, Histories.{Leads, entry}}
+use Rattle.desk_core.{specs.Desks.{Desk, DeskDeck, deck_named, new_desk_at}, specs.Past.backs_of, specs.Answers.answers, specs.Earlier.{against_since, edits_behind, changes_of, cards_at_of}, specs.Joins.Calls.{Call, AddDeck, PutDeck, DropDeck, EditDeck, Batch, EditSince, BatchSince, Undo, Changes, CardsAt, Cards, Show, Status, Claim, DeliverDeck, DeliverLink, OfferObject, Publish, GiveUp, DeckWork, Reply, DeckJob, ChangesAre, CardsBefore, Refused, OutOfMemory, NoDeck}, specs.Reading.{cards_reply, show_reply}, specs.Steps.{answer, Steps}, specs.Runs.{History, Runs}, specs.Jobs.IsDue, proofs.JobsTold.{IsDeskTold, desk_told_first}, proofs.QuietSteps.{quiet, starved_quiet}, proofs.ChangeSteps.{Next, next_quiet, next_unless, add_next, put_next, drop_next, edit_next, batch_next, edit_since_next, batch_since_next, undo_next}, proofs.ClaimSteps.{claim_next, claim_due}, proofs.ResultSteps.{deliver_deck_next, deliver_link_next, offer_next, publish_next, give_up_next}}
 
 module _ (history : History) (by : ℕ) (desk : Desk) (told : IsDeskTold history desk) where
   -- what reads a past means nothing

@@ -1,16 +1,7 @@
 -- What the history before a desk shows of its decks' records, newest first: the form that each step keeps.
-use Rattle.std.proofs.Common.{◌≡◌, ℕ, ◌<◌, ◌≤◌, ◌==◌, true, false, ◌||◌, List, [], ◌∷◌, Option, Some, None, is_some, sym, refl, ap, ◌∙◌, arith, ne_eqb, unwrap_or}
-use Rattle.std.specs.Prelude.{⊤, if◌then◌else◌}
-use Rattle.std.specs.Option.{option_or}
-use Rattle.std.specs.List.{AllByRecursion}
+use Rattle.std.{proofs.Common.{◌≡◌, ℕ, ◌<◌, ◌≤◌, ◌==◌, true, false, ◌||◌, List, [], ◌∷◌, Option, Some, None, is_some, sym, refl, ap, ◌∙◌, arith, ne_eqb, unwrap_or}, specs.Prelude.{⊤, if◌then◌else◌}, specs.Option.option_or, specs.List.AllByRecursion}
 use Rattle.turn_office.specs.declared.history.Entry.{Entry}
-use Rattle.desk_core.specs.Joins.Language.{same_text}
-use Rattle.desk_core.specs.Joins.Edits.{Edit}
-use Rattle.desk_core.specs.Desks.{Desk, DeskDeck, Lease, new_desk_at}
-use Rattle.desk_core.specs.Joins.Calls.{Call, AddDeck, PutDeck, Reply, Changed}
-use Rattle.desk_core.specs.Runs.{History}
-use Rattle.desk_core.specs.Jobs.{identity_in, identity_of, leased_in, deck_of_lease, effect_on, after_effect, since_job}
-use Rattle.desk_core.proofs.Same.{equal_texts, same_text-itself}
+use Rattle.desk_core.{specs.Joins.Language.same_text, specs.Joins.Edits.Edit, specs.Desks.{Desk, DeskDeck, Lease, new_desk_at}, specs.Joins.Calls.{Call, AddDeck, PutDeck, Reply, Changed}, specs.Runs.History, specs.Jobs.{identity_in, identity_of, leased_in, deck_of_lease, effect_on, after_effect, since_job}, proofs.Same.{equal_texts, same_text-itself}}
 
 -- the name that an entry gives to a deck of this identity, if it adds or puts it
 abbrev pub name_in : ℕ → Call → Reply → Option (List ℕ)

@@ -1,17 +1,6 @@
 -- A round at a desk without leases where no deck is behind: its link is published, or it is idle.
-use Rattle.std.proofs.Common.{◌≡◌, ◌+◌, ◌==◌, ◌≤◌, Bool, true, false, cond, not, Option, Some, refl, sym, ap, ◌∙◌, subst, arith, eq-eqb}
-use Rattle.std.specs.Prelude.{find}
-use Rattle.std.specs.List.{list_any}
-use Rattle.std.proofs.lemmas.Bool.{cond-true, cond-false}
-use Rattle.desk_core.specs.Desks.{Desk, Lease, Publication, is_leased_at, decks_of, greatest_number}
-use Rattle.desk_core.specs.Joins.Calls.{Idle, Stored, Refusal}
-use Rattle.desk_core.specs.Answers.{Answer, answers, unless}
-use Rattle.desk_core.specs.Claiming.{claim, claim_deck, claim_link, hand_out_link, is_behind, is_free, is_published}
-use Rattle.desk_core.specs.Delivering.{deliver_link, same_decks, unlinked}
-use Rattle.desk_core.specs.Rounds.{after_job, after_round}
-use Rattle.desk_core.proofs.Same.{same_decks-itself}
-use Rattle.desk_core.proofs.RoundsLeft.{rounds_in, link_rounds}
-use Rattle.desk_core.proofs.DeckRounds.{IsResting, Goes, none_against}
+use Rattle.std.{proofs.Common.{◌≡◌, ◌+◌, ◌==◌, ◌≤◌, Bool, true, false, cond, not, Option, Some, refl, sym, ap, ◌∙◌, subst, arith, eq-eqb}, specs.Prelude.find, specs.List.list_any, proofs.lemmas.Bool.{cond-true, cond-false}}
+use Rattle.desk_core.{specs.Desks.{Desk, Lease, Publication, is_leased_at, decks_of, greatest_number}, specs.Joins.Calls.{Idle, Stored, Refusal}, specs.Answers.{Answer, answers, unless}, specs.Claiming.{claim, claim_deck, claim_link, hand_out_link, is_behind, is_free, is_published}, specs.Delivering.{deliver_link, same_decks, unlinked}, specs.Rounds.{after_job, after_round}, proofs.Same.same_decks-itself, proofs.RoundsLeft.{rounds_in, link_rounds}, proofs.DeckRounds.{IsResting, Goes, none_against}}
 
 module _ (desk : Desk) (built : list_any is_behind desk.decks ≡ false) where
   claimed : claim desk ≡ claim_link desk

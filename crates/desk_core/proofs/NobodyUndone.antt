@@ -1,27 +1,7 @@
 -- Edits that were carried undo nothing of others, in every run.
 use Rattle.std.proofs.Common.{◌≡◌, ℕ, List, [], ◌∷◌, inl, inr, Option, Some, None, option_map, Ok, refl, ap, ◌∙◌}
-use Rattle.cards.specs.declared.carrying.MadeEdit.{MadeEdit}
-use Rattle.cards.specs.Carrying.{seen_before}
-use Rattle.cards.specs.Converging.{edits_in}
-use Rattle.cards.proofs.FaultLaws.{have-places}
-use Rattle.cards.proofs.Batches.{seen-tells, converges}
-use Rattle.desk_core.specs.Joins.Language.{Card}
-use Rattle.desk_core.specs.Joins.Edits.{Edit, fault_of, edited, first_fault}
-use Rattle.desk_core.specs.Past.{KeptEdit}
-use Rattle.desk_core.specs.Led.{HaveLed}
-use Rattle.desk_core.specs.Desks.{Desk, DeskDeck, deck_named}
-use Rattle.desk_core.specs.Joins.Calls.{EditSince, BatchSince, Undo, Carried, Refused, Refusal, OutOfMemory}
-use Rattle.desk_core.specs.Answers.{Answer, unless}
-use Rattle.desk_core.specs.Earlier.{edits_behind}
-use Rattle.desk_core.specs.Carrying.{made_in, cards_of, carried_since, against_carry, accept_carried, batch_since_of, edit_since_of, alone}
-use Rattle.desk_core.specs.Undoing.{backs_at, against_change, undo_where}
-use Rattle.desk_core.specs.Steps.{Steps}
-use Rattle.desk_core.specs.Runs.{History, LosesNothing, Runs}
-use Rattle.desk_core.proofs.AnswerLaws.{unrefused, map-clear}
-use Rattle.desk_core.proofs.CarryDone.{carry-clear}
-use Rattle.desk_core.proofs.PastLaws.{fault-later}
-use Rattle.desk_core.proofs.PastAlways.{HasPast, past-named, led-behind}
-use Rattle.desk_core.proofs.UndoTakesBack.{accepts-made}
+use Rattle.cards.{specs.declared.carrying.MadeEdit.MadeEdit, specs.Carrying.seen_before, specs.Converging.edits_in, proofs.FaultLaws.have-places, proofs.Batches.{seen-tells, converges}}
+use Rattle.desk_core.{specs.Joins.Language.Card, specs.Joins.Edits.{Edit, fault_of, edited, first_fault}, specs.Past.KeptEdit, specs.Led.HaveLed, specs.Desks.{Desk, DeskDeck, deck_named}, specs.Joins.Calls.{EditSince, BatchSince, Undo, Carried, Refused, Refusal, OutOfMemory}, specs.Answers.{Answer, unless}, specs.Earlier.edits_behind, specs.Carrying.{made_in, cards_of, carried_since, against_carry, accept_carried, batch_since_of, edit_since_of, alone}, specs.Undoing.{backs_at, against_change, undo_where}, specs.Steps.Steps, specs.Runs.{History, LosesNothing, Runs}, proofs.AnswerLaws.{unrefused, map-clear}, proofs.CarryDone.carry-clear, proofs.PastLaws.fault-later, proofs.PastAlways.{HasPast, past-named, led-behind}, proofs.UndoTakesBack.accepts-made}
 
 -- edits that led from cards to others apply there
 led-apply : (before : List Card) (kept : List KeptEdit) (now : List Card) → HaveLed before kept now → first_fault (edits_in (made_in kept)) before ≡ None

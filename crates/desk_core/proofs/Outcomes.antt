@@ -1,10 +1,6 @@
 -- The three kinds of outcome that a step has for what everybody sees: it stays, a change is accepted, or the desk's decks are published.
 use Rattle.std.proofs.Common.{◌≡◌, ◌+◌, Bool, true, false, cond, Option, Some, None, refl}
-use Rattle.desk_core.specs.Changes.{Change, changed}
-use Rattle.desk_core.specs.Desks.{Desk, Publication, decks_of}
-use Rattle.desk_core.specs.Joins.Calls.{Call, Reply, Stored, Published, Refused, Refusal}
-use Rattle.desk_core.specs.Answers.{Answer, answers, unless}
-use Rattle.desk_core.specs.Runs.{IsUnchanged, change_asked, accepts}
+use Rattle.desk_core.specs.{Changes.{Change, changed}, Desks.{Desk, Publication, decks_of}, Joins.Calls.{Call, Reply, Stored, Published, Refused, Refusal}, Answers.{Answer, answers, unless}, Runs.{IsUnchanged, change_asked, accepts}}
 
 -- nothing that is seen has changed, and no change is accepted
 pub record Stays (desk : Desk) (reply : Reply) (next : Desk) : Type 0 where

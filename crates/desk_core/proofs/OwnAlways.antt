@@ -1,25 +1,8 @@
 -- The decks of a desk have names of their own in every run.
-use Rattle.std.proofs.Common.{◌≡◌, ℕ, ◌+◌, ◌==◌, Bool, true, false, cond, not, ◌||◌, is_none, List, [], ◌∷◌, map, filter, find, is_some, Option, Some, None, Result, Ok, Err, option_map, refl, sym, ap, ◌∙◌, subst, inl, inr}
-use Rattle.std.specs.List.{list_any}
-use Rattle.std.proofs.lemmas.Bool.{cond_both}
+use Rattle.std.{proofs.Common.{◌≡◌, ℕ, ◌+◌, ◌==◌, Bool, true, false, cond, not, ◌||◌, is_none, List, [], ◌∷◌, map, filter, find, is_some, Option, Some, None, Result, Ok, Err, option_map, refl, sym, ap, ◌∙◌, subst, inl, inr}, specs.List.list_any, proofs.lemmas.Bool.cond_both}
 use Rattle.turn_office.specs.Histories.{Leads}
-use Rattle.desk_core.specs.Joins.Language.{Deck, same_text}
-use Rattle.desk_core.specs.Joins.Causes.{when, first_cause}
-use Rattle.desk_core.specs.Joins.Edits.{Edit}
-use Rattle.desk_core.specs.Desks.{Desk, DeskDeck, Publication, new_desk_at, is_named, deck_named, put_if_named, is_leased, is_leased_at, decks_of}
-use Rattle.desk_core.specs.Joins.Calls.{Call, AddDeck, PutDeck, DropDeck, EditDeck, Batch, EditSince, BatchSince, Undo, Changes, CardsAt, Cards, Show, Status, Claim, DeliverDeck, DeliverLink, OfferObject, Publish, GiveUp, Done, Reply, Refusal, NameTaken}
-use Rattle.desk_core.specs.Answers.{Answer, unless, against_next}
-use Rattle.desk_core.specs.Changing.{accepted, against_add, added_deck, added, add_deck, against_put, replaced_deck, put, put_where, against_drop, dropped, drop_deck, edited_deck, edited, against_edit, edit_deck, against_batch, batch}
+use Rattle.desk_core.{specs.Joins.Language.{Deck, same_text}, specs.Joins.Causes.{when, first_cause}, specs.Joins.Edits.Edit, specs.Desks.{Desk, DeskDeck, Publication, new_desk_at, is_named, deck_named, put_if_named, is_leased, is_leased_at, decks_of}, specs.Joins.Calls.{Call, AddDeck, PutDeck, DropDeck, EditDeck, Batch, EditSince, BatchSince, Undo, Changes, CardsAt, Cards, Show, Status, Claim, DeliverDeck, DeliverLink, OfferObject, Publish, GiveUp, Done, Reply, Refusal, NameTaken}, specs.Answers.{Answer, unless, against_next}, specs.Changing.{accepted, against_add, added_deck, added, add_deck, against_put, replaced_deck, put, put_where, against_drop, dropped, drop_deck, edited_deck, edited, against_edit, edit_deck, against_batch, batch}, specs.Carrying.{carried_since, against_carry, accept_carried, edit_since_of, batch_since_of, alone}, specs.Undoing.{backs_at, against_change, undo_where}, specs.Earlier.{against_since, changes_of, cards_at_of}, specs.Claiming.{claim, claim_deck, claim_link, hand_out, hand_out_link, given, is_behind, is_free, is_published}, specs.Delivering.{deliver_to, take_result, deck_leased, lost, given_back, stored, is_for, is_sound, same_decks, deliver_link, offer_object, publish, give_up_of}, specs.Steps.{answer, Steps}, specs.Runs.{History, Runs}, specs.Joins.OwnNames.HaveOwnNames, proofs.PlaceLaws.{fails-head, own-added}}
 use Rattle.cards.specs.declared.carrying.Touched.{Touched}
-use Rattle.desk_core.specs.Carrying.{carried_since, against_carry, accept_carried, edit_since_of, batch_since_of, alone}
-use Rattle.desk_core.specs.Undoing.{backs_at, against_change, undo_where}
-use Rattle.desk_core.specs.Earlier.{against_since, changes_of, cards_at_of}
-use Rattle.desk_core.specs.Claiming.{claim, claim_deck, claim_link, hand_out, hand_out_link, given, is_behind, is_free, is_published}
-use Rattle.desk_core.specs.Delivering.{deliver_to, take_result, deck_leased, lost, given_back, stored, is_for, is_sound, same_decks, deliver_link, offer_object, publish, give_up_of}
-use Rattle.desk_core.specs.Steps.{answer, Steps}
-use Rattle.desk_core.specs.Runs.{History, Runs}
-use Rattle.desk_core.specs.Joins.OwnNames.{HaveOwnNames}
-use Rattle.desk_core.proofs.PlaceLaws.{fails-head, own-added}
 
 -- a deck in another form under its name
 keeps-name : (named : Bool) (form deck : DeskDeck) → form.name ≡ deck.name → (cond named form deck).name ≡ deck.name

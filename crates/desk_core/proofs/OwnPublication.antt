@@ -1,14 +1,6 @@
 -- What a desk publishes of its own decks is what their delivery publishes.
-use Rattle.std.proofs.Common.{◌≡◌, ◌∙◌, ℕ, ◌==◌, Bool, true, false, cond, not, Some, refl, sym, ap, eq-eqb}
-use Rattle.std.specs.List.{list_any}
-use Rattle.std.proofs.lemmas.Bool.{cond-false}
-use Rattle.desk_core.specs.Desks.{Desk, decks_of, is_leased, is_leased_at}
-use Rattle.desk_core.specs.Joins.Calls.{Stored, Published, Refused, Foreign, Stale}
-use Rattle.desk_core.specs.Answers.{Answer, answers}
-use Rattle.desk_core.specs.Claiming.{is_behind}
-use Rattle.desk_core.specs.Progress.{has_work}
-use Rattle.desk_core.specs.Delivering.{publish, deliver_link, own_publication, same_decks, unlinked}
-use Rattle.desk_core.proofs.Same.{same_decks-itself}
+use Rattle.std.{proofs.Common.{◌≡◌, ◌∙◌, ℕ, ◌==◌, Bool, true, false, cond, not, Some, refl, sym, ap, eq-eqb}, specs.List.list_any, proofs.lemmas.Bool.cond-false}
+use Rattle.desk_core.{specs.Desks.{Desk, decks_of, is_leased, is_leased_at}, specs.Joins.Calls.{Stored, Published, Refused, Foreign, Stale}, specs.Answers.{Answer, answers}, specs.Claiming.is_behind, specs.Progress.has_work, specs.Delivering.{publish, deliver_link, own_publication, same_decks, unlinked}, proofs.Same.same_decks-itself}
 
 -- the desks that two answers leave, each by the same test
 both : (test : Bool) (x y z w : Answer) → (test ≡ true → x.desk ≡ z.desk) → (test ≡ false → y.desk ≡ w.desk) → (cond test x y).desk ≡ (cond test z w).desk

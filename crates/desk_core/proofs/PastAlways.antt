@@ -1,17 +1,6 @@
 -- The past of each deck led to its cards, and its versions rise to the desk's, in every run.
 use Rattle.std.proofs.Common.{◌≡◌, ℕ, ◌+◌, ◌≤◌, List, length, Some, sym, subst, arith}
-use Rattle.desk_core.specs.Joins.Language.{Card}
-use Rattle.desk_core.specs.Led.{HaveLed, IsPastOf}
-use Rattle.desk_core.specs.Past.{Past}
-use Rattle.desk_core.specs.Desks.{Desk, DeskDeck, new_desk_at, is_named, deck_named}
-use Rattle.desk_core.specs.Earlier.{edits_behind}
-use Rattle.desk_core.specs.Carrying.{cards_of}
-use Rattle.desk_core.specs.Runs.{History, Runs}
-use Rattle.desk_core.proofs.CardCounts.{edited_by-few}
-use Rattle.desk_core.proofs.EachDeck.{OfDeck, IsKept, AllSo, so-through}
-use Rattle.desk_core.proofs.PastLaws.{past-begun, past-more, past-behind, backs-bring}
-use Rattle.desk_core.proofs.PastRises.{Rise, rise-later, rise-after}
-use Rattle.desk_core.proofs.TellingDecks.{found_told}
+use Rattle.desk_core.{specs.Joins.Language.Card, specs.Led.{HaveLed, IsPastOf}, specs.Past.Past, specs.Desks.{Desk, DeskDeck, new_desk_at, is_named, deck_named}, specs.Earlier.edits_behind, specs.Carrying.cards_of, specs.Runs.{History, Runs}, proofs.CardCounts.edited_by-few, proofs.EachDeck.{OfDeck, IsKept, AllSo, so-through}, proofs.PastLaws.{past-begun, past-more, past-behind, backs-bring}, proofs.PastRises.{Rise, rise-later, rise-after}, proofs.TellingDecks.found_told}
 
 -- cards, no more than a deck may have, to which a past led whose versions rise to this one
 pub record HasPast (version : ℕ) (cards : List Card) (past : Past) : Type 0 where

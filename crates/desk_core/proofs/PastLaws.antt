@@ -1,13 +1,7 @@
 -- Kept edits led to the cards of their deck: what takes them back applies there, and brings back the cards before them.
-use Rattle.std.proofs.Common.{◌≡◌, ℕ, zero, suc, ◌+◌, ◌≤◌, Bool, true, false, cond, List, [], ◌∷◌, ◌++◌, length, drop, nat_le, Option, Some, None, option_map, refl, sym, ap, ◌∙◌, subst}
-use Rattle.std.proofs.lemmas.List.Sums.{fold-append}
+use Rattle.std.proofs.{Common.{◌≡◌, ℕ, zero, suc, ◌+◌, ◌≤◌, Bool, true, false, cond, List, [], ◌∷◌, ◌++◌, length, drop, nat_le, Option, Some, None, option_map, refl, sym, ap, ◌∙◌, subst}, lemmas.List.Sums.fold-append}
 use Rattle.cards.proofs.FaultLaws.{edited-few}
-use Rattle.desk_core.specs.Joins.Language.{Card}
-use Rattle.desk_core.specs.Joins.Edits.{Edit, EditFault, fault_of, edited, edited_by, first_fault}
-use Rattle.desk_core.specs.Past.{Past, KeptEdit, with_edits, kept_edits, most_kept, without_oldest, trimmed, past_after, behind, backs_of}
-use Rattle.desk_core.specs.Led.{HaveLed, IsPastOf}
-use Rattle.desk_core.proofs.UndoLaws.{has-place, undo-made, undo-applies}
-use Rattle.desk_core.proofs.CardCounts.{first-applies}
+use Rattle.desk_core.{specs.Joins.Language.Card, specs.Joins.Edits.{Edit, EditFault, fault_of, edited, edited_by, first_fault}, specs.Past.{Past, KeptEdit, with_edits, kept_edits, most_kept, without_oldest, trimmed, past_after, behind, backs_of}, specs.Led.{HaveLed, IsPastOf}, proofs.UndoLaws.{has-place, undo-made, undo-applies}, proofs.CardCounts.first-applies}
 
 -- nothing led from cards to themselves
 pub past-begun : (cards : List Card) → length cards ≤ 20000 → IsPastOf [] cards

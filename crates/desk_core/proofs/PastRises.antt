@@ -1,12 +1,6 @@
 -- The versions of kept edits rise; and what was kept behind a version brings back the cards of that version, whatever edits come later.
-use Rattle.std.proofs.Common.{◌≡◌, ℕ, zero, suc, ◌+◌, ◌≤◌, ◌<◌, Bool, true, false, cond, nat_le, nat_lt, List, [], ◌∷◌, ◌++◌, length, take, drop, None, refl, sym, ap, ◌∙◌, arith}
-use Rattle.std.proofs.lemmas.Bool.{ltb-true, lt-ltb, false_from_ne_true}
-use Rattle.std.proofs.lemmas.List.Sums.{fold-append}
-use Rattle.desk_core.specs.Joins.Language.{Card}
-use Rattle.desk_core.specs.Joins.Edits.{Edit, edited, edited_by, first_fault}
-use Rattle.desk_core.specs.Past.{Past, KeptEdit, kept_edits, with_edits, most_kept, last_version, without_oldest, trimmed, past_after, behind, backs_of}
-use Rattle.desk_core.proofs.PastLaws.{led-kept, led-brings}
-use Rattle.desk_core.proofs.UndoTakesBack.{backs-append}
+use Rattle.std.proofs.{Common.{◌≡◌, ℕ, zero, suc, ◌+◌, ◌≤◌, ◌<◌, Bool, true, false, cond, nat_le, nat_lt, List, [], ◌∷◌, ◌++◌, length, take, drop, None, refl, sym, ap, ◌∙◌, arith}, lemmas.Bool.{ltb-true, lt-ltb, false_from_ne_true}, lemmas.List.Sums.fold-append}
+use Rattle.desk_core.{specs.Joins.Language.Card, specs.Joins.Edits.{Edit, edited, edited_by, first_fault}, specs.Past.{Past, KeptEdit, kept_edits, with_edits, most_kept, last_version, without_oldest, trimmed, past_after, behind, backs_of}, proofs.PastLaws.{led-kept, led-brings}, proofs.UndoTakesBack.backs-append}
 
 -- each edit is of the version of the one before it or a later one, the first of this version or a later one, the last of that version or an earlier one
 abbrev pub Rise : ℕ → ℕ → List KeptEdit → Type 0

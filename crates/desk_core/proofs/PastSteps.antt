@@ -1,15 +1,7 @@
 -- What is kept of a deck's changes, as two lists.
-use Rattle.std.proofs.Common.{◌≡◌, ℕ, zero, suc, ◌+◌, ◌-◌, ◌≤◌, ◌<◌, Bool, true, false, cond, not, List, [], ◌∷◌, ◌++◌, length, take, drop, get_or, Some, None, refl, sym, ap, ap₂, subst, ◌∙◌, arith, nat_lt, length-drop}
-use Rattle.std.specs.Prelude.{position}
-use Rattle.std.specs.List.{position_or_len}
-use Rattle.std.proofs.lemmas.Bool.{ltb-true, ltb-false}
+use Rattle.std.{proofs.Common.{◌≡◌, ℕ, zero, suc, ◌+◌, ◌-◌, ◌≤◌, ◌<◌, Bool, true, false, cond, not, List, [], ◌∷◌, ◌++◌, length, take, drop, get_or, Some, None, refl, sym, ap, ap₂, subst, ◌∙◌, arith, nat_lt, length-drop}, specs.Prelude.position, specs.List.position_or_len, proofs.lemmas.Bool.{ltb-true, ltb-false}}
 use Rattle.cards.specs.declared.carrying.MadeEdit.{MadeEdit}
-use Rattle.desk_core.specs.Joins.Language.{Card}
-use Rattle.desk_core.specs.Joins.Edits.{Edit, edited}
-use Rattle.desk_core.specs.declared.past.Back.{Back}
-use Rattle.desk_core.specs.Past.{KeptEdit, undo_of, kept_edits, last_version, behind, change_at, backs_of}
-use Rattle.desk_core.specs.Carrying.{made_in}
-use Rattle.desk_core.specs.Joins.Stored.{kept_both, made_edits, backs_made, backs_from}
+use Rattle.desk_core.specs.{Joins.Language.Card, Joins.Edits.{Edit, edited}, declared.past.Back.Back, Past.{KeptEdit, undo_of, kept_edits, last_version, behind, change_at, backs_of}, Carrying.made_in, Joins.Stored.{kept_both, made_edits, backs_made, backs_from}}
 
 -- two lists of one length, one behind the other
 pub kept-append : (made more : List MadeEdit) (backs others : List Back) → length backs ≡ length made → kept_both (made ++ more) (backs ++ others) ≡ kept_both made backs ++ kept_both more others

@@ -1,13 +1,6 @@
 -- Cards in pieces: what pieces hold of which one is cut, and what an edit of one piece makes of all cards.
-use Rattle.std.specs.Prelude.{insert, remove}
-use Rattle.std.proofs.Common.{◌≡◌, ℕ, zero, suc, ◌+◌, ◌-◌, ◌<◌, ◌≤◌, Bool, true, false, ◌&&◌, List, [], ◌∷◌, ◌++◌, length, take, drop, set, get_or, refl, sym, ap, ap₂, ◌∙◌, append_assoc, add-one, ne_eqb, length-append, ◌==◌, arith}
-use Rattle.std.proofs.lemmas.List.{set_split, set-append_left, set-append_right, take-append-drop, take-take, drop-take, drop-drop, length-drop, length-take-le, at_drop_more, get_or_append_left, get_or-append-add}
-use Rattle.std.proofs.lemmas.List.Concat.{flat_map-append}
-use Rattle.std.proofs.lemmas.List.Edits.{insert-append_left, insert-append_right, remove-append_left, remove-append_right}
-use Rattle.desk_core.specs.Joins.Language.{Card, same_text}
-use Rattle.desk_core.specs.Joins.Pieces.{joined, part, IsSpot, IsGap}
-use Rattle.desk_core.specs.Delivering.{same_cards}
-use Rattle.desk_core.proofs.DeliverDone.{other-cards}
+use Rattle.std.{specs.Prelude.{insert, remove}, proofs.Common.{◌≡◌, ℕ, zero, suc, ◌+◌, ◌-◌, ◌<◌, ◌≤◌, Bool, true, false, ◌&&◌, List, [], ◌∷◌, ◌++◌, length, take, drop, set, get_or, refl, sym, ap, ap₂, ◌∙◌, append_assoc, add-one, ne_eqb, length-append, ◌==◌, arith}, proofs.lemmas.List.{set_split, set-append_left, set-append_right, take-append-drop, take-take, drop-take, drop-drop, length-drop, length-take-le, at_drop_more, get_or_append_left, get_or-append-add}, proofs.lemmas.List.Concat.flat_map-append, proofs.lemmas.List.Edits.{insert-append_left, insert-append_right, remove-append_left, remove-append_right}}
+use Rattle.desk_core.{specs.Joins.Language.{Card, same_text}, specs.Joins.Pieces.{joined, part, IsSpot, IsGap}, specs.Delivering.same_cards, proofs.DeliverDone.other-cards}
 
 -- a part has as many cards as there are places between its ends
 pub part-length : (from until : ℕ) (cards : List Card) → until ≤ length cards → length (part from until cards) ≡ until - from

@@ -1,15 +1,6 @@
 -- A deck known by its place is the deck of its name.
-use Rattle.std.proofs.Common.{◌≡◌, ℕ, ◌<◌, ◌≤◌, nat_lt, suc, Bool, true, false, cond, not, List, [], ◌∷◌, ◌++◌, length, map, filter, find, remove, get_or, Option, Some, None, is_some, position, refl, sym, ap, ◌∙◌, subst, arith, zero, inl, inr}
-use Rattle.std.specs.Prelude.{slice_get, slice_set}
-use Rattle.std.specs.List.{AllByRecursion, position_or_len}
-use Rattle.std.proofs.lemmas.Bool.{cases_Bool, ltb-true, ltb-false}
-use Rattle.std.proofs.lemmas.List.Folds.{find_at}
-use Rattle.std.proofs.lemmas.Option.{slice_get-get_or}
-use Rattle.desk_core.specs.Joins.Language.{same_text}
-use Rattle.desk_core.specs.Desks.{DeskDeck, is_named, put_if_named}
-use Rattle.desk_core.specs.Joins.OwnNames.{HaveOwnNames, IsPlaceOf, with_at}
-use Rattle.desk_core.proofs.Same.{equal_texts, same_text-itself}
-use Rattle.desk_core.proofs.TellingDecks.{none_found, found_told}
+use Rattle.std.{proofs.Common.{◌≡◌, ℕ, ◌<◌, ◌≤◌, nat_lt, suc, Bool, true, false, cond, not, List, [], ◌∷◌, ◌++◌, length, map, filter, find, remove, get_or, Option, Some, None, is_some, position, refl, sym, ap, ◌∙◌, subst, arith, zero, inl, inr}, specs.Prelude.{slice_get, slice_set}, specs.List.{AllByRecursion, position_or_len}, proofs.lemmas.Bool.{cases_Bool, ltb-true, ltb-false}, proofs.lemmas.List.Folds.find_at, proofs.lemmas.Option.slice_get-get_or}
+use Rattle.desk_core.{specs.Joins.Language.same_text, specs.Desks.{DeskDeck, is_named, put_if_named}, specs.Joins.OwnNames.{HaveOwnNames, IsPlaceOf, with_at}, proofs.Same.{equal_texts, same_text-itself}, proofs.TellingDecks.{none_found, found_told}}
 
 -- texts that differ differ the other way round
 differ-both : (a b : List ℕ) → same_text a b ≡ false → same_text b a ≡ false

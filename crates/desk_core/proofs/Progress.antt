@@ -1,14 +1,6 @@
 -- A claim hands work out where no lease is out.
-use Rattle.std.proofs.Common.{◌≡◌, inl, inr, ℕ, Bool, true, false, not, ◌&&◌, ◌||◌, List, [], ◌∷◌, find, is_some, is_none, Option, Some, None, refl, sym, ap, ◌∙◌, subst}
-use Rattle.std.specs.List.{list_any}
-use Rattle.std.proofs.lemmas.Bool.{cond_both, cond-true, cond-false}
-use Rattle.desk_core.specs.Joins.Causes.{when}
-use Rattle.desk_core.specs.Desks.{Desk, DeskDeck, Lease, is_leased_at}
-use Rattle.desk_core.specs.Joins.Calls.{Claim, Reply, VersionsSpent}
-use Rattle.desk_core.specs.Answers.{Answer, unless}
-use Rattle.desk_core.specs.Claiming.{claim, claim_deck, claim_link, hand_out, hand_out_link, is_behind, is_free, is_published}
-use Rattle.desk_core.specs.Progress.{is_given, has_leases, has_work, hands_a_deck, hands_a_link}
-use Rattle.desk_core.specs.Steps.{Steps}
+use Rattle.std.{proofs.Common.{◌≡◌, inl, inr, ℕ, Bool, true, false, not, ◌&&◌, ◌||◌, List, [], ◌∷◌, find, is_some, is_none, Option, Some, None, refl, sym, ap, ◌∙◌, subst}, specs.List.list_any, proofs.lemmas.Bool.{cond_both, cond-true, cond-false}}
+use Rattle.desk_core.specs.{Joins.Causes.when, Desks.{Desk, DeskDeck, Lease, is_leased_at}, Joins.Calls.{Claim, Reply, VersionsSpent}, Answers.{Answer, unless}, Claiming.{claim, claim_deck, claim_link, hand_out, hand_out_link, is_behind, is_free, is_published}, Progress.{is_given, has_leases, has_work, hands_a_deck, hands_a_link}, Steps.Steps}
 
 -- neither holds
 pub neither : (a b : Bool) → (a || b) ≡ false → (a ≡ false) × (b ≡ false)

@@ -1,15 +1,7 @@
 -- The published version never falls.
 use Rattle.std.proofs.Common.{◌≡◌, ℕ, List, [], ◌∷◌, Some, ◌∙◌, subst, arith}
 use Rattle.turn_office.specs.Histories.{Leads}
-use Rattle.desk_core.specs.Changes.{Change}
-use Rattle.desk_core.specs.Desks.{Desk, Publication}
-use Rattle.desk_core.specs.Joins.Calls.{Call, Reply}
-use Rattle.desk_core.specs.Steps.{Steps}
-use Rattle.desk_core.specs.Runs.{History, Runs, changes_in, IsPublishedFrom}
-use Rattle.desk_core.proofs.Outcomes.{Outcome, by_staying, by_changing, by_publishing}
-use Rattle.desk_core.proofs.Publishing.{step_comes}
-use Rattle.desk_core.proofs.Told.{IsTold}
-use Rattle.desk_core.proofs.EveryRun.{NextTold, next_told, told_last}
+use Rattle.desk_core.{specs.Changes.Change, specs.Desks.{Desk, Publication}, specs.Joins.Calls.{Call, Reply}, specs.Steps.Steps, specs.Runs.{History, Runs, changes_in, IsPublishedFrom}, proofs.Outcomes.{Outcome, by_staying, by_changing, by_publishing}, proofs.Publishing.step_comes, proofs.Told.IsTold, proofs.EveryRun.{NextTold, next_told, told_last}}
 
 -- the same publication as before
 same_publication : (version : ℕ) (desk next : Desk) → next.publication ≡ desk.publication → IsPublishedFrom version desk → IsPublishedFrom version next

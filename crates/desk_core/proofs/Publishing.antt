@@ -1,17 +1,6 @@
 -- The call whose outcome may be a publication, and the outcome of each step.
-use Rattle.std.proofs.Common.{inl, inr, ℕ, ◌==◌, not, refl, eqb-true}
-use Rattle.std.specs.List.{list_any}
-use Rattle.std.proofs.lemmas.Bool.{cond_both, not-false}
-use Rattle.desk_core.specs.Desks.{Desk, Publication, decks_of, is_leased, is_leased_at}
-use Rattle.desk_core.specs.Joins.Calls.{Call, AddDeck, PutDeck, DropDeck, EditDeck, Batch, EditSince, BatchSince, Undo, Changes, CardsAt, Cards, Show, Status, Claim, DeliverDeck, DeliverLink, OfferObject, Publish, GiveUp, Reply, OutOfMemory}
-use Rattle.desk_core.specs.Joins.Language.{Deck}
-use Rattle.desk_core.specs.Claiming.{is_behind}
-use Rattle.desk_core.specs.Delivering.{deliver_link, take_link, same_decks, offer_object, publish, own_publication}
-use Rattle.desk_core.specs.Steps.{answer, Steps}
-use Rattle.desk_core.proofs.Same.{equal_lists}
-use Rattle.desk_core.proofs.Outcomes.{Outcome, Comes, by_publishing, refused_stays, either_comes}
-use Rattle.desk_core.proofs.Staying.{changes_stay, cards_at_stay, cards_stay, show_stays, status_stays, claim_stays, deliver_deck_stays, give_up_stays, unlinks, tells}
-use Rattle.desk_core.proofs.Accepting.{add_comes, put_comes, drop_comes, edit_comes, batch_comes, edit_since_comes, batch_since_comes, undo_comes}
+use Rattle.std.{proofs.Common.{inl, inr, ℕ, ◌==◌, not, refl, eqb-true}, specs.List.list_any, proofs.lemmas.Bool.{cond_both, not-false}}
+use Rattle.desk_core.{specs.Desks.{Desk, Publication, decks_of, is_leased, is_leased_at}, specs.Joins.Calls.{Call, AddDeck, PutDeck, DropDeck, EditDeck, Batch, EditSince, BatchSince, Undo, Changes, CardsAt, Cards, Show, Status, Claim, DeliverDeck, DeliverLink, OfferObject, Publish, GiveUp, Reply, OutOfMemory}, specs.Joins.Language.Deck, specs.Claiming.is_behind, specs.Delivering.{deliver_link, take_link, same_decks, offer_object, publish, own_publication}, specs.Steps.{answer, Steps}, proofs.Same.equal_lists, proofs.Outcomes.{Outcome, Comes, by_publishing, refused_stays, either_comes}, proofs.Staying.{changes_stay, cards_at_stay, cards_stay, show_stays, status_stays, claim_stays, deliver_deck_stays, give_up_stays, unlinks, tells}, proofs.Accepting.{add_comes, put_comes, drop_comes, edit_comes, batch_comes, edit_since_comes, batch_since_comes, undo_comes}}
 
 take_link_comes : (number : ℕ) (publication : Publication) (desk : Desk) → Comes desk (DeliverLink number publication) (take_link publication desk)
 take_link_comes number publication desk =

@@ -1,14 +1,7 @@
 -- Entries that mean nothing for records, and steps with such an entry.
-use Rattle.std.proofs.Common.{◌≡◌, ℕ, ◌<◌, ◌≤◌, Bool, List, ◌∷◌, filter, Some, None, refl, ap, ◌∙◌, arith}
-use Rattle.std.specs.List.{AllByRecursion}
-use Rattle.turn_office.specs.declared.history.Entry.{Entry}
-use Rattle.turn_office.specs.Histories.{entry}
-use Rattle.desk_core.specs.Desks.{Desk, DeskDeck}
-use Rattle.desk_core.specs.Joins.Calls.{Call, AddDeck, PutDeck, DropDeck, EditDeck, Batch, EditSince, BatchSince, Undo, Changes, CardsAt, Cards, Show, Status, Claim, DeliverDeck, DeliverLink, OfferObject, Publish, GiveUp, Reply, Refused, OutOfMemory}
-use Rattle.desk_core.specs.Runs.{History}
-use Rattle.desk_core.specs.Jobs.{identity_in, leased_in, Effect, Leaves, effect_on, after_effect, since_job}
-use Rattle.desk_core.proofs.JobsTold.{name_in, since_of, IsDeckTold, IsUnreached, IsDeskTold, IsLeaseTold, AddsNone, LeasesNone, meant_still, lease_told_still, deck_told_next}
-use Rattle.desk_core.proofs.TellingDecks.{all_weaker, all_filtered}
+use Rattle.std.{proofs.Common.{◌≡◌, ℕ, ◌<◌, ◌≤◌, Bool, List, ◌∷◌, filter, Some, None, refl, ap, ◌∙◌, arith}, specs.List.AllByRecursion}
+use Rattle.turn_office.specs.{declared.history.Entry.Entry, Histories.entry}
+use Rattle.desk_core.{specs.Desks.{Desk, DeskDeck}, specs.Joins.Calls.{Call, AddDeck, PutDeck, DropDeck, EditDeck, Batch, EditSince, BatchSince, Undo, Changes, CardsAt, Cards, Show, Status, Claim, DeliverDeck, DeliverLink, OfferObject, Publish, GiveUp, Reply, Refused, OutOfMemory}, specs.Runs.History, specs.Jobs.{identity_in, leased_in, Effect, Leaves, effect_on, after_effect, since_job}, proofs.JobsTold.{name_in, since_of, IsDeckTold, IsUnreached, IsDeskTold, IsLeaseTold, AddsNone, LeasesNone, meant_still, lease_told_still, deck_told_next}, proofs.TellingDecks.{all_weaker, all_filtered}}
 
 -- an entry that adds no deck, gives no lease that was given before, and leaves each record
 pub record IsQuiet (history : History) (leases : ℕ) (e : Entry Call Reply) : Type 0 where

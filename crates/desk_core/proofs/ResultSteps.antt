@@ -1,23 +1,7 @@
 -- What is stated of a desk after a call that ends a lease.
-use Rattle.std.proofs.Common.{◌≡◌, ℕ, ◌==◌, Bool, true, false, cond, not, ◌||◌, List, ◌∷◌, is_some, is_none, Option, Some, None, refl, sym, ap, ◌∙◌, arith, eqb-true}
-use Rattle.std.specs.List.{list_any}
-use Rattle.std.proofs.lemmas.Bool.{cond_both, or_parts}
-use Rattle.turn_office.specs.declared.history.Entry.{Entry}
-use Rattle.turn_office.specs.Histories.{entry}
-use Rattle.desk_core.specs.Joins.Language.{Deck}
-use Rattle.desk_core.specs.Joins.Edits.{Edit}
-use Rattle.desk_core.specs.Desks.{Desk, DeskDeck, Lease, Kept, Publication, decks_of, with_deck, is_leased, is_leased_at}
-use Rattle.desk_core.specs.Joins.Calls.{Call, DeliverDeck, DeliverLink, OfferObject, Publish, GiveUp, Done, Reply, Stored, Cleared, Refused, Stale, Foreign}
-use Rattle.desk_core.specs.Answers.{answers}
-use Rattle.desk_core.specs.Claiming.{is_behind}
-use Rattle.desk_core.specs.Delivering.{deliver_deck, deliver_to, take_result, deck_leased, lost, given_back, stored, is_for, is_sound, same_decks, deliver_link, offer_object, publish, give_up, give_up_of, unlinked}
-use Rattle.desk_core.specs.Runs.{History}
-use Rattle.desk_core.specs.Jobs.{deck_of_lease, Loses, Leaves, effect_if, since_job}
-use Rattle.desk_core.proofs.JobsTold.{since_of, IsLeaseTold, IsDeckTold, IsDeskTold}
-use Rattle.desk_core.proofs.TellingDecks.{found_told}
-use Rattle.desk_core.proofs.QuietSteps.{IsQuiet, quiet, told_unlinked}
-use Rattle.desk_core.proofs.TouchedSteps.{Touches, told_touched, leaves_each}
-use Rattle.desk_core.proofs.ChangeSteps.{Next, next_quiet}
+use Rattle.std.{proofs.Common.{◌≡◌, ℕ, ◌==◌, Bool, true, false, cond, not, ◌||◌, List, ◌∷◌, is_some, is_none, Option, Some, None, refl, sym, ap, ◌∙◌, arith, eqb-true}, specs.List.list_any, proofs.lemmas.Bool.{cond_both, or_parts}}
+use Rattle.turn_office.specs.{declared.history.Entry.Entry, Histories.entry}
+use Rattle.desk_core.{specs.Joins.Language.Deck, specs.Joins.Edits.Edit, specs.Desks.{Desk, DeskDeck, Lease, Kept, Publication, decks_of, with_deck, is_leased, is_leased_at}, specs.Joins.Calls.{Call, DeliverDeck, DeliverLink, OfferObject, Publish, GiveUp, Done, Reply, Stored, Cleared, Refused, Stale, Foreign}, specs.Answers.answers, specs.Claiming.is_behind, specs.Delivering.{deliver_deck, deliver_to, take_result, deck_leased, lost, given_back, stored, is_for, is_sound, same_decks, deliver_link, offer_object, publish, give_up, give_up_of, unlinked}, specs.Runs.History, specs.Jobs.{deck_of_lease, Loses, Leaves, effect_if, since_job}, proofs.JobsTold.{since_of, IsLeaseTold, IsDeckTold, IsDeskTold}, proofs.TellingDecks.found_told, proofs.QuietSteps.{IsQuiet, quiet, told_unlinked}, proofs.TouchedSteps.{Touches, told_touched, leaves_each}, proofs.ChangeSteps.{Next, next_quiet}}
 
 -- a lease that is out was given for what it is stated of
 leased_for : (history : History) (leases number : ℕ) (for : Option ℕ) (lease : Option Lease) → IsLeaseTold history leases for lease → is_leased number lease ≡ true → deck_of_lease number history ≡ for

@@ -1,15 +1,6 @@
 -- How many rounds a desk needs still: a measure over its decks and its link, and decks of which the one at a place has another form.
-use Rattle.std.proofs.Common.{◌≡◌, ℕ, zero, suc, ◌+◌, ◌*◌, ◌<◌, ◌≤◌, Bool, true, false, cond, not, ◌||◌, List, [], ◌∷◌, length, find, is_some, Option, Some, None, refl, sym, ap, ◌∙◌, arith}
-use Rattle.std.specs.Prelude.{slice_get, if◌then◌else◌}
-use Rattle.std.specs.List.{list_any, position_or_len}
-use Rattle.std.proofs.lemmas.Bool.{cond-true, cond-false}
-use Rattle.std.proofs.lemmas.List.Folds.{find_at}
-use Rattle.desk_core.specs.Desks.{Desk, DeskDeck, Kept, Lease, is_leased}
-use Rattle.desk_core.specs.Claiming.{is_behind, is_published}
-use Rattle.desk_core.specs.Joins.OwnNames.{with_at, has_lease}
-use Rattle.desk_core.specs.Progress.{is_given}
-use Rattle.desk_core.specs.Rounds.{most_rounds}
-use Rattle.desk_core.proofs.Progress.{neither}
+use Rattle.std.{proofs.Common.{◌≡◌, ℕ, zero, suc, ◌+◌, ◌*◌, ◌<◌, ◌≤◌, Bool, true, false, cond, not, ◌||◌, List, [], ◌∷◌, length, find, is_some, Option, Some, None, refl, sym, ap, ◌∙◌, arith}, specs.Prelude.{slice_get, if◌then◌else◌}, specs.List.{list_any, position_or_len}, proofs.lemmas.Bool.{cond-true, cond-false}, proofs.lemmas.List.Folds.find_at}
+use Rattle.desk_core.{specs.Desks.{Desk, DeskDeck, Kept, Lease, is_leased}, specs.Claiming.{is_behind, is_published}, specs.Joins.OwnNames.{with_at, has_lease}, specs.Progress.is_given, specs.Rounds.most_rounds, proofs.Progress.neither}
 
 -- how many rounds a deck needs at most: none with an object of its version, two with a record, which may be of other cards, and else one
 abbrev pub rounds_with : Bool → Option Kept → ℕ

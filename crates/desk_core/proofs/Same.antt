@@ -1,9 +1,7 @@
 -- Texts, cards and decks that are shown to be the same are equal.
-use Rattle.std.proofs.Common.{◌≡◌, ℕ, ◌==◌, true, List, [], ◌∷◌, refl, ap₂, eq-eqb}
-use Rattle.std.proofs.lemmas.Bool.{and_parts, and_from}
+use Rattle.std.proofs.{Common.{◌≡◌, ℕ, ◌==◌, true, List, [], ◌∷◌, refl, ap₂, eq-eqb}, lemmas.Bool.{and_parts, and_from}}
 use Rattle.definitions.proofs.TextLaws.{same_text-true}
-use Rattle.desk_core.specs.Joins.Language.{Card, Deck, same_text}
-use Rattle.desk_core.specs.Delivering.{same_cards, same_deck, same_decks}
+use Rattle.desk_core.specs.{Joins.Language.{Card, Deck, same_text}, Delivering.{same_cards, same_deck, same_decks}}
 
 -- texts that are shown to be the same
 pub equal_texts : (a b : List ℕ) → same_text a b ≡ true → a ≡ b

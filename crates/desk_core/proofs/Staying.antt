@@ -1,16 +1,6 @@
 -- Calls that leave all that is seen as it is: those that read, claim, bring a deck's result or give up.
-use Rattle.std.proofs.Common.{◌≡◌, ℕ, ◌==◌, false, not, ◌||◌, is_none, List, find, Option, Some, None, refl}
-use Rattle.std.specs.List.{list_any}
-use Rattle.desk_core.specs.Desks.{Desk, DeskDeck, Publication, deck_of, deck_named, with_deck, is_leased, is_leased_at}
-use Rattle.desk_core.specs.Joins.Calls.{Call, Changes, CardsAt, Cards, Show, Status, Claim, DeliverDeck, GiveUp, Done, Reply, NoDeck}
-use Rattle.desk_core.specs.Earlier.{against_since, changes_of, changes, cards_at_of, cards_at}
-use Rattle.desk_core.specs.Answers.{answers, against_next}
-use Rattle.desk_core.specs.Reading.{cards, cards_reply, show, show_reply, status}
-use Rattle.desk_core.specs.Claiming.{claim, claim_deck, claim_link, hand_out, hand_out_link, given, is_behind, is_free, is_published}
-use Rattle.desk_core.specs.Delivering.{deliver_deck, deliver_to, take_result, deck_leased, lost, given_back, stored, is_for, is_sound, give_up, give_up_of, unlinked}
-use Rattle.desk_core.specs.Runs.{accepts}
-use Rattle.desk_core.proofs.DecksSeen.{decks_of-kept}
-use Rattle.desk_core.proofs.Outcomes.{Comes, by_staying, unchanged_itself, refused_stays, either_comes, unless_comes}
+use Rattle.std.{proofs.Common.{◌≡◌, ℕ, ◌==◌, false, not, ◌||◌, is_none, List, find, Option, Some, None, refl}, specs.List.list_any}
+use Rattle.desk_core.{specs.Desks.{Desk, DeskDeck, Publication, deck_of, deck_named, with_deck, is_leased, is_leased_at}, specs.Joins.Calls.{Call, Changes, CardsAt, Cards, Show, Status, Claim, DeliverDeck, GiveUp, Done, Reply, NoDeck}, specs.Earlier.{against_since, changes_of, changes, cards_at_of, cards_at}, specs.Answers.{answers, against_next}, specs.Reading.{cards, cards_reply, show, show_reply, status}, specs.Claiming.{claim, claim_deck, claim_link, hand_out, hand_out_link, given, is_behind, is_free, is_published}, specs.Delivering.{deliver_deck, deliver_to, take_result, deck_leased, lost, given_back, stored, is_for, is_sound, give_up, give_up_of, unlinked}, specs.Runs.accepts, proofs.DecksSeen.decks_of-kept, proofs.Outcomes.{Comes, by_staying, unchanged_itself, refused_stays, either_comes, unless_comes}}
 
 -- a reply with the desk as it is
 pub tells : (desk : Desk) (call : Call) (reply : Reply) → accepts reply ≡ false → Comes desk call (answers reply desk)

@@ -1,6 +1,5 @@
 -- Lists of decks of which something is stated: found, filtered, put in another form, added to.
-use Rattle.std.proofs.Common.{◌≡◌, ℕ, Bool, true, false, cond, List, [], ◌∷◌, ◌++◌, map, filter, find, Option, Some, None, refl, subst}
-use Rattle.std.specs.List.{AllByRecursion}
+use Rattle.std.{proofs.Common.{◌≡◌, ℕ, Bool, true, false, cond, List, [], ◌∷◌, ◌++◌, map, filter, find, Option, Some, None, refl, subst}, specs.List.AllByRecursion}
 use Rattle.desk_core.specs.Desks.{DeskDeck, is_named, put_if_named}
 
 module _ {X : Type 0} where

@@ -1,14 +1,6 @@
 -- What the accepted changes show of a desk: its version, its cards, and its publication. Each step keeps it.
-use Rattle.std.proofs.Common.{◌≡◌, ℕ, ◌+◌, ◌-◌, ◌≤◌, List, [], ◌∷◌, ◌++◌, take, length, Some, sym, refl, ap, ◌∙◌, arith, length-append}
-use Rattle.std.proofs.lemmas.List.{take-append-le}
-use Rattle.std.proofs.lemmas.List.Sums.{fold-append}
-use Rattle.std.proofs.Math.Seq.{take-length}
-use Rattle.desk_core.specs.Joins.Language.{Deck}
-use Rattle.desk_core.specs.Changes.{Change, changed, decks_after}
-use Rattle.desk_core.specs.Desks.{Desk, Publication, new_desk_at, decks_of}
-use Rattle.desk_core.specs.Joins.Calls.{Call, Reply}
-use Rattle.desk_core.specs.Runs.{IsUnchanged}
-use Rattle.desk_core.proofs.Outcomes.{Changes, Publishes}
+use Rattle.std.proofs.{Common.{◌≡◌, ℕ, ◌+◌, ◌-◌, ◌≤◌, List, [], ◌∷◌, ◌++◌, take, length, Some, sym, refl, ap, ◌∙◌, arith, length-append}, lemmas.List.take-append-le, lemmas.List.Sums.fold-append, Math.Seq.take-length}
+use Rattle.desk_core.{specs.Joins.Language.Deck, specs.Changes.{Change, changed, decks_after}, specs.Desks.{Desk, Publication, new_desk_at, decks_of}, specs.Joins.Calls.{Call, Reply}, specs.Runs.IsUnchanged, proofs.Outcomes.{Changes, Publishes}}
 
 -- the version counts the changes, the cards are what they leave, and the publication is of what the first of them left
 pub record IsTold (begun : ℕ) (changes : List Change) (desk : Desk) : Type 0 where

@@ -1,12 +1,7 @@
 -- Steps that put one deck in another form, with an entry that means something for that deck alone.
 use Rattle.std.proofs.Common.{◌≡◌, ℕ, ◌<◌, ◌≤◌, ◌==◌, Bool, true, false, cond, List, ◌∷◌, map, Some, None, refl, ap, ◌∙◌, arith, eq-eqb, ne_eqb}
 use Rattle.turn_office.specs.declared.history.Entry.{Entry}
-use Rattle.desk_core.specs.Desks.{Desk, DeskDeck, put_if_named, is_named}
-use Rattle.desk_core.specs.Joins.Calls.{Call, Reply}
-use Rattle.desk_core.specs.Runs.{History}
-use Rattle.desk_core.specs.Jobs.{Effect, Leaves, effect_if, effect_on, after_effect, since_job}
-use Rattle.desk_core.proofs.JobsTold.{since_of, IsMeant, IsLeaseTold, IsDeckTold, IsUnreached, IsDeskTold, AddsNone, LeasesNone, meant_still, lease_told_still, same_meant, other_meant, deck_told_next}
-use Rattle.desk_core.proofs.TellingDecks.{all_put}
+use Rattle.desk_core.{specs.Desks.{Desk, DeskDeck, put_if_named, is_named}, specs.Joins.Calls.{Call, Reply}, specs.Runs.History, specs.Jobs.{Effect, Leaves, effect_if, effect_on, after_effect, since_job}, proofs.JobsTold.{since_of, IsMeant, IsLeaseTold, IsDeckTold, IsUnreached, IsDeskTold, AddsNone, LeasesNone, meant_still, lease_told_still, same_meant, other_meant, deck_told_next}, proofs.TellingDecks.all_put}
 
 -- an entry that adds no deck, gives no lease that was given before, and has this effect on one deck
 pub record Touches (history : History) (leases identity : ℕ) (effect : Effect) (e : Entry Call Reply) : Type 0 where

@@ -1,21 +1,6 @@
 -- What the code does to the deck at a place to take a change back is what the answer says of the deck of its name.
-use Rattle.std.proofs.Common.{◌≡◌, ◌≤◌, ℕ, List, [], ◌∷◌, length, Bool, true, false, not, nat_le, refl, arith, sym, ap, ◌∙◌, subst, inl, Option, Some, None}
-use Rattle.std.specs.Prelude.{slice_get}
-use Rattle.std.proofs.lemmas.Bool.{and_parts, leb-true}
-use Rattle.std.proofs.lemmas.List.{length-append}
-use Rattle.desk_core.specs.Joins.Causes.{when}
-use Rattle.desk_core.specs.Joins.Edits.{Edit}
-use Rattle.desk_core.specs.Desks.{Desk, DeskDeck, is_named}
-use Rattle.desk_core.specs.Joins.OwnNames.{IsPlaceOf}
-use Rattle.desk_core.specs.Joins.Calls.{Reply, Refused, Refusal, OldVersion, Forgotten, NoChange}
-use Rattle.desk_core.specs.Answers.{Answer, unless}
-use Rattle.desk_core.specs.Changing.{is_batch, most_edits}
-use Rattle.desk_core.specs.Carrying.{batch_since, batch_since_of}
-use Rattle.desk_core.specs.Undoing.{backs_at, against_change, undo, undo_where}
-use Rattle.desk_core.specs.Joins.Stored.{backs_from}
-use Rattle.desk_core.specs.declared.past.Back.{Back}
-use Rattle.desk_core.specs.Joins.Turns.{MayAnswer}
-use Rattle.desk_core.proofs.AnswerLaws.{told, head-clear}
+use Rattle.std.{proofs.Common.{◌≡◌, ◌≤◌, ℕ, List, [], ◌∷◌, length, Bool, true, false, not, nat_le, refl, arith, sym, ap, ◌∙◌, subst, inl, Option, Some, None}, specs.Prelude.slice_get, proofs.lemmas.Bool.{and_parts, leb-true}, proofs.lemmas.List.length-append}
+use Rattle.desk_core.{specs.Joins.Causes.when, specs.Joins.Edits.Edit, specs.Desks.{Desk, DeskDeck, is_named}, specs.Joins.OwnNames.IsPlaceOf, specs.Joins.Calls.{Reply, Refused, Refusal, OldVersion, Forgotten, NoChange}, specs.Answers.{Answer, unless}, specs.Changing.{is_batch, most_edits}, specs.Carrying.{batch_since, batch_since_of}, specs.Undoing.{backs_at, against_change, undo, undo_where}, specs.Joins.Stored.backs_from, specs.declared.past.Back.Back, specs.Joins.Turns.MayAnswer, proofs.AnswerLaws.{told, head-clear}}
 
 -- there are as many edits that take back as there are of what takes back
 pub backs-length : (backs : List Back) → length (backs_from backs) ≡ length backs

@@ -1,16 +1,7 @@
 -- What takes an edit back applies to what it leaves, and brings the cards back.
-use Rattle.std.specs.Prelude.{insert, remove}
-use Rattle.std.proofs.Common.{◌≡◌, ℕ, zero, suc, ◌+◌, ◌-◌, ◌≤◌, ◌<◌, Bool, true, false, not, nat_le, List, [], ◌∷◌, length, get_or, Option, Some, None, refl, ap, ◌∙◌, arith}
-use Rattle.std.proofs.Math.ListN.{set}
-use Rattle.std.proofs.lemmas.Bool.{leb-true, le-leb, false_from_ne_true, and_from}
-use Rattle.std.proofs.lemmas.List.{length-set, set-get_or}
-use Rattle.std.proofs.lemmas.List.Edits.{length-insert, length-remove}
-use Rattle.cards.proofs.FaultLaws.{have-places}
-use Rattle.cards.specs.Converging.{HasPlace}
-use Rattle.desk_core.specs.Joins.Language.{Card}
-use Rattle.desk_core.specs.Joins.Edits.{Edit, Insert, Replace, Remove, EditFault, NoSuchCard, DeckFull, fault_of, edited, is_place}
-use Rattle.desk_core.specs.Joins.Causes.{when, first_cause}
-use Rattle.desk_core.specs.Past.{undo_of}
+use Rattle.std.{specs.Prelude.{insert, remove}, proofs.Common.{◌≡◌, ℕ, zero, suc, ◌+◌, ◌-◌, ◌≤◌, ◌<◌, Bool, true, false, not, nat_le, List, [], ◌∷◌, length, get_or, Option, Some, None, refl, ap, ◌∙◌, arith}, proofs.Math.ListN.set, proofs.lemmas.Bool.{leb-true, le-leb, false_from_ne_true, and_from}, proofs.lemmas.List.{length-set, set-get_or}, proofs.lemmas.List.Edits.{length-insert, length-remove}}
+use Rattle.cards.{proofs.FaultLaws.have-places, specs.Converging.HasPlace}
+use Rattle.desk_core.specs.{Joins.Language.Card, Joins.Edits.{Edit, Insert, Replace, Remove, EditFault, NoSuchCard, DeckFull, fault_of, edited, is_place}, Joins.Causes.{when, first_cause}, Past.undo_of}
 
 pub insert-removed : {X : Type 0} (xs : List X) (i : ℕ) (y : X) → i < length xs → insert (remove xs i) i y ≡ set xs i y
 insert-removed [] i y within = absurd (omega (arith, within))

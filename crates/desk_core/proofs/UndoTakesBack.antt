@@ -1,22 +1,8 @@
 -- What takes a change back leads to the cards at the version before; and an undo of a deck's latest change makes it as it stands.
-use Rattle.std.proofs.Common.{◌≡◌, ℕ, zero, suc, ◌+◌, ◌-◌, ◌==◌, ◌≤◌, Bool, true, false, cond, List, [], ◌∷◌, ◌++◌, length, take, map, find, nat_lt, inl, inr, Option, Some, Result, Ok, Err, refl, sym, ap, ap₂, ◌∙◌, subst, arith, append_assoc, append-nil, eqb-true}
-use Rattle.std.proofs.lemmas.Bool.{ltb-true, ltb-false, false_from_ne_true, cond_both}
-use Rattle.std.proofs.lemmas.List.Sums.{fold-append}
-use Rattle.cards.specs.declared.carrying.Touched.{Touched}
-use Rattle.cards.specs.Carrying.{Whereabouts, seen_before, one_further, one_nearer, in_gap, carried_place, placed, in_front, stands_from, stands_after, carried}
-use Rattle.desk_core.specs.Joins.Language.{Card, same_text}
-use Rattle.desk_core.specs.Joins.Edits.{Edit, Insert, Replace, Remove, edited, edited_by}
-use Rattle.desk_core.specs.Past.{KeptEdit, behind, change_at, backs_of}
-use Rattle.desk_core.specs.Desks.{Desk, DeskDeck, is_named, deck_named, put_if_named}
-use Rattle.desk_core.specs.Joins.Calls.{Undo, Carried, Refused, OutOfMemory}
-use Rattle.desk_core.specs.Answers.{Answer}
-use Rattle.desk_core.specs.Changing.{edited_deck}
+use Rattle.std.proofs.{Common.{◌≡◌, ℕ, zero, suc, ◌+◌, ◌-◌, ◌==◌, ◌≤◌, Bool, true, false, cond, List, [], ◌∷◌, ◌++◌, length, take, map, find, nat_lt, inl, inr, Option, Some, Result, Ok, Err, refl, sym, ap, ap₂, ◌∙◌, subst, arith, append_assoc, append-nil, eqb-true}, lemmas.Bool.{ltb-true, ltb-false, false_from_ne_true, cond_both}, lemmas.List.Sums.fold-append}
+use Rattle.cards.specs.{declared.carrying.Touched.Touched, Carrying.{Whereabouts, seen_before, one_further, one_nearer, in_gap, carried_place, placed, in_front, stands_from, stands_after, carried}}
+use Rattle.desk_core.{specs.Joins.Language.{Card, same_text}, specs.Joins.Edits.{Edit, Insert, Replace, Remove, edited, edited_by}, specs.Past.{KeptEdit, behind, change_at, backs_of}, specs.Desks.{Desk, DeskDeck, is_named, deck_named, put_if_named}, specs.Joins.Calls.{Undo, Carried, Refused, OutOfMemory}, specs.Answers.Answer, specs.Changing.edited_deck, specs.Earlier.edits_behind, specs.Carrying.{made_in, cards_of, carried_since, against_carry, accept_carried, batch_since_of}, specs.Undoing.{backs_at, against_change, undo, undo_where}, specs.Steps.Steps, proofs.AnswerLaws.unrefused}
 use Rattle.desk_core.specs.Changing as changing
-use Rattle.desk_core.specs.Earlier.{edits_behind}
-use Rattle.desk_core.specs.Carrying.{made_in, cards_of, carried_since, against_carry, accept_carried, batch_since_of}
-use Rattle.desk_core.specs.Undoing.{backs_at, against_change, undo, undo_where}
-use Rattle.desk_core.specs.Steps.{Steps}
-use Rattle.desk_core.proofs.AnswerLaws.{unrefused}
 
 -- those behind a version are the last of all
 either-few : (b : Bool) (one : KeptEdit) (later rest : List KeptEdit) → length rest ≤ length later → length (cond b (one ∷ later) rest) ≤ suc (length later)

@@ -1,28 +1,9 @@
 -- An accepted change of edits, taken back at once: the deck has its cards again.
-use Rattle.std.proofs.Common.{◌≡◌, ℕ, ◌+◌, ◌-◌, ◌≤◌, ◌<◌, Bool, true, false, cond, not, nat_le, nat_lt, List, [], ◌∷◌, Option, Some, None, option_map, Result, Ok, Err, inl, inr, refl, sym, ap, ◌∙◌, subst, arith}
-use Rattle.std.proofs.lemmas.Bool.{leb-false}
+use Rattle.std.proofs.{Common.{◌≡◌, ℕ, ◌+◌, ◌-◌, ◌≤◌, ◌<◌, Bool, true, false, cond, not, nat_le, nat_lt, List, [], ◌∷◌, Option, Some, None, option_map, Result, Ok, Err, inl, inr, refl, sym, ap, ◌∙◌, subst, arith}, lemmas.Bool.leb-false}
 use Rattle.cards.specs.declared.carrying.Touched.{Touched}
 use Rattle.turn_office.specs.declared.history.Entry.{Entry}
-use Rattle.desk_core.specs.Joins.Edits.{Edit, fault_of, first_fault}
+use Rattle.desk_core.{specs.Joins.Edits.{Edit, fault_of, first_fault}, specs.Joins.Causes.when, specs.Changes.{Change, Edited}, specs.Past.{KeptEdit, backs_of}, specs.Desks.{Desk, DeskDeck, deck_named}, specs.Joins.Calls.{Call, AddDeck, PutDeck, DropDeck, EditDeck, Batch, EditSince, BatchSince, Undo, Changes, CardsAt, Cards, Show, Status, Claim, DeliverDeck, DeliverLink, OfferObject, Publish, GiveUp, Reply, Carried, Refused, Refusal, OutOfMemory, OldVersion, Forgotten, NoChange, BatchSize}, specs.Answers.{Answer, unless, against_next}, specs.Changing.{accepted, edited_deck, edited, against_seen, against_edit, against_batch, is_batch, refusal_of}, specs.Earlier.edits_behind, specs.Carrying.{cards_of, carried_since, against_carry, accept_carried, edit_since_of, batch_since_of, bad_edit, alone}, specs.Undoing.{backs_at, against_change, undo, undo_where}, specs.Steps.{answer, Steps}, specs.Runs.{History, Runs, accepts, carried_in, change_asked, change_in}, proofs.AnswerLaws.{unrefused, no-reason, head-clear, map-clear}, proofs.PastLaws.one-applies, proofs.CarryDone.carry-clear, proofs.PastAlways.{HasPast, past-named}, proofs.PastRises.{none-behind, rise-after, cards-after}, proofs.UndoTakesBack.{found-formed, latest_back}}
 use Rattle.desk_core.specs.Joins.Edits as cards
-use Rattle.desk_core.specs.Joins.Causes.{when}
-use Rattle.desk_core.specs.Changes.{Change, Edited}
-use Rattle.desk_core.specs.Past.{KeptEdit, backs_of}
-use Rattle.desk_core.specs.Desks.{Desk, DeskDeck, deck_named}
-use Rattle.desk_core.specs.Joins.Calls.{Call, AddDeck, PutDeck, DropDeck, EditDeck, Batch, EditSince, BatchSince, Undo, Changes, CardsAt, Cards, Show, Status, Claim, DeliverDeck, DeliverLink, OfferObject, Publish, GiveUp, Reply, Carried, Refused, Refusal, OutOfMemory, OldVersion, Forgotten, NoChange, BatchSize}
-use Rattle.desk_core.specs.Answers.{Answer, unless, against_next}
-use Rattle.desk_core.specs.Changing.{accepted, edited_deck, edited, against_seen, against_edit, against_batch, is_batch, refusal_of}
-use Rattle.desk_core.specs.Earlier.{edits_behind}
-use Rattle.desk_core.specs.Carrying.{cards_of, carried_since, against_carry, accept_carried, edit_since_of, batch_since_of, bad_edit, alone}
-use Rattle.desk_core.specs.Undoing.{backs_at, against_change, undo, undo_where}
-use Rattle.desk_core.specs.Steps.{answer, Steps}
-use Rattle.desk_core.specs.Runs.{History, Runs, accepts, carried_in, change_asked, change_in}
-use Rattle.desk_core.proofs.AnswerLaws.{unrefused, no-reason, head-clear, map-clear}
-use Rattle.desk_core.proofs.PastLaws.{one-applies}
-use Rattle.desk_core.proofs.CarryDone.{carry-clear}
-use Rattle.desk_core.proofs.PastAlways.{HasPast, past-named}
-use Rattle.desk_core.proofs.PastRises.{none-behind, rise-after, cards-after}
-use Rattle.desk_core.proofs.UndoTakesBack.{found-formed, latest_back}
 
 -- an answer that accepts is the one that nothing speaks against
 unless-accepted : (against : Option Refusal) (desk : Desk) (a : Answer) (reply : Reply) → reply ≡ (unless against desk a).reply → accepts reply ≡ true → (against ≡ None) × (unless against desk a ≡ a)

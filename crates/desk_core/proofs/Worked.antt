@@ -1,12 +1,7 @@
 -- What the worked histories share: calls made one after the other from a desk, with memory found each time.
 use Rattle.std.proofs.Common.{Some, ℕ, List, [], ◌∷◌, codes, refl, inl}
 use Rattle.turn_office.specs.Histories.{Leads, entry}
-use Rattle.desk_core.specs.Joins.Language.{Card, Deck}
-use Rattle.desk_core.specs.Joins.Edits.{Edit, Replace}
-use Rattle.desk_core.specs.Desks.{Desk, Kept, new_desk}
-use Rattle.desk_core.specs.Joins.Calls.{Call, EditDeck, DeliverDeck, Start, Reply, DeckJob}
-use Rattle.desk_core.specs.Steps.{answer, Steps}
-use Rattle.desk_core.specs.Runs.{History, Runs}
+use Rattle.desk_core.specs.{Joins.Language.{Card, Deck}, Joins.Edits.{Edit, Replace}, Desks.{Desk, Kept, new_desk}, Joins.Calls.{Call, EditDeck, DeliverDeck, Start, Reply, DeckJob}, Steps.{answer, Steps}, Runs.{History, Runs}}
 
 -- the replies, in order
 abbrev pub replies_to : List Call → Desk → List Reply

@@ -1,10 +1,7 @@
 -- Worked histories: edits that find their card.
 use Rattle.std.proofs.Common.{◌≡◌, [], ◌∷◌, codes, replicate, refl}
-use Rattle.desk_core.specs.Joins.Edits.{Insert, Replace, Remove, NoSuchCard, DeckFull}
-use Rattle.desk_core.specs.Desks.{Desk, new_desk}
-use Rattle.desk_core.specs.Joins.Calls.{AddDeck, EditDeck, Batch, EditSince, BatchSince, Cards, Changed, Carried, CardsAre, Refused, NoDeck, OldVersion, BatchSize, BadEdit, Forgotten, TouchedCard}
+use Rattle.desk_core.{specs.Joins.Edits.{Insert, Replace, Remove, NoSuchCard, DeckFull}, specs.Desks.{Desk, new_desk}, specs.Joins.Calls.{AddDeck, EditDeck, Batch, EditSince, BatchSince, Cards, Changed, Carried, CardsAre, Refused, NoDeck, OldVersion, BatchSize, BadEdit, Forgotten, TouchedCard}, proofs.Worked.{replies_to, desk_after, M, me, deck_m}}
 use Rattle.desk_core.specs.Joins.Calls as calls
-use Rattle.desk_core.proofs.Worked.{replies_to, desk_after, M, me, deck_m}
 
 -- the deck M with *ONE and *TWO at version 1; at 2 another puts *A in front
 abbrev at_two : Desk

@@ -1,12 +1,7 @@
 -- Worked histories: edits and batches, those that apply and those that are refused, and each limit.
-use Rattle.std.proofs.Common.{◌≡◌, ℕ, true, false, List, [], ◌∷◌, ◌++◌, replicate, map, codes, None, refl}
-use Rattle.std.specs.List.{range_with_len}
+use Rattle.std.{proofs.Common.{◌≡◌, ℕ, true, false, List, [], ◌∷◌, ◌++◌, replicate, map, codes, None, refl}, specs.List.range_with_len}
 use Rattle.desk_core.specs.Joins.Edits as E
-use Rattle.desk_core.specs.Past.{begun_at}
-use Rattle.desk_core.specs.Desks.{Desk, new_desk}
-use Rattle.desk_core.specs.Joins.Calls.{Call, AddDeck, DropDeck, EditDeck, Batch, Cards, Show, Status, Claim, GiveUp, Reply, Changed, StatusIs, Idle, AllOut, Cleared, NoPublication, CardsAre, Refused, NoSuchCard, DeckFull, NameTaken, NoDeck, OldVersion, TooManyDecks, VersionsSpent, BadEdit, BatchSize}
-use Rattle.desk_core.specs.Steps.{takes_memory}
-use Rattle.desk_core.proofs.Worked.{replies_to, desk_after, M, me, deck_m}
+use Rattle.desk_core.{specs.Past.begun_at, specs.Desks.{Desk, new_desk}, specs.Joins.Calls.{Call, AddDeck, DropDeck, EditDeck, Batch, Cards, Show, Status, Claim, GiveUp, Reply, Changed, StatusIs, Idle, AllOut, Cleared, NoPublication, CardsAre, Refused, NoSuchCard, DeckFull, NameTaken, NoDeck, OldVersion, TooManyDecks, VersionsSpent, BadEdit, BatchSize}, specs.Steps.takes_memory, proofs.Worked.{replies_to, desk_after, M, me, deck_m}}
 
 -- two people edit one deck: who has not seen the latest version is refused
 pub two_at_one_deck : replies_to (

@@ -1,9 +1,6 @@
 -- Worked histories: results that are not of the deck, and publications that are not of the desk.
 use Rattle.std.proofs.Common.{◌≡◌, ℕ, List, [], ◌∷◌, codes, Some, None, refl}
-use Rattle.desk_core.specs.Joins.Language.{Card, Deck}
-use Rattle.desk_core.specs.Desks.{Publication, new_desk}
-use Rattle.desk_core.specs.Joins.Calls.{Call, AddDeck, Claim, DeliverDeck, DeliverLink, FromCards, Reply, Changed, DeckJob, LinkJob, Idle, Stored, Refused, UnknownJob, Foreign}
-use Rattle.desk_core.proofs.Worked.{replies_to, M, deck_m, A, B}
+use Rattle.desk_core.{specs.Joins.Language.{Card, Deck}, specs.Desks.{Publication, new_desk}, specs.Joins.Calls.{Call, AddDeck, Claim, DeliverDeck, DeliverLink, FromCards, Reply, Changed, DeckJob, LinkJob, Idle, Stored, Refused, UnknownJob, Foreign}, proofs.Worked.{replies_to, M, deck_m, A, B}}
 
 -- a result for version 1 of M, under a lease: the cards that the record and the object are of
 abbrev result : ℕ → List Card → List Card → Call

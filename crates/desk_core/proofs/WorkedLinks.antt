@@ -1,10 +1,6 @@
 -- A worked history: links that come late, a link that ends an older one, and what is given up.
 use Rattle.std.proofs.Common.{◌≡◌, ℕ, List, [], ◌∷◌, codes, refl}
-use Rattle.desk_core.specs.Joins.Language.{Card}
-use Rattle.desk_core.specs.Joins.Edits.{Replace}
-use Rattle.desk_core.specs.Desks.{Publication, new_desk}
-use Rattle.desk_core.specs.Joins.Calls.{AddDeck, Show, Claim, DeliverLink, GiveUp, FromRecord, FromCards, Reply, Changed, Shown, LinkJob, AllOut, Stored, Cleared, Refused, NoPublication, UnknownJob, Stale}
-use Rattle.desk_core.proofs.Worked.{replies_to, deck_m, kept, result, job, A, B, replace}
+use Rattle.desk_core.{specs.Joins.Language.Card, specs.Joins.Edits.Replace, specs.Desks.{Publication, new_desk}, specs.Joins.Calls.{AddDeck, Show, Claim, DeliverLink, GiveUp, FromRecord, FromCards, Reply, Changed, Shown, LinkJob, AllOut, Stored, Cleared, Refused, NoPublication, UnknownJob, Stale}, proofs.Worked.{replies_to, deck_m, kept, result, job, A, B, replace}}
 
 -- a publication of M alone
 abbrev of_m : ℕ → List Card → Publication

@@ -1,11 +1,6 @@
 -- Worked histories: what is kept of a deck's changes, and the cards at earlier versions.
-use Rattle.std.proofs.Common.{◌≡◌, ℕ, List, [], ◌∷◌, map, codes, length, refl}
-use Rattle.std.specs.List.{range_with_len}
-use Rattle.desk_core.specs.Joins.Edits.{Edit, Insert, Replace, Remove, edited_by}
-use Rattle.desk_core.specs.Past.{Past, KeptEdit, past_after}
-use Rattle.desk_core.specs.Desks.{Desk, new_desk}
-use Rattle.desk_core.specs.Joins.Calls.{AddDeck, PutDeck, DropDeck, EditDeck, Batch, Changes, CardsAt, Changed, ChangesAre, CardsBefore, Refused, NoDeck, OldVersion, Forgotten}
-use Rattle.desk_core.proofs.Worked.{replies_to, desk_after, M, me, deck_m}
+use Rattle.std.{proofs.Common.{◌≡◌, ℕ, List, [], ◌∷◌, map, codes, length, refl}, specs.List.range_with_len}
+use Rattle.desk_core.{specs.Joins.Edits.{Edit, Insert, Replace, Remove, edited_by}, specs.Past.{Past, KeptEdit, past_after}, specs.Desks.{Desk, new_desk}, specs.Joins.Calls.{AddDeck, PutDeck, DropDeck, EditDeck, Batch, Changes, CardsAt, Changed, ChangesAre, CardsBefore, Refused, NoDeck, OldVersion, Forgotten}, proofs.Worked.{replies_to, desk_after, M, me, deck_m}}
 
 -- the name of another
 abbrev you : List ℕ

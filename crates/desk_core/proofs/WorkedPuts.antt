@@ -1,11 +1,6 @@
 -- Worked histories: decks that are put in the place of others.
 use Rattle.std.proofs.Common.{◌≡◌, List, [], ◌∷◌, replicate, codes, refl}
-use Rattle.desk_core.specs.Joins.Language.{Card, Deck}
-use Rattle.desk_core.specs.Joins.Edits.{Replace}
-use Rattle.desk_core.specs.Desks.{new_desk, decks_of}
-use Rattle.desk_core.specs.Joins.Calls.{AddDeck, PutDeck, DropDeck, Claim, FromRecord, FromCards, Changed, Stored, Refused, NoDeck, OldVersion, TooManyDecks, DeckFull, UnknownJob, VersionsSpent}
-use Rattle.desk_core.proofs.Worked.{replies_to, desk_after, M, deck_m, kept, result, job, A, B, C, replace}
-use Rattle.desk_core.proofs.WorkedChanges.{decks_from, worn}
+use Rattle.desk_core.{specs.Joins.Language.{Card, Deck}, specs.Joins.Edits.Replace, specs.Desks.{new_desk, decks_of}, specs.Joins.Calls.{AddDeck, PutDeck, DropDeck, Claim, FromRecord, FromCards, Changed, Stored, Refused, NoDeck, OldVersion, TooManyDecks, DeckFull, UnknownJob, VersionsSpent}, proofs.Worked.{replies_to, desk_after, M, deck_m, kept, result, job, A, B, C, replace}, proofs.WorkedChanges.{decks_from, worn}}
 
 -- the deck N
 abbrev deck_n : List Card → Deck

@@ -1,12 +1,6 @@
 -- Worked histories: results that come late, records that go back, a deck dropped and added anew, a desk without decks.
 use Rattle.std.proofs.Common.{◌≡◌, ℕ, List, [], ◌∷◌, ◌++◌, reverse, take, codes, Some, None, refl}
-use Rattle.desk_core.specs.Joins.Language.{listing_of, image_of}
-use Rattle.desk_core.specs.Joins.Edits.{Replace}
-use Rattle.desk_core.specs.Desks.{new_desk}
-use Rattle.desk_core.specs.Joins.Calls.{Call, AddDeck, DropDeck, Show, Status, Claim, DeliverLink, GiveUp, FromRecord, FromCards, Changed, Shown, StatusIs, LinkJob, Idle, AllOut, Stored, Cleared, Refused, NoPublication, UnknownJob, Stale, Foreign, Out, Behind, Ready}
-use Rattle.desk_core.specs.Runs.{History, decks_at}
-use Rattle.desk_core.specs.Jobs.{since_job, accepted_edits, handed_edits}
-use Rattle.desk_core.proofs.Worked.{replies_to, history_of, M, deck_m, kept, result, job, A, B, C, D, replace}
+use Rattle.desk_core.{specs.Joins.Language.{listing_of, image_of}, specs.Joins.Edits.Replace, specs.Desks.new_desk, specs.Joins.Calls.{Call, AddDeck, DropDeck, Show, Status, Claim, DeliverLink, GiveUp, FromRecord, FromCards, Changed, Shown, StatusIs, LinkJob, Idle, AllOut, Stored, Cleared, Refused, NoPublication, UnknownJob, Stale, Foreign, Out, Behind, Ready}, specs.Runs.{History, decks_at}, specs.Jobs.{since_job, accepted_edits, handed_edits}, proofs.Worked.{replies_to, history_of, M, deck_m, kept, result, job, A, B, C, D, replace}}
 
 -- a stale result gives its record back, and the next job carries it with the one edit
 pub late_result : replies_to (

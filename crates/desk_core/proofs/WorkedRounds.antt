@@ -1,11 +1,6 @@
 -- A worked desk: its rounds, where a record that came back late is of other cards.
 use Rattle.std.proofs.Common.{◌≡◌, [], ◌∷◌, codes, refl}
-use Rattle.desk_core.specs.Joins.Edits.{Replace}
-use Rattle.desk_core.specs.Desks.{Desk, new_desk}
-use Rattle.desk_core.specs.Joins.Calls.{AddDeck, Claim, FromRecord, FromCards, LinkJob, Idle}
-use Rattle.desk_core.specs.Steps.{answer}
-use Rattle.desk_core.specs.Rounds.{after_rounds, most_rounds}
-use Rattle.desk_core.proofs.Worked.{desk_after, deck_m, kept, result, job, A, B, C, replace}
+use Rattle.desk_core.{specs.Joins.Edits.Replace, specs.Desks.{Desk, new_desk}, specs.Joins.Calls.{AddDeck, Claim, FromRecord, FromCards, LinkJob, Idle}, specs.Steps.answer, specs.Rounds.{after_rounds, most_rounds}, proofs.Worked.{desk_after, deck_m, kept, result, job, A, B, C, replace}}
 
 -- M was edited while its job was out, and the result that came then has a record of two cards
 abbrev late : Desk

@@ -1,11 +1,6 @@
 -- Worked histories: changes that are taken back.
-use Rattle.std.proofs.Common.{◌≡◌, ℕ, false, List, [], ◌∷◌, codes, replicate, map, None, refl}
-use Rattle.std.specs.List.{range_with_len}
-use Rattle.desk_core.specs.Joins.Edits.{Insert, Replace, Remove, DeckFull}
-use Rattle.desk_core.specs.Past.{KeptEdit}
-use Rattle.desk_core.specs.Desks.{Desk, new_desk}
-use Rattle.desk_core.specs.Joins.Calls.{AddDeck, EditDeck, Batch, Undo, Cards, Changed, Carried, CardsAre, Refused, NoDeck, OldVersion, BadEdit, Forgotten, TouchedCard, NoChange, VersionsSpent}
-use Rattle.desk_core.proofs.Worked.{replies_to, desk_after, M, me, deck_m}
+use Rattle.std.{proofs.Common.{◌≡◌, ℕ, false, List, [], ◌∷◌, codes, replicate, map, None, refl}, specs.List.range_with_len}
+use Rattle.desk_core.{specs.Joins.Edits.{Insert, Replace, Remove, DeckFull}, specs.Past.KeptEdit, specs.Desks.{Desk, new_desk}, specs.Joins.Calls.{AddDeck, EditDeck, Batch, Undo, Cards, Changed, Carried, CardsAre, Refused, NoDeck, OldVersion, BadEdit, Forgotten, TouchedCard, NoChange, VersionsSpent}, proofs.Worked.{replies_to, desk_after, M, me, deck_m}}
 
 -- the deck M with *A and *B at version 1; a batch removes the first and replaces the second, and another puts *X in front
 abbrev at_three : Desk

@@ -1,8 +1,6 @@
 -- An answer of a desk: the reply, and the desk after it (ours).
 use Rattle.std.specs.Prelude.{ℕ, ◌+◌, nat_lt, Option, Some, None}
-use Rattle.desk_core.specs.Joins.Causes.{when}
-use Rattle.desk_core.specs.Desks.{Desk, greatest_number}
-use Rattle.desk_core.specs.Joins.Calls.{Reply, Refused, Refusal, VersionsSpent}
+use Rattle.desk_core.specs.{Joins.Causes.when, Desks.{Desk, greatest_number}, Joins.Calls.{Reply, Refused, Refusal, VersionsSpent}}
 
 -- the reply, and the desk after it
 pub record Answer : Type 0 where

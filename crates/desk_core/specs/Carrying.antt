@@ -1,17 +1,7 @@
 -- Calls with edits that find their card: EditSince, BatchSince (ours).
 use Rattle.std.specs.Prelude.{ℕ, ◌+◌, not, List, [], ◌∷◌, Option, Some, None, Result, Ok, Err, option_map}
-use Rattle.cards.specs.declared.carrying.MadeEdit.{MadeEdit}
-use Rattle.cards.specs.declared.carrying.Touched.{Touched}
-use Rattle.cards.specs.Carrying.{seen_before, carried}
-use Rattle.desk_core.specs.Joins.Language.{Card}
-use Rattle.desk_core.specs.Joins.Causes.{when, first_cause}
-use Rattle.desk_core.specs.Joins.Edits.{Edit, EditFault, edited_by, first_fault}
-use Rattle.desk_core.specs.Past.{KeptEdit, backs_of}
-use Rattle.desk_core.specs.Desks.{Desk, DeskDeck, deck_named}
-use Rattle.desk_core.specs.Joins.Calls.{Carried, Refused, Refusal, NoDeck, BatchSize, BadEdit, TouchedCard}
-use Rattle.desk_core.specs.Answers.{Answer, answers, unless, against_next}
-use Rattle.desk_core.specs.Changing.{refusal_of, is_batch, edited}
-use Rattle.desk_core.specs.Earlier.{against_since, edits_behind}
+use Rattle.cards.specs.{declared.carrying.MadeEdit.MadeEdit, declared.carrying.Touched.Touched, Carrying.{seen_before, carried}}
+use Rattle.desk_core.specs.{Joins.Language.Card, Joins.Causes.{when, first_cause}, Joins.Edits.{Edit, EditFault, edited_by, first_fault}, Past.{KeptEdit, backs_of}, Desks.{Desk, DeskDeck, deck_named}, Joins.Calls.{Carried, Refused, Refusal, NoDeck, BatchSize, BadEdit, TouchedCard}, Answers.{Answer, answers, unless, against_next}, Changing.{refusal_of, is_batch, edited}, Earlier.{against_since, edits_behind}}
 
 -- kept edits, as those that were made
 abbrev pub made_in : List KeptEdit → List MadeEdit

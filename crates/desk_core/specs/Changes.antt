@@ -1,8 +1,6 @@
 -- Changes of decks, and the decks that a list of changes leaves (ours).
-use Rattle.std.specs.Prelude.{ℕ, not, List, [], ◌∷◌, ◌++◌, map, filter, fold, if◌then◌else◌}
-use Rattle.std.specs.List.{list_any}
-use Rattle.desk_core.specs.Joins.Language.{Deck, same_text}
-use Rattle.desk_core.specs.Joins.Edits.{Edit, edited_by}
+use Rattle.std.specs.{Prelude.{ℕ, not, List, [], ◌∷◌, ◌++◌, map, filter, fold, if◌then◌else◌}, List.list_any}
+use Rattle.desk_core.specs.Joins.{Language.{Deck, same_text}, Edits.{Edit, edited_by}}
 
 -- a deck is added at the end, the deck of a name is dropped, or it is edited: one edit, or several in order; or a deck is put in the place of the one of its name, at the end where there is none
 pub data Change : Type 0 where

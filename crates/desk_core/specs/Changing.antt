@@ -1,12 +1,7 @@
 -- Calls that change decks: Add, PutDeck, DropDeck, an edit, a Batch (ours).
 use Rattle.std.specs.Prelude.{ℕ, ◌+◌, ◌==◌, Bool, false, not, ◌&&◌, ◌||◌, nat_le, nat_lt, List, [], ◌∷◌, ◌++◌, length, filter, is_some, Option, Some, None, option_map, if◌then◌else◌}
-use Rattle.desk_core.specs.Joins.Language.{Card, Deck}
-use Rattle.desk_core.specs.Joins.Causes.{when, first_cause}
+use Rattle.desk_core.specs.{Joins.Language.{Card, Deck}, Joins.Causes.{when, first_cause}, Past.{begun_at, past_after}, Desks.{Desk, DeskDeck, most_decks, is_named, deck_named, with_deck}, Joins.Calls.{Changed, Refusal, NoSuchCard, DeckFull, NameTaken, NoDeck, OldVersion, TooManyDecks, BadEdit, BatchSize}, Answers.{Answer, answers, unless, against_next}}
 use Rattle.desk_core.specs.Joins.Edits as E
-use Rattle.desk_core.specs.Past.{begun_at, past_after}
-use Rattle.desk_core.specs.Desks.{Desk, DeskDeck, most_decks, is_named, deck_named, with_deck}
-use Rattle.desk_core.specs.Joins.Calls.{Changed, Refusal, NoSuchCard, DeckFull, NameTaken, NoDeck, OldVersion, TooManyDecks, BadEdit, BatchSize}
-use Rattle.desk_core.specs.Answers.{Answer, answers, unless, against_next}
 
 -- what speaks against a change by who has seen this version: it is not the deck's present one
 abbrev pub against_seen : ℕ → DeskDeck → Option Refusal

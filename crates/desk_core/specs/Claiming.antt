@@ -1,10 +1,6 @@
 -- Claim: what is due next (ours).
-use Rattle.std.specs.Prelude.{ℕ, ◌+◌, ◌==◌, Bool, false, not, ◌&&◌, List, [], find, is_none, Option, Some, None, if◌then◌else◌}
-use Rattle.std.specs.List.{list_any}
-use Rattle.desk_core.specs.Joins.Edits.{Edit}
-use Rattle.desk_core.specs.Desks.{Desk, DeskDeck, Kept, Publication, is_leased_at, decks_of, with_deck}
-use Rattle.desk_core.specs.Joins.Calls.{Start, FromRecord, FromCards, DeckWork, DeckJob, LinkJob, Idle, AllOut}
-use Rattle.desk_core.specs.Answers.{Answer, answers, unless, against_next}
+use Rattle.std.specs.{Prelude.{ℕ, ◌+◌, ◌==◌, Bool, false, not, ◌&&◌, List, [], find, is_none, Option, Some, None, if◌then◌else◌}, List.list_any}
+use Rattle.desk_core.specs.{Joins.Edits.Edit, Desks.{Desk, DeskDeck, Kept, Publication, is_leased_at, decks_of, with_deck}, Joins.Calls.{Start, FromRecord, FromCards, DeckWork, DeckJob, LinkJob, Idle, AllOut}, Answers.{Answer, answers, unless, against_next}}
 
 -- a deck without an object of its version is behind
 abbrev pub is_behind : DeskDeck → Bool

@@ -1,11 +1,6 @@
 -- Calls that end a lease: DeliverDeck, DeliverLink, Publish, GiveUp; and OfferObject, which comes before Publish (ours).
-use Rattle.std.specs.Prelude.{ℕ, ◌==◌, Bool, true, false, not, ◌&&◌, ◌||◌, List, [], ◌∷◌, find, is_none, Option, Some, None, if◌then◌else◌}
-use Rattle.std.specs.List.{list_any}
-use Rattle.desk_core.specs.Joins.Language.{Card, Deck, same_text}
-use Rattle.desk_core.specs.Desks.{Desk, DeskDeck, Kept, Publication, is_leased, is_leased_at, deck_of, decks_of, with_deck}
-use Rattle.desk_core.specs.Joins.Calls.{Done, Stored, Considered, Published, Cleared, Refused, UnknownJob, Stale, Foreign}
-use Rattle.desk_core.specs.Answers.{Answer, answers}
-use Rattle.desk_core.specs.Claiming.{is_behind}
+use Rattle.std.specs.{Prelude.{ℕ, ◌==◌, Bool, true, false, not, ◌&&◌, ◌||◌, List, [], ◌∷◌, find, is_none, Option, Some, None, if◌then◌else◌}, List.list_any}
+use Rattle.desk_core.specs.{Joins.Language.{Card, Deck, same_text}, Desks.{Desk, DeskDeck, Kept, Publication, is_leased, is_leased_at, deck_of, decks_of, with_deck}, Joins.Calls.{Done, Stored, Considered, Published, Cleared, Refused, UnknownJob, Stale, Foreign}, Answers.{Answer, answers}, Claiming.is_behind}
 
 -- whether cards are the same, one by one
 abbrev pub same_cards : List Card → List Card → Bool

@@ -1,8 +1,6 @@
 -- What contracts see of a desk (ours).
 use Rattle.std.specs.Prelude.{ℕ, ◌==◌, Bool, false, List, [], map, find, Option, Some, None, if◌then◌else◌}
-use Rattle.desk_core.specs.Joins.Language.{Card, Deck, same_text}
-use Rattle.desk_core.specs.Joins.Edits.{Edit}
-use Rattle.desk_core.specs.Past.{Past}
+use Rattle.desk_core.specs.{Joins.Language.{Card, Deck, same_text}, Joins.Edits.Edit, Past.Past}
 pub use Rattle.desk_core.specs.declared.leases.Lease.{Lease}
 
 -- a record that an assembler keeps from edit to edit: the deck that it is of

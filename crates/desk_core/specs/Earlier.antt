@@ -1,10 +1,6 @@
 -- Calls that read what is kept of a deck's changes: Changes, CardsAt (ours).
 use Rattle.std.specs.Prelude.{ℕ, nat_lt, List, [], ◌∷◌, Option, Some, None}
-use Rattle.desk_core.specs.Joins.Causes.{when, first_cause}
-use Rattle.desk_core.specs.Past.{KeptEdit, behind, backs_of}
-use Rattle.desk_core.specs.Desks.{Desk, DeskDeck, deck_named}
-use Rattle.desk_core.specs.Joins.Calls.{ChangesAre, CardsBefore, Refused, Refusal, NoDeck, OldVersion, Forgotten}
-use Rattle.desk_core.specs.Answers.{Answer, answers, unless}
+use Rattle.desk_core.specs.{Joins.Causes.{when, first_cause}, Past.{KeptEdit, behind, backs_of}, Desks.{Desk, DeskDeck, deck_named}, Joins.Calls.{ChangesAre, CardsBefore, Refused, Refusal, NoDeck, OldVersion, Forgotten}, Answers.{Answer, answers, unless}}
 
 -- what speaks against what is asked of a deck from a version on: it did not come to that version yet, or not all of its changes behind it are kept
 abbrev pub against_since : ℕ → DeskDeck → Option Refusal

@@ -1,10 +1,6 @@
 -- Which edits a deck job has to carry, known by the history before it (ours). Histories are read newest first here.
-use Rattle.std.specs.Prelude.{◌≡◌, ◌⊎◌, ⊤, ℕ, ◌==◌, List, [], ◌∷◌, ◌++◌, Option, Some, None, option_map, unwrap_or, if◌then◌else◌}
-use Rattle.std.specs.Option.{option_or}
-use Rattle.desk_core.specs.Joins.Language.{same_text}
-use Rattle.desk_core.specs.Joins.Edits.{Edit}
-use Rattle.desk_core.specs.Joins.Calls.{Call, AddDeck, PutDeck, EditDeck, Batch, EditSince, BatchSince, Undo, Claim, DeliverDeck, GiveUp, Reply, Changed, Carried, DeckJob, LinkJob, Cleared, Refused, Foreign, DeckWork, Start, FromRecord, FromCards}
-use Rattle.desk_core.specs.Runs.{History}
+use Rattle.std.specs.{Prelude.{◌≡◌, ◌⊎◌, ⊤, ℕ, ◌==◌, List, [], ◌∷◌, ◌++◌, Option, Some, None, option_map, unwrap_or, if◌then◌else◌}, Option.option_or}
+use Rattle.desk_core.specs.{Joins.Language.same_text, Joins.Edits.Edit, Joins.Calls.{Call, AddDeck, PutDeck, EditDeck, Batch, EditSince, BatchSince, Undo, Claim, DeliverDeck, GiveUp, Reply, Changed, Carried, DeckJob, LinkJob, Cleared, Refused, Foreign, DeckWork, Start, FromRecord, FromCards}, Runs.History}
 
 -- the identity that an entry gives to a deck of this name where it adds or puts one: the version that it makes
 abbrev pub identity_in : List ℕ → Call → Reply → Option ℕ

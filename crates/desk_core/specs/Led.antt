@@ -1,8 +1,6 @@
 -- Kept edits that led from some cards to others (ours).
 use Rattle.std.specs.Prelude.{◌≡◌, ◌≤◌, List, [], ◌∷◌, length, None}
-use Rattle.desk_core.specs.Joins.Language.{Card}
-use Rattle.desk_core.specs.Joins.Edits.{most_cards, fault_of, edited}
-use Rattle.desk_core.specs.Past.{KeptEdit, undo_of}
+use Rattle.desk_core.specs.{Joins.Language.Card, Joins.Edits.{most_cards, fault_of, edited}, Past.{KeptEdit, undo_of}}
 
 -- from these cards the edits led to those: each applied to what the ones before it left, and is kept with what takes it back from there
 abbrev pub HaveLed : List Card → List KeptEdit → List Card → Type 0

@@ -1,8 +1,6 @@
 -- What a deck job makes (ours).
 use Rattle.std.specs.Prelude.{ℕ, List, Some}
-use Rattle.desk_core.specs.Joins.Language.{Card, Deck}
-use Rattle.desk_core.specs.Joins.Edits.{Edit, edited_by}
-use Rattle.desk_core.specs.Joins.Calls.{Done, Start, FromRecord, FromCards, DeckWork}
+use Rattle.desk_core.specs.Joins.{Language.{Card, Deck}, Edits.{Edit, edited_by}, Calls.{Done, Start, FromRecord, FromCards, DeckWork}}
 
 -- the deck of a job's start: that of the record, or the cards under the name that the job has
 abbrev pub start_deck : List ℕ → Start → Deck

@@ -1,7 +1,6 @@
 -- The changes of a deck that are kept (ours).
 use Rattle.std.specs.Prelude.{ℕ, ◌-◌, nat_le, nat_lt, List, [], ◌∷◌, ◌++◌, length, take, drop, get_or, if◌then◌else◌}
-use Rattle.desk_core.specs.Joins.Language.{Card}
-use Rattle.desk_core.specs.Joins.Edits.{Edit, Insert, Replace, Remove, edited}
+use Rattle.desk_core.specs.Joins.{Language.Card, Edits.{Edit, Insert, Replace, Remove, edited}}
 pub use Rattle.desk_core.specs.declared.past.KeptEdit.{KeptEdit}
 
 -- a deck's past: the version behind which all its changes are kept, and their edits, oldest first; edits of that version or an older one in front of them are no more than a rest

@@ -1,9 +1,6 @@
 -- Whether a desk hands its work out (ours).
-use Rattle.std.specs.Prelude.{Bool, true, false, ◌||◌, is_some}
-use Rattle.std.specs.List.{list_any}
-use Rattle.desk_core.specs.Desks.{Desk, DeskDeck}
-use Rattle.desk_core.specs.Joins.Calls.{Reply, DeckJob, LinkJob, Idle, Refused, OutOfMemory, VersionsSpent}
-use Rattle.desk_core.specs.Claiming.{is_behind}
+use Rattle.std.specs.{Prelude.{Bool, true, false, ◌||◌, is_some}, List.list_any}
+use Rattle.desk_core.specs.{Desks.{Desk, DeskDeck}, Joins.Calls.{Reply, DeckJob, LinkJob, Idle, Refused, OutOfMemory, VersionsSpent}, Claiming.is_behind}
 
 -- whether a deck is given to somebody
 abbrev pub is_given : DeskDeck → Bool

@@ -1,9 +1,7 @@
 -- Calls that read a desk: Cards, Show, Status (ours).
 use Rattle.std.specs.Prelude.{ℕ, List, map, length, is_some, Option, Some, None, option_map, if◌then◌else◌}
 use Rattle.deck_listing.specs.DecksBehind.{decks_behind}
-use Rattle.desk_core.specs.Desks.{Desk, DeskDeck, Publication, deck_named, deck_of}
-use Rattle.desk_core.specs.Joins.Calls.{Reply, CardsAre, Shown, StatusIs, Refused, NoDeck, NoPublication, Row, State, Out, Behind, Ready}
-use Rattle.desk_core.specs.Answers.{Answer, answers}
+use Rattle.desk_core.specs.{Desks.{Desk, DeskDeck, Publication, deck_named, deck_of}, Joins.Calls.{Reply, CardsAre, Shown, StatusIs, Refused, NoDeck, NoPublication, Row, State, Out, Behind, Ready}, Answers.{Answer, answers}}
 
 -- version and cards of a deck
 abbrev pub cards_reply : Option DeskDeck → Reply

@@ -1,10 +1,6 @@
 -- Rounds of work, each a claim and the call that ends the job that it gives, where memory is found (ours).
 use Rattle.std.specs.Prelude.{ℕ, zero, suc, ◌+◌, ◌*◌, length, is_none, if◌then◌else◌}
-use Rattle.desk_core.specs.Joins.Edits.{first_fault}
-use Rattle.desk_core.specs.Desks.{Desk}
-use Rattle.desk_core.specs.Joins.Calls.{Call, Claim, DeliverDeck, DeliverLink, GiveUp, DeckWork, LinkWork, Reply, DeckJob, LinkJob}
-use Rattle.desk_core.specs.Making.{start_cards, done_of}
-use Rattle.desk_core.specs.Steps.{answer}
+use Rattle.desk_core.specs.{Joins.Edits.first_fault, Desks.Desk, Joins.Calls.{Call, Claim, DeliverDeck, DeliverLink, GiveUp, DeckWork, LinkWork, Reply, DeckJob, LinkJob}, Making.{start_cards, done_of}, Steps.answer}
 
 -- the call that ends a deck job: what it makes is delivered; or it is given up, where one of its edits does not apply
 abbrev pub end_of_deck : DeckWork → Call

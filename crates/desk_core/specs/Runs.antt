@@ -1,18 +1,8 @@
 -- Runs of a desk: legal histories from a new one, the changes that they accepted, and what is promised of them (ours).
 use Rattle.std.specs.Prelude.{◌≡◌, ℕ, ◌+◌, ◌-◌, ◌≤◌, Bool, true, false, List, [], ◌∷◌, take, length, filter_map, Option, Some, None, option_map, if◌then◌else◌}
 use Rattle.cards.specs.Converging.{edits_in, Converge}
-use Rattle.turn_office.specs.declared.history.Entry.{Entry}
-use Rattle.turn_office.specs.Histories.{Leads}
-use Rattle.desk_core.specs.Joins.Language.{Card, Deck, same_text, listing_of, image_of}
-use Rattle.desk_core.specs.Joins.Edits.{Edit}
-use Rattle.desk_core.specs.Changes.{Change, Added, Dropped, Edited, Put, decks_after}
-use Rattle.desk_core.specs.Past.{KeptEdit}
-use Rattle.desk_core.specs.Led.{HaveLed}
-use Rattle.desk_core.specs.Desks.{Desk, DeskDeck, Publication, new_desk_at, decks_of, deck_named}
-use Rattle.desk_core.specs.Joins.Calls.{Call, AddDeck, PutDeck, DropDeck, EditDeck, Batch, EditSince, BatchSince, Undo, Reply, Changed, Carried}
-use Rattle.desk_core.specs.Earlier.{edits_behind}
-use Rattle.desk_core.specs.Carrying.{made_in, cards_of}
-use Rattle.desk_core.specs.Steps.{Steps}
+use Rattle.turn_office.specs.{declared.history.Entry.Entry, Histories.Leads}
+use Rattle.desk_core.specs.{Joins.Language.{Card, Deck, same_text, listing_of, image_of}, Joins.Edits.Edit, Changes.{Change, Added, Dropped, Edited, Put, decks_after}, Past.KeptEdit, Led.HaveLed, Desks.{Desk, DeskDeck, Publication, new_desk_at, decks_of, deck_named}, Joins.Calls.{Call, AddDeck, PutDeck, DropDeck, EditDeck, Batch, EditSince, BatchSince, Undo, Reply, Changed, Carried}, Earlier.edits_behind, Carrying.{made_in, cards_of}, Steps.Steps}
 
 -- calls with their replies, oldest first
 abbrev pub History : Type 0

@@ -1,15 +1,6 @@
 -- The step of a desk (ours): a function of the call and the desk, and one free choice.
 use Rattle.std.specs.Prelude.{◌≡◌, ◌⊎◌, Bool, true, false, not, ◌&&◌, IsTrue}
-use Rattle.desk_core.specs.Desks.{Desk}
-use Rattle.desk_core.specs.Joins.Calls.{Call, AddDeck, PutDeck, DropDeck, EditDeck, Batch, EditSince, BatchSince, Undo, Changes, CardsAt, Cards, Show, Status, Claim, DeliverDeck, DeliverLink, OfferObject, Publish, GiveUp, Reply, Changed, Carried, CardsAre, ChangesAre, CardsBefore, Shown, StatusIs, DeckJob, LinkJob, Published, Refused, OutOfMemory}
-use Rattle.desk_core.specs.Answers.{Answer}
-use Rattle.desk_core.specs.Changing.{add_deck, put_deck, drop_deck, edit_deck, batch}
-use Rattle.desk_core.specs.Reading.{cards, show, status}
-use Rattle.desk_core.specs.Earlier.{changes, cards_at}
-use Rattle.desk_core.specs.Carrying.{edit_since, batch_since}
-use Rattle.desk_core.specs.Undoing.{undo}
-use Rattle.desk_core.specs.Claiming.{claim}
-use Rattle.desk_core.specs.Delivering.{deliver_deck, deliver_link, offer_object, publish, give_up}
+use Rattle.desk_core.specs.{Desks.Desk, Joins.Calls.{Call, AddDeck, PutDeck, DropDeck, EditDeck, Batch, EditSince, BatchSince, Undo, Changes, CardsAt, Cards, Show, Status, Claim, DeliverDeck, DeliverLink, OfferObject, Publish, GiveUp, Reply, Changed, Carried, CardsAre, ChangesAre, CardsBefore, Shown, StatusIs, DeckJob, LinkJob, Published, Refused, OutOfMemory}, Answers.Answer, Changing.{add_deck, put_deck, drop_deck, edit_deck, batch}, Reading.{cards, show, status}, Earlier.{changes, cards_at}, Carrying.{edit_since, batch_since}, Undoing.undo, Claiming.claim, Delivering.{deliver_deck, deliver_link, offer_object, publish, give_up}}
 
 -- the answer of a desk to a call, where memory is found
 abbrev pub answer : Call → Desk → Answer

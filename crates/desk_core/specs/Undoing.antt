@@ -1,13 +1,6 @@
 -- A call that takes a change back: Undo (ours).
 use Rattle.std.specs.Prelude.{ℕ, not, nat_le, nat_lt, List, [], ◌∷◌, Option, Some, None}
-use Rattle.desk_core.specs.Joins.Causes.{when, first_cause}
-use Rattle.desk_core.specs.Joins.Edits.{Edit}
-use Rattle.desk_core.specs.Past.{change_at, backs_of}
-use Rattle.desk_core.specs.Desks.{Desk, DeskDeck, deck_named}
-use Rattle.desk_core.specs.Joins.Calls.{Refused, Refusal, NoDeck, OldVersion, Forgotten, NoChange}
-use Rattle.desk_core.specs.Answers.{Answer, answers, unless}
-use Rattle.desk_core.specs.Changing.{is_batch}
-use Rattle.desk_core.specs.Carrying.{batch_since_of}
+use Rattle.desk_core.specs.{Joins.Causes.{when, first_cause}, Joins.Edits.Edit, Past.{change_at, backs_of}, Desks.{Desk, DeskDeck, deck_named}, Joins.Calls.{Refused, Refusal, NoDeck, OldVersion, Forgotten, NoChange}, Answers.{Answer, answers, unless}, Changing.is_batch, Carrying.batch_since_of}
 
 -- the edits that take back a deck's change of a version, the last of them first
 abbrev pub backs_at : ℕ → DeskDeck → List Edit

@@ -1,8 +1,7 @@
 -- The connections of a thread one by one.
 use Rattle.std.proofs.Common.{ℕ, ◌≡◌, ◌+◌, ◌≤◌, ◌∙◌, Bool, true, false, true≢false, sym, ap, arith}
 use Rattle.deck_files.specs.ShelfRelations.{ShelfRelations}
-use Rattle.session_line.specs.declared.rights.Rights.{Rights}
-use Rattle.session_line.specs.DeskRelations.{DeskRelations}
+use Rattle.session_line.specs.{declared.rights.Rights.Rights, DeskRelations.DeskRelations}
 use Rattle.desk_service.specs.Connections.{ServesConnection, ServesConnections, next_connection}
 
 module _ {C S : Type 0} (rights : Rights) (calls : DeskRelations C) (files : ShelfRelations S) where

@@ -1,22 +1,11 @@
 -- What a session with a journal is reported as made is kept.
 use Rattle.std.proofs.Common.{ℕ, ◌≡◌, List, Bool, true, false, Option, Some, None, IfSome, IsSomeAnd, refl, sym, ap, subst, ◌∙◌}
 use Rattle.cards.specs.declared.edits.Edit.{Edit}
-use Rattle.desk_core.specs.Runs.{accepts}
-use Rattle.desk_core.specs.declared.calls.Call.{Call}
-use Rattle.desk_core.specs.declared.replies.Reply.{Reply}
-use Rattle.desk_core.specs.declared.replies.Reply.TheVariants.{Changed, Carried, Unkept, CardsAre, ChangesAre, CardsBefore, Shown, StatusIs, DeckJob, LinkJob, Idle, AllOut, Stored, Considered, Published, Cleared, Refused}
+use Rattle.desk_core.specs.{Runs.accepts, declared.calls.Call.Call, declared.replies.Reply.Reply, declared.replies.Reply.TheVariants.{Changed, Carried, Unkept, CardsAre, ChangesAre, CardsBefore, Shown, StatusIs, DeckJob, LinkJob, Idle, AllOut, Stored, Considered, Published, Cleared, Refused}}
 use Rattle.session_line.specs.Greetings.{WhereMet}
 use Rattle.journal.specs.declared.changes.Asked.TheVariants as asked
-use Rattle.journal.specs.declared.changes.Carry.{Carry}
-use Rattle.journal.specs.declared.changes.Change.{Change}
-use Rattle.journal.specs.declared.changes.Change.TheVariants.{Batch}
-use Rattle.journal.specs.declared.drafts.Stamp.{Stamp}
-use Rattle.journal.specs.Asking.{call_of_carry, carried_deck}
-use Rattle.journal.specs.Drafts.{carried_text}
-use Rattle.journal.specs.JournalFiles.{Step, IsKeptAs}
+use Rattle.journal.specs.{declared.changes.Carry.Carry, declared.changes.Change.Change, declared.changes.Change.TheVariants.Batch, declared.drafts.Stamp.Stamp, Asking.{call_of_carry, carried_deck}, Drafts.carried_text, JournalFiles.{Step, IsKeptAs}, Records.text_behind_version, Replaying.call_of}
 use Rattle.kept_desk.specs.Keeping.{TellsKept, TellsCarried, MakesKept, refused, called, not_opened, opened, told_of, version_told}
-use Rattle.journal.specs.Records.{text_behind_version}
-use Rattle.journal.specs.Replaying.{call_of}
 use Rattle.desk_service.specs.SessionEnds.{SessionEnds, IsCarriedAndKept, IsMadeAndKept, KeepsRecord, ends_relations}
 
 module _ {F : Type 0} (has_done : F → List Step → Type 0) where

@@ -1,18 +1,13 @@
 -- The first lines of a session one by one.
-use Rattle.std.proofs.Common.{ℕ, ◌≡◌, ◌+◌, ◌==◌, ◌<◌, ◌∙◌, Bool, true, false, List, Option, Some, None, refl, sym, ap, subst}
-use Rattle.std.proofs.lemmas.Option.{none-some}
+use Rattle.std.proofs.{Common.{ℕ, ◌≡◌, ◌+◌, ◌==◌, ◌<◌, ◌∙◌, Bool, true, false, List, Option, Some, None, refl, sym, ap, subst}, lemmas.Option.none-some}
 use Rattle.deck_files.specs.ShelfRelations.{ShelfRelations}
-use Rattle.session_line.specs.declared.rights.Rights.{Rights}
-use Rattle.session_line.specs.DeskRelations.{DeskRelations}
-use Rattle.text_ports.specs.Faults.{count_after_line}
-use Rattle.text_ports.specs.declared.lines.LineIs.{LineIs}
+use Rattle.session_line.specs.{declared.rights.Rights.Rights, DeskRelations.DeskRelations}
+use Rattle.text_ports.specs.{Faults.count_after_line, declared.lines.LineIs.LineIs}
 use Rattle.text_ports.specs.declared.lines.LineIs.TheVariants as line
-use Rattle.desk_service.specs.declared.openings.Opening.{Opening}
+use Rattle.desk_service.specs.{declared.openings.Opening.Opening, declared.sessions.Ending.Ending, Sessions.{ending_without, ending_in, opening_of, is_turned_away, read_faults_at, write_faults_at, Standing, TakesLine, ServesTaken, OpensLine, OpensLines, OpensSession, turned_away, first_line, next_stranger, ended_early, met, most_strange}}
 use Rattle.desk_service.specs.declared.openings.Opening.TheVariants as opening
-use Rattle.desk_service.specs.declared.sessions.Ending.{Ending}
 use Rattle.desk_service.specs.declared.sessions.Ending.TheVariants as ending
 use Rattle.session_commands.specs.Strangers.{is_command}
-use Rattle.desk_service.specs.Sessions.{ending_without, ending_in, opening_of, is_turned_away, read_faults_at, write_faults_at, Standing, TakesLine, ServesTaken, OpensLine, OpensLines, OpensSession, turned_away, first_line, next_stranger, ended_early, met, most_strange}
 
 -- a line came where the session does not end without one
 pub line-came : (answer : LineIs) → ending_without answer ≡ None → answer ≡ line.Line

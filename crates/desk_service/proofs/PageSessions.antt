@@ -1,12 +1,8 @@
 -- The lines of a page, served as a session.
 use Rattle.std.proofs.Common.{ℕ, ◌≡◌, Bool, List, [], Option, Some, subst}
 use Rattle.deck_files.specs.ShelfRelations.{ShelfRelations}
-use Rattle.session_line.specs.declared.rights.Rights.TheVariants.{Edits}
-use Rattle.session_line.specs.Serving.{sides}
-use Rattle.session_line.specs.DeskRelations.{DeskRelations}
-use Rattle.desk_service.specs.declared.sessions.Ending.{Ending}
-use Rattle.desk_service.specs.Sessions.{Standing, ServesSession, standing}
-use Rattle.desk_service.specs.PageLines.{is_whole, ServesBody}
+use Rattle.session_line.specs.{declared.rights.Rights.TheVariants.Edits, Serving.sides, DeskRelations.DeskRelations}
+use Rattle.desk_service.specs.{declared.sessions.Ending.Ending, Sessions.{Standing, ServesSession, standing}, PageLines.{is_whole, ServesBody}}
 
 module _ {C S : Type 0} (calls : DeskRelations C) (files : ShelfRelations S) where
   -- its reader began with the lines, its writer with nothing, and these are the replies that it left

@@ -1,9 +1,5 @@
 -- The places of sessions, one more each time.
-use Rattle.std.proofs.Common.{◌≡◌, ℕ, ◌+◌, ◌<◌, ◌≤◌, All, IfSome, List, [], ◌∷◌, ◌++◌, None, Option, Some, map, option_map, sym, ap, ap₂, ◌∙◌, subst, map-id, arith}
-use Rattle.std.specs.List.{range_with_len}
-use Rattle.std.proofs.lemmas.List.{map-append}
-use Rattle.std.proofs.lemmas.List.Elements.{All-push}
-use Rattle.std.proofs.lemmas.List.FromFn.{map-range_with_len_more}
+use Rattle.std.{proofs.Common.{◌≡◌, ℕ, ◌+◌, ◌<◌, ◌≤◌, All, IfSome, List, [], ◌∷◌, ◌++◌, None, Option, Some, map, option_map, sym, ap, ap₂, ◌∙◌, subst, map-id, arith}, specs.List.range_with_len, proofs.lemmas.List.map-append, proofs.lemmas.List.Elements.All-push, proofs.lemmas.List.FromFn.map-range_with_len_more}
 
 -- the numbers from 0 on, with one more
 range-more : (n : ℕ) → range_with_len 0 (n + 1) ≡ range_with_len 0 n ++ n ∷ []

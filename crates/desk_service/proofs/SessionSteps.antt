@@ -1,14 +1,9 @@
 -- A session line by line.
 use Rattle.std.proofs.Common.{ℕ, ◌≡◌, ◌+◌, ◌<◌, ◌∙◌, Bool, true, false, Option, Some, None, refl, sym, ap, subst}
 use Rattle.deck_files.specs.ShelfRelations.{ShelfRelations}
-use Rattle.session_line.specs.declared.rights.Rights.{Rights}
+use Rattle.session_line.specs.{declared.rights.Rights.Rights, Serving.{read_faults_after, write_faults_after}, declared.serving.Outcome.Outcome, declared.serving.Outcome.TheVariants.{Served, Ended, ReadFault, WriteFault}, DeskRelations.DeskRelations}
 use Rattle.text_ports.specs.Faults.{count_after_flush}
-use Rattle.session_line.specs.Serving.{read_faults_after, write_faults_after}
-use Rattle.session_line.specs.declared.serving.Outcome.{Outcome}
-use Rattle.session_line.specs.declared.serving.Outcome.TheVariants.{Served, Ended, ReadFault, WriteFault}
-use Rattle.session_line.specs.DeskRelations.{DeskRelations}
-use Rattle.desk_service.specs.declared.sessions.Ending.{Ending}
-use Rattle.desk_service.specs.Sessions.{ending_after, is_fault, read_faults_at, write_faults_at, Standing, ServesLine, ServesLines, ServesToEnd, next_line, ended, most_commands}
+use Rattle.desk_service.specs.{declared.sessions.Ending.Ending, Sessions.{ending_after, is_fault, read_faults_at, write_faults_at, Standing, ServesLine, ServesLines, ServesToEnd, next_line, ended, most_commands}}
 
 read_faults-line : (outcome : Outcome) (flushed : Bool) (faults : ℕ) → read_faults_after outcome faults ≡ read_faults_at (ending_after outcome flushed) faults
 read_faults-line Served true faults = refl

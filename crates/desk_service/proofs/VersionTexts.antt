@@ -1,25 +1,8 @@
 -- What is written of the versions of a folder is read back.
-use Rattle.std.proofs.Common.{ℕ, zero, suc, ◌≡◌, ◌+◌, ◌-◌, ◌*◌, ◌/◌, ◌%◌, ◌^◌, ◌<◌, ◌≤◌, ◌==◌, List, [], ◌∷◌, ◌++◌, Bool, true, false, cond, ◌&&◌, Option, Some, None, Result, Ok, Err, if◌then◌else◌, length, length-append, take, drop, refl, ap, subst, sym, ◌∙◌, arith, rules, true≢false}
-use Rattle.std.specs.Prelude.{codes, decimal, fold, max, nat_le, option_map}
-use Rattle.std.specs.List.{list_all, prefix_len}
-use Rattle.std.proofs.Math.Nat.{pow-succ'}
-use Rattle.std.proofs.lemmas.Bool.{and_from, and_parts, le-leb, leb-true, lt-leb}
-use Rattle.std.proofs.lemmas.Fmt.{IsAscii-from_digits, decimal_nonempty, digits_decimal, digits_value-decimal}
-use Rattle.std.proofs.lemmas.List.{append_assoc, drop_at, take_at}
-use Rattle.std.proofs.lemmas.List.Folds.{list_all-append}
-use Rattle.std.proofs.lemmas.List.Sums.{fold-append}
-use Rattle.std.proofs.lemmas.Str.{IsUtf8-from_ascii}
-use Rattle.std.proofs.lemmas.Str.Parse.{IsNumeralModel, numerals_by_fold, parse_digits}
-use Rattle.std.specs.Str.{IsUtf8}
-use Rattle.std.specs.Str.Parse.{ParsesUnsigned}
-use Rattle.std.specs.Result.{OkIff}
-use Rattle.definitions.specs.Characters.{is_digit, same_text}
-use Rattle.definitions.specs.Fields.{unbroken_front}
-use Rattle.definitions.specs.Numerals.{digits_of, number_of}
+use Rattle.std.{proofs.Common.{ℕ, zero, suc, ◌≡◌, ◌+◌, ◌-◌, ◌*◌, ◌/◌, ◌%◌, ◌^◌, ◌<◌, ◌≤◌, ◌==◌, List, [], ◌∷◌, ◌++◌, Bool, true, false, cond, ◌&&◌, Option, Some, None, Result, Ok, Err, if◌then◌else◌, length, length-append, take, drop, refl, ap, subst, sym, ◌∙◌, arith, rules, true≢false}, specs.Prelude.{codes, decimal, fold, max, nat_le, option_map}, specs.List.{list_all, prefix_len}, proofs.Math.Nat.pow-succ', proofs.lemmas.Bool.{and_from, and_parts, le-leb, leb-true, lt-leb}, proofs.lemmas.Fmt.{IsAscii-from_digits, decimal_nonempty, digits_decimal, digits_value-decimal}, proofs.lemmas.List.{append_assoc, drop_at, take_at}, proofs.lemmas.List.Folds.list_all-append, proofs.lemmas.List.Sums.fold-append, proofs.lemmas.Str.IsUtf8-from_ascii, proofs.lemmas.Str.Parse.{IsNumeralModel, numerals_by_fold, parse_digits}, specs.Str.IsUtf8, specs.Str.Parse.ParsesUnsigned, specs.Result.OkIff}
+use Rattle.definitions.specs.{Characters.{is_digit, same_text}, Fields.unbroken_front, Numerals.{digits_of, number_of}}
 use Rattle.journal.specs.declared.marks.Mark.{Mark}
-use Rattle.session_commands.specs.Sought.{begins_with, has_text}
-use Rattle.session_commands.specs.Words.{from_blank}
-use Rattle.session_commands.proofs.ReadBack.{digit-no_blank, no_blank}
+use Rattle.session_commands.{specs.Sought.{begins_with, has_text}, specs.Words.from_blank, proofs.ReadBack.{digit-no_blank, no_blank}}
 use Rattle.desk_service.specs.Versions.{IsMark, has_note, is_note, line_of, mark_by, mark_in, mark_line, next_bound, noted_line_of, number_in, seen_by, seen_of, versions_in, versions_line}
 
 -- ---- digits

@@ -1,8 +1,6 @@
 -- Who is connected (ours): the names of sessions by their numbers, none where nobody is, those that may edit first; and what who greets is shown of them.
 use Rattle.std.specs.Prelude.{ℕ, ◌≡◌, ◌+◌, ◌==◌, List, [], ◌∷◌, ◌++◌, Option, Some, None, nat_lt, if◌then◌else◌}
-use Rattle.session_line.specs.declared.greetings.Connected.{Connected}
-use Rattle.session_line.specs.declared.rights.Rights.{Rights}
-use Rattle.session_line.specs.declared.rights.Rights.TheVariants.{Edits, Reads}
+use Rattle.session_line.specs.declared.{greetings.Connected.Connected, rights.Rights.Rights, rights.Rights.TheVariants.{Edits, Reads}}
 
 -- the name of a session: the one of this number gives this
 abbrev pub seated : ℕ → ℕ → List ℕ → Option (List ℕ) → Option (List ℕ)

@@ -1,15 +1,8 @@
 -- The connections that a session thread serves (ours).
 use Rattle.std.specs.Prelude.{ℕ, ◌≡◌, ◌+◌, ◌≤◌, Bool, true, false}
 use Rattle.deck_files.specs.ShelfRelations.{ShelfRelations}
-use Rattle.session_line.specs.declared.rights.Rights.{Rights}
-use Rattle.session_line.specs.declared.rights.Rights.TheVariants.{Edits, Reads}
-use Rattle.session_line.specs.DeskRelations.{DeskRelations}
-use Rattle.desk_service.specs.declared.clients.Clients.{Clients}
-use Rattle.desk_service.specs.declared.clients.Clients.TheVariants.{Editing, Reading}
-use Rattle.desk_service.specs.declared.sessions.Ending.{Ending}
-use Rattle.desk_service.specs.declared.connections.Closed.{Closed}
-use Rattle.desk_service.specs.declared.connections.Closed.TheVariants.{NoMore, Once, Asked}
-use Rattle.desk_service.specs.Sessions.{Standing, ServesSession}
+use Rattle.session_line.specs.{declared.rights.Rights.Rights, declared.rights.Rights.TheVariants.{Edits, Reads}, DeskRelations.DeskRelations}
+use Rattle.desk_service.specs.{declared.clients.Clients.Clients, declared.clients.Clients.TheVariants.{Editing, Reading}, declared.sessions.Ending.Ending, declared.connections.Closed.Closed, declared.connections.Closed.TheVariants.{NoMore, Once, Asked}, Sessions.{Standing, ServesSession}}
 
 -- after how many connections a thread ends: where no more can come, with `once` before the first; with `once` after that; or, where the end of the service is asked for, after one at least
 abbrev pub EndsAfter : Closed → Bool → ℕ → Type 0

@@ -1,7 +1,6 @@
 -- The texts of the faults of a service (ours).
 use Rattle.std.specs.Prelude.{ℕ, List, codes}
-use Rattle.desk_service.specs.declared.faults.ServeFault.{ServeFault}
-use Rattle.desk_service.specs.declared.faults.ServeFault.TheVariants.{SocketFault, PageFault, ReadFault, OutOfMemory, NoFolder, FolderTaken, NoLocks, LongRoot, FewFiles, JournalTaken, NoJournal, BadJournal, BadVersions}
+use Rattle.desk_service.specs.declared.faults.ServeFault.{ServeFault, TheVariants.{SocketFault, PageFault, ReadFault, OutOfMemory, NoFolder, FolderTaken, NoLocks, LongRoot, FewFiles, JournalTaken, NoJournal, BadJournal, BadVersions}}
 
 -- the name
 abbrev pub serve_fault_text : ServeFault → List ℕ

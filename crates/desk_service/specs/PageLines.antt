@@ -1,12 +1,9 @@
 -- The lines that a page sends (ours): a session whose reader has these lines and no more, and whose writer has nothing yet.
 use Rattle.std.specs.Prelude.{ℕ, ◌≡◌, Bool, true, false, List, [], Some}
 use Rattle.deck_files.specs.ShelfRelations.{ShelfRelations}
-use Rattle.session_line.specs.declared.rights.Rights.TheVariants.{Edits}
-use Rattle.session_line.specs.Serving.{sides}
-use Rattle.session_line.specs.DeskRelations.{DeskRelations}
-use Rattle.desk_service.specs.declared.sessions.Ending.{Ending}
+use Rattle.session_line.specs.{declared.rights.Rights.TheVariants.Edits, Serving.sides, DeskRelations.DeskRelations}
+use Rattle.desk_service.specs.{declared.sessions.Ending.Ending, Sessions.{ServesSession, standing}}
 use Rattle.desk_service.specs.declared.sessions.Ending.TheVariants as ending
-use Rattle.desk_service.specs.Sessions.{ServesSession, standing}
 
 -- whether the lines of a session that ended so have their replies: all found room, and the first line is no request of HTTP, which has none
 abbrev pub is_whole : Ending → Bool

@@ -1,9 +1,7 @@
 -- The threads of a service (ours): how many there are, and of which numbers, for whom and where they work.
-use Rattle.std.specs.Prelude.{◌≡◌, ℕ, ◌+◌, Bool, List, Option, None, Some}
-use Rattle.std.specs.List.{range_with_len}
+use Rattle.std.specs.{Prelude.{◌≡◌, ℕ, ◌+◌, Bool, List, Option, None, Some}, List.range_with_len}
 use Rattle.session_line.specs.declared.rights.Rights.{Rights}
-use Rattle.desk_service.specs.Company.{rights_at}
-use Rattle.desk_service.specs.declared.settings.Settings.{Settings}
+use Rattle.desk_service.specs.{Company.rights_at, declared.settings.Settings.Settings}
 
 -- how many threads serve sessions: those that may edit, and the readers
 abbrev pub session_count : Settings → ℕ

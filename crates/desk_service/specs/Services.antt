@@ -1,13 +1,7 @@
 -- What a service is started with, and where it listens (ours).
-use Rattle.std.specs.Prelude.{ℕ, ◌≡◌, ◌+◌, ◌≤◌, Bool, List, [], ◌∷◌, length, nat_le}
-use Rattle.std.specs.declared.net.socket_addr.SocketAddr.{SocketAddr}
+use Rattle.std.specs.{Prelude.{ℕ, ◌≡◌, ◌+◌, ◌≤◌, Bool, List, [], ◌∷◌, length, nat_le}, declared.net.socket_addr.SocketAddr.SocketAddr, Net.Socket.{socket_ip, socket_port}}
 use Rattle.std.specs.declared.net.ip_addr.IpAddr.TheVariants as Ip
-use Rattle.std.specs.Net.Socket.{socket_ip, socket_port}
-use Rattle.desk_service.specs.declared.faults.ServeFault.{ServeFault}
-use Rattle.desk_service.specs.declared.faults.ServeFault.TheVariants.{FolderTaken, JournalTaken}
-use Rattle.desk_service.specs.declared.settings.Journaling.{Journaling}
-use Rattle.desk_service.specs.declared.settings.Journaling.TheVariants.{Off, InRoot, At}
-use Rattle.desk_service.specs.declared.settings.Settings.{Settings}
+use Rattle.desk_service.specs.declared.{faults.ServeFault.ServeFault, faults.ServeFault.TheVariants.{FolderTaken, JournalTaken}, settings.Journaling.Journaling, settings.Journaling.TheVariants.{Off, InRoot, At}, settings.Settings.Settings}
 
 -- 1 to 16 workers, as many sessions, and up to 16 readers; a client may be idle for a second at least
 abbrev pub AreInRange : Settings → Type 0

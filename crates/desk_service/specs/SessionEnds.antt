@@ -1,26 +1,11 @@
 -- The ends that a session has at its service (ours): what its calls answer.
 use Rattle.std.specs.Prelude.{ℕ, ◌≡◌, ⊤, ◌⊎◌, List, Bool, true, false, Option, Some, None, Result, Ok, Err}
 use Rattle.cards.specs.declared.edits.Edit.{Edit}
-use Rattle.desk_core.specs.declared.calls.Call.{Call}
-use Rattle.desk_core.specs.declared.replies.Refusal.{Refusal}
-use Rattle.desk_core.specs.declared.replies.Refusal.TheVariants.{NotKept, OutOfMemory}
-use Rattle.desk_core.specs.declared.replies.Reply.{Reply}
-use Rattle.desk_core.specs.declared.replies.Reply.TheVariants.{Changed, Carried}
-use Rattle.desk_service.specs.declared.journals.News.{News}
-use Rattle.desk_service.specs.declared.journals.News.TheVariants.{Fails, GoesOn}
-use Rattle.journal.specs.declared.changes.Carry.{Carry}
-use Rattle.journal.specs.declared.changes.Change.{Change}
-use Rattle.journal.specs.declared.changes.Change.TheVariants.{Batch}
-use Rattle.journal.specs.declared.drafts.Stamp.{Stamp}
-use Rattle.journal.specs.Asking.{call_of_carry, carried_deck}
-use Rattle.journal.specs.Drafts.{takes_memory}
+use Rattle.desk_core.specs.declared.{calls.Call.Call, replies.Refusal.Refusal, replies.Refusal.TheVariants.{NotKept, OutOfMemory}, replies.Reply.Reply, replies.Reply.TheVariants.{Changed, Carried}}
+use Rattle.desk_service.specs.{declared.journals.News.News, declared.journals.News.TheVariants.{Fails, GoesOn}, Company.AreListed}
+use Rattle.journal.specs.{declared.changes.Carry.Carry, declared.changes.Change.Change, declared.changes.Change.TheVariants.Batch, declared.drafts.Stamp.Stamp, Asking.{call_of_carry, carried_deck}, Drafts.takes_memory, Names.session_name, Queues.{Queue, all_shown}, Records.text_behind_version, Replaying.call_of}
 use Rattle.journal.specs.JournalFiles.{Step, IsKept, IsKeptAs, Batch as KeptBatch}
-use Rattle.journal.specs.Names.{session_name}
-use Rattle.journal.specs.Queues.{Queue, all_shown}
-use Rattle.journal.specs.Records.{text_behind_version}
-use Rattle.journal.specs.Replaying.{call_of}
 use Rattle.kept_desk.specs.EndsRelations.{EndsRelations}
-use Rattle.desk_service.specs.Company.{AreListed}
 
 -- whether there is a journal, the number of the session, the version of its latest change that was reported as not kept, and the name by which it asks for changes
 pub record SessionEnds : Type 0 where

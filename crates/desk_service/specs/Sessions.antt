@@ -1,20 +1,12 @@
 -- A session: lines that are served one after the other, and what ends it (ours).
-use Rattle.std.specs.Prelude.{ℕ, ◌≡◌, ◌+◌, ◌==◌, ◌<◌, ◌&&◌, Bool, true, false, List, Option, Some, None}
-use Rattle.std.specs.Io.KnownBytes.{Keeps}
-use Rattle.text_ports.specs.Faults.{count_up, count_after_flush, count_after_line}
-use Rattle.text_ports.specs.Lines.{ReadsLine}
-use Rattle.text_ports.specs.declared.lines.LineIs.{LineIs}
+use Rattle.std.specs.{Prelude.{ℕ, ◌≡◌, ◌+◌, ◌==◌, ◌<◌, ◌&&◌, Bool, true, false, List, Option, Some, None}, Io.KnownBytes.Keeps}
+use Rattle.text_ports.specs.{Faults.{count_up, count_after_flush, count_after_line}, Lines.ReadsLine, declared.lines.LineIs.LineIs}
 use Rattle.text_ports.specs.declared.lines.LineIs.TheVariants as line
 use Rattle.deck_files.specs.ShelfRelations.{ShelfRelations}
-use Rattle.session_line.specs.declared.rights.Rights.{Rights}
-use Rattle.session_line.specs.declared.serving.Outcome.{Outcome}
-use Rattle.session_line.specs.declared.serving.Outcome.TheVariants.{Served, Ended, ReadFault, WriteFault}
-use Rattle.session_line.specs.Serving.{Sides, Serves, ServesBehind, read_faults_after, write_faults_after}
-use Rattle.session_line.specs.DeskRelations.{DeskRelations}
+use Rattle.session_line.specs.{declared.rights.Rights.Rights, declared.serving.Outcome.Outcome, declared.serving.Outcome.TheVariants.{Served, Ended, ReadFault, WriteFault}, Serving.{Sides, Serves, ServesBehind, read_faults_after, write_faults_after}, DeskRelations.DeskRelations}
 use Rattle.session_commands.specs.Strangers.{is_command, is_request_of_http}
-use Rattle.desk_service.specs.declared.openings.Opening.{Opening}
+use Rattle.desk_service.specs.declared.{openings.Opening.Opening, sessions.Ending.Ending}
 use Rattle.desk_service.specs.declared.openings.Opening.TheVariants as opening
-use Rattle.desk_service.specs.declared.sessions.Ending.{Ending}
 use Rattle.desk_service.specs.declared.sessions.Ending.TheVariants as ending
 
 -- how many lines a session serves at most behind its first command

@@ -1,20 +1,10 @@
 -- The versions that a folder has seen (ours).
-use Rattle.std.specs.Prelude.{ℕ, ◌≡◌, ◌≢◌, ◌+◌, ◌-◌, ◌^◌, ◌<◌, ◌==◌, ◌⊎◌, [], ◌++◌, Bool, true, false, ◌&&◌, List, Option, Some, None, Result, Ok, Err, codes, decimal, drop, if◌then◌else◌, length, max, min, nat_le, option_map, take}
-use Rattle.std.specs.List.{list_all}
-use Rattle.std.specs.declared.io.ErrorKind.{ErrorKind}
+use Rattle.std.specs.{Prelude.{ℕ, ◌≡◌, ◌≢◌, ◌+◌, ◌-◌, ◌^◌, ◌<◌, ◌==◌, ◌⊎◌, [], ◌++◌, Bool, true, false, ◌&&◌, List, Option, Some, None, Result, Ok, Err, codes, decimal, drop, if◌then◌else◌, length, max, min, nat_le, option_map, take}, List.list_all, declared.io.ErrorKind.ErrorKind}
 use Rattle.std.specs.declared.io.ErrorKind.TheVariants.{NotFound, OutOfMemory as NoMemory}
-use Rattle.definitions.specs.Characters.{is_digit, same_text}
-use Rattle.definitions.specs.Fields.{unbroken_front}
-use Rattle.definitions.specs.Numerals.{digits_of, number_of}
-use Rattle.journal.specs.declared.marks.Mark.{Mark}
-use Rattle.journal.specs.Marks.{is_same_mark}
-use Rattle.session_commands.specs.Sought.{begins_with, has_text}
-use Rattle.session_commands.specs.Words.{from_blank}
-use Rattle.desk_service.specs.declared.faults.ServeFault.{ServeFault}
-use Rattle.desk_service.specs.declared.faults.ServeFault.TheVariants.{BadVersions, OutOfMemory}
-use Rattle.desk_service.specs.declared.settings.Journaling.{Journaling}
-use Rattle.desk_service.specs.declared.settings.Journaling.TheVariants.{Off, InRoot, At}
-use Rattle.desk_service.specs.declared.versions.Seen.{Seen}
+use Rattle.definitions.specs.{Characters.{is_digit, same_text}, Fields.unbroken_front, Numerals.{digits_of, number_of}}
+use Rattle.journal.specs.{declared.marks.Mark.Mark, Marks.is_same_mark}
+use Rattle.session_commands.specs.{Sought.{begins_with, has_text}, Words.from_blank}
+use Rattle.desk_service.specs.declared.{faults.ServeFault.ServeFault, faults.ServeFault.TheVariants.{BadVersions, OutOfMemory}, settings.Journaling.Journaling, settings.Journaling.TheVariants.{Off, InRoot, At}, versions.Seen.Seen}
 
 -- ---- which versions come next
 

@@ -1,23 +1,11 @@
 -- A desk that settling leaves idle.
-use Rattle.std.proofs.Common.{◌≡◌, ℕ, ◌-◌, length, arith, List, [], ◌∷◌, ◌++◌, take, Option, Some, None, option_map, sym, ap, ◌∙◌, subst}
-use Rattle.std.proofs.Math.Seq.{take-length}
+use Rattle.std.proofs.{Common.{◌≡◌, ℕ, ◌-◌, length, arith, List, [], ◌∷◌, ◌++◌, take, Option, Some, None, option_map, sym, ap, ◌∙◌, subst}, Math.Seq.take-length}
 use Rattle.definitions.specs.Build.{listing_of, image_of}
 use Rattle.turn_office.specs.Histories.{Leads, entry}
-use Rattle.desk_core.specs.Desks.{Desk, Publication, decks_of}
-use Rattle.desk_core.specs.Changes.{Change, decks_after}
-use Rattle.desk_core.specs.Steps.{Steps}
-use Rattle.desk_core.specs.Runs.{History, Runs, changes_in}
+use Rattle.desk_core.{specs.Desks.{Desk, Publication, decks_of}, specs.Changes.{Change, decks_after}, specs.Steps.Steps, specs.Runs.{History, Runs, changes_in}, proofs.Outcomes.{Outcome, by_staying, by_changing, by_publishing}, proofs.Publishing.step_comes, proofs.Told.IsTold, proofs.EveryRun.{told_last, told_through}, proofs.IdleClaims.idle_is_published}
 use Rattle.desk_core.specs.declared.replies.Reply.TheVariants as reply
-use Rattle.desk_core.proofs.Outcomes.{Outcome, by_staying, by_changing, by_publishing}
-use Rattle.desk_core.proofs.Publishing.{step_comes}
-use Rattle.desk_core.proofs.Told.{IsTold}
-use Rattle.desk_core.proofs.EveryRun.{told_last, told_through}
-use Rattle.desk_core.proofs.IdleClaims.{idle_is_published}
-use Rattle.deck_workers.specs.Joins.Language.{Call, Claim, Reply, Refusal}
-use Rattle.deck_workers.specs.Rounds.{Round, Resting, Working, entries_of, entries_in}
-use Rattle.desk_tests.specs.Settling.{Settles, used_up, ended, end_of, end_of_claim, refusal_in, IsIdleAt, IsSettled}
-use Rattle.desk_tests.specs.declared.settling.Settled.{Settled}
-use Rattle.desk_tests.specs.declared.settling.Settled.TheVariants.{Idle, Refused, Waiting, Turns}
+use Rattle.deck_workers.specs.{Joins.Language.{Call, Claim, Reply, Refusal}, Rounds.{Round, Resting, Working, entries_of, entries_in}}
+use Rattle.desk_tests.specs.{Settling.{Settles, used_up, ended, end_of, end_of_claim, refusal_in, IsIdleAt, IsSettled}, declared.settling.Settled.Settled, declared.settling.Settled.TheVariants.{Idle, Refused, Waiting, Turns}}
 
 -- a publication of the desk's own version is of its present decks
 present-decks : (begun : ℕ) (changes : List Change) (desk : Desk) (publication : Publication) → IsTold begun changes desk → desk.publication ≡ Some publication → publication.version ≡ desk.version → publication.decks ≡ decks_of desk

@@ -1,18 +1,10 @@
 -- Turns one after the other.
-use Rattle.std.proofs.Common.{◌≡◌, ℕ, ◌+◌, ◌<◌, List, [], ◌∷◌, ◌++◌, length, All, Some, None, refl, sym, ap, ◌∙◌, subst, arith, length-append}
-use Rattle.std.proofs.lemmas.List.Elements.{All-nil, All-push}
-use Rattle.std.proofs.lemmas.List.{flat_map_more}
-use Rattle.turn_office.specs.declared.history.Entry.{Entry}
-use Rattle.turn_office.specs.Histories.{Leads}
-use Rattle.desk_core.specs.Desks.{Desk}
-use Rattle.desk_core.specs.Steps.{Steps}
-use Rattle.desk_core.specs.Runs.{History}
-use Rattle.deck_workers.specs.Rounds.{Round, entries_of, entries_in}
+use Rattle.std.proofs.{Common.{◌≡◌, ℕ, ◌+◌, ◌<◌, List, [], ◌∷◌, ◌++◌, length, All, Some, None, refl, sym, ap, ◌∙◌, subst, arith, length-append}, lemmas.List.Elements.{All-nil, All-push}, lemmas.List.flat_map_more}
+use Rattle.turn_office.specs.{declared.history.Entry.Entry, Histories.Leads}
+use Rattle.desk_core.specs.{Desks.Desk, Steps.Steps, Runs.History}
+use Rattle.deck_workers.specs.{Rounds.{Round, entries_of, entries_in}, Jobs.CountsWithin}
 use Rattle.work_meter.specs.Counts.{Counts}
-use Rattle.deck_workers.specs.Jobs.{CountsWithin}
-use Rattle.desk_tests.specs.Settling.{GoesOn, SettlesOn, used_up, ended, IsTurn, round_bound, rounds_bound, round_least, rounds_least}
-use Rattle.desk_tests.specs.declared.settling.Settled.{Settled}
-use Rattle.desk_tests.specs.declared.settling.Settled.TheVariants.{Turns}
+use Rattle.desk_tests.specs.{Settling.{GoesOn, SettlesOn, used_up, ended, IsTurn, round_bound, rounds_bound, round_least, rounds_least}, declared.settling.Settled.Settled, declared.settling.Settled.TheVariants.Turns}
 
 -- one history behind another
 pub leads-append : {T C R : Type 0} (allowed : T → C → R → T → Type 0) (first middle last : T) (before behind : List (Entry C R)) → Leads allowed first before middle → Leads allowed middle behind last → Leads allowed first (before ++ behind) last

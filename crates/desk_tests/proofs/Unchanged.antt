@@ -1,18 +1,10 @@
 -- Claims, deliveries and leases given up change no card and no version.
 use Rattle.std.proofs.Common.{◌≡◌, ℕ, List, [], ◌∷◌, ◌++◌, None, refl, sym, ap, ◌∙◌, subst}
 use Rattle.turn_office.specs.Histories.{Leads}
-use Rattle.desk_core.specs.Desks.{Desk, decks_of}
-use Rattle.deck_workers.specs.Joins.Language.{Call, Claim, Reply}
-use Rattle.desk_core.specs.Steps.{Steps}
-use Rattle.desk_core.specs.Runs.{History, change_asked}
-use Rattle.desk_core.proofs.Outcomes.{Outcome, by_staying, by_changing, by_publishing}
-use Rattle.desk_core.proofs.Publishing.{step_comes}
-use Rattle.deck_workers.specs.declared.made.Made.{Made}
+use Rattle.desk_core.{specs.Desks.{Desk, decks_of}, specs.Steps.Steps, specs.Runs.{History, change_asked}, proofs.Outcomes.{Outcome, by_staying, by_changing, by_publishing}, proofs.Publishing.step_comes}
+use Rattle.deck_workers.specs.{Joins.Language.{Call, Claim, Reply}, declared.made.Made.Made, Rounds.{Round, Resting, Working, call_of, entries_of, entries_in}}
 use Rattle.deck_workers.specs.declared.made.Made.TheVariants as made
-use Rattle.deck_workers.specs.Rounds.{Round, Resting, Working, call_of, entries_of, entries_in}
-use Rattle.desk_tests.specs.Settling.{Settles, used_up, ended}
-use Rattle.desk_tests.specs.declared.settling.Settled.{Settled}
-use Rattle.desk_tests.proofs.Turns.{entries-more}
+use Rattle.desk_tests.{specs.Settling.{Settles, used_up, ended}, specs.declared.settling.Settled.Settled, proofs.Turns.entries-more}
 
 -- version and decks are the same
 pub record Keeps (first last : Desk) : Type 0 where

@@ -1,12 +1,7 @@
 -- Files in memory, under the names of decks (ours).
-use Rattle.std.specs.Prelude.{ℕ, ◌≡◌, List, Option, Some, None, Ok}
-use Rattle.std.specs.Option.{option_map}
+use Rattle.std.specs.{Prelude.{ℕ, ◌≡◌, List, Option, Some, None, Ok}, Option.option_map}
 use Rattle.definitions.specs.Cards.{Card}
-use Rattle.deck_files.specs.Files.{Named, named, with_named}
-use Rattle.deck_files.specs.declared.deck_shelf.ShelfLoadFault.{ShelfLoadFault}
-use Rattle.deck_files.specs.declared.deck_shelf.ShelfLoadFault.TheVariants.{CannotOpen, BadFile}
-use Rattle.deck_files.specs.DeckFiles.{cards_of_file}
-use Rattle.deck_files.specs.Loads.{FaultsSo}
+use Rattle.deck_files.specs.{Files.{Named, named, with_named}, declared.deck_shelf.ShelfLoadFault.ShelfLoadFault, declared.deck_shelf.ShelfLoadFault.TheVariants.{CannotOpen, BadFile}, DeckFiles.cards_of_file, Loads.FaultsSo}
 
 -- a file, and the version of the deck whose cards it has, 0 where none is known
 pub record KeptFile : Type 0 where

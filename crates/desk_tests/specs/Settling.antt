@@ -3,16 +3,10 @@ use Rattle.std.specs.Prelude.{◌≡◌, ⊤, ℕ, ◌+◌, ◌<◌, List, [], �
 use Rattle.work_meter.specs.Counts.{Counts}
 use Rattle.definitions.specs.Build.{listing_of, image_of}
 use Rattle.turn_office.specs.Histories.{Leads}
-use Rattle.desk_core.specs.Desks.{Desk, Publication, decks_of}
+use Rattle.desk_core.specs.{Desks.{Desk, Publication, decks_of}, Steps.Steps, Runs.{History, Runs}}
 use Rattle.desk_core.specs.declared.replies.Reply.TheVariants as reply
-use Rattle.deck_workers.specs.Joins.Language.{Reply, Refusal}
-use Rattle.desk_core.specs.Steps.{Steps}
-use Rattle.desk_core.specs.Runs.{History, Runs}
-use Rattle.deck_workers.specs.declared.jobs.Job.{Job}
-use Rattle.deck_workers.specs.Jobs.{job_bound, job_least, if_made, CountsWithin}
-use Rattle.deck_workers.specs.Rounds.{Round, Resting, Working, IsRound, job_in, entries_of, entries_in}
-use Rattle.desk_tests.specs.declared.settling.Settled.{Settled}
-use Rattle.desk_tests.specs.declared.settling.Settled.TheVariants.{Idle, Refused, Waiting, Turns}
+use Rattle.deck_workers.specs.{Joins.Language.{Reply, Refusal}, declared.jobs.Job.Job, Jobs.{job_bound, job_least, if_made, CountsWithin}, Rounds.{Round, Resting, Working, IsRound, job_in, entries_of, entries_in}}
+use Rattle.desk_tests.specs.declared.settling.Settled.{Settled, TheVariants.{Idle, Refused, Waiting, Turns}}
 
 -- the refusal that a reply shows, if it shows one
 abbrev pub refusal_in : Reply → Option Refusal

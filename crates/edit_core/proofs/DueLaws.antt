@@ -1,23 +1,10 @@
 -- What is sized for edits is within what is due.
-use Rattle.std.proofs.Common.{◌≡◌, ℕ, ◌+◌, ◌-◌, ◌<◌, ◌≤◌, ◌⊎◌, ◌==◌, true, false, List, [], ◌∷◌, length, All, None, refl, sym, ap, ◌∙◌, subst, arith}
-use Rattle.std.proofs.lemmas.Bool.{eqb-true}
-use Rattle.definitions.specs.Cards.{Card}
-use Rattle.definitions.specs.DeckKinds.{kind_of_statements}
-use Rattle.definitions.specs.Laws.Edits.{DoAgree, Edited, IsUntouched, Split}
-use Rattle.definitions.specs.Statements.{Statement}
-use Rattle.cards.specs.declared.edits.Edit.{Edit}
-use Rattle.cards.specs.Edits.{edited_by, first_fault}
-use Rattle.deck_assembler.specs.Joins.DueCodes.{CodePlan, IsPlanOf, code_due_of}
-use Rattle.deck_assembler.specs.Joins.Formers.{known_in}
-use Rattle.deck_assembler.specs.Joins.Meetings.{StandApart}
-use Rattle.deck_assembler.specs.Joins.Tails.{HasTailIfAny, HasTailWithin}
-use Rattle.deck_assembler.specs.declared.former.Former.{Former}
-use Rattle.deck_assembler.proofs.AgreementLaws.{untouched-before}
-use Rattle.deck_assembler.proofs.DueCodeCounts.{due-code-weaker, within-due-code}
+use Rattle.std.proofs.{Common.{◌≡◌, ℕ, ◌+◌, ◌-◌, ◌<◌, ◌≤◌, ◌⊎◌, ◌==◌, true, false, List, [], ◌∷◌, length, All, None, refl, sym, ap, ◌∙◌, subst, arith}, lemmas.Bool.eqb-true}
+use Rattle.definitions.specs.{Cards.Card, DeckKinds.kind_of_statements, Laws.Edits.{DoAgree, Edited, IsUntouched, Split}, Statements.Statement}
+use Rattle.cards.specs.{declared.edits.Edit.Edit, Edits.{edited_by, first_fault}}
+use Rattle.deck_assembler.{specs.Joins.DueCodes.{CodePlan, IsPlanOf, code_due_of}, specs.Joins.Formers.known_in, specs.Joins.Meetings.StandApart, specs.Joins.Tails.{HasTailIfAny, HasTailWithin}, specs.declared.former.Former.Former, proofs.AgreementLaws.untouched-before, proofs.DueCodeCounts.{due-code-weaker, within-due-code}}
 use Rattle.deck_assembler.proofs.FrontLaws.{front-still as still}
-use Rattle.edit_core.specs.Edited.{front_of, AreDecksOf, RisesToDue, RisesToDueCode, RisesWithinDue, RisesWithinDueCode, StandBehind, StandUnchanged}
-use Rattle.edit_core.proofs.EditLaws.{decks-before}
-use Rattle.edit_core.proofs.EndLaws.{apart-all}
+use Rattle.edit_core.{specs.Edited.{front_of, AreDecksOf, RisesToDue, RisesToDueCode, RisesWithinDue, RisesWithinDueCode, StandBehind, StandUnchanged}, proofs.EditLaws.decks-before, proofs.EndLaws.apart-all}
 
 -- the cards that the code takes for those before edits and behind them
 pub record AreTaken (edits : List Edit) (cards : List Card) (before behind : ℕ) : Type 0 where

@@ -1,37 +1,10 @@
 -- What edits leave of the cards of a record.
-use Rattle.std.specs.Prelude.{◌^◌, IfSome, is_none}
-use Rattle.std.specs.List.{count_by}
-use Rattle.std.proofs.Common.{◌≡◌, ℕ, ◌+◌, ◌-◌, ◌≤◌, ◌<◌, ◌==◌, Bool, true, false, List, [], ◌∷◌, ◌++◌, length, take, get_or, All, Option, Some, None, option_map, suc, refl, sym, ap, subst, ◌∙◌, arith}
-use Rattle.std.proofs.Math.Seq.{take-suc}
-use Rattle.std.proofs.lemmas.Bool.{eqb-true}
-use Rattle.std.proofs.lemmas.List.{nil_from_length, take-take}
-use Rattle.std.proofs.lemmas.List.Elements.{All-head, All-tail, All-push, All-weaker}
-use Rattle.definitions.specs.Cards.{Card}
-use Rattle.definitions.specs.DeckKinds.{kind_of_statements}
-use Rattle.definitions.specs.Laws.Edits.{Edited, IsUntouched}
-use Rattle.definitions.specs.Laws.Rebound.{context_from, is_rebound}
-use Rattle.definitions.specs.Settled.{Settled}
-use Rattle.definitions.specs.Settling.{settled_all}
-use Rattle.definitions.specs.StatementItems.{Context}
-use Rattle.definitions.specs.Statements.{Statement}
-use Rattle.cards.specs.declared.edits.Edit.{Edit}
-use Rattle.cards.specs.declared.edits.Edit.TheVariants.{Insert, Replace, Remove}
-use Rattle.cards.specs.declared.edits.EditFault.{EditFault}
-use Rattle.cards.specs.Edits.{fault_of, edited, edited_by, first_fault}
-use Rattle.cards.proofs.FaultLaws.{applies-in, edited-few, insert-front, replace-front, remove-front}
-use Rattle.deck_assembler.specs.Joins.DeckParts.{DeckParts}
-use Rattle.deck_assembler.specs.Joins.DueCodes.{bound_otherwise, one_where, RisesReboundOf}
-use Rattle.deck_assembler.specs.Joins.Formers.{known_in}
-use Rattle.deck_assembler.specs.Joins.SizedDecks.{IsSizedDeck}
-use Rattle.deck_assembler.specs.Stays.{RisesAnew}
+use Rattle.std.{specs.Prelude.{◌^◌, IfSome, is_none}, specs.List.count_by, proofs.Common.{◌≡◌, ℕ, ◌+◌, ◌-◌, ◌≤◌, ◌<◌, ◌==◌, Bool, true, false, List, [], ◌∷◌, ◌++◌, length, take, get_or, All, Option, Some, None, option_map, suc, refl, sym, ap, subst, ◌∙◌, arith}, proofs.Math.Seq.take-suc, proofs.lemmas.Bool.eqb-true, proofs.lemmas.List.{nil_from_length, take-take}, proofs.lemmas.List.Elements.{All-head, All-tail, All-push, All-weaker}}
+use Rattle.definitions.specs.{Cards.Card, DeckKinds.kind_of_statements, Laws.Edits.{Edited, IsUntouched}, Laws.Rebound.{context_from, is_rebound}, Settled.Settled, Settling.settled_all, StatementItems.Context, Statements.Statement}
+use Rattle.cards.{specs.declared.edits.Edit.Edit, specs.declared.edits.Edit.TheVariants.{Insert, Replace, Remove}, specs.declared.edits.EditFault.EditFault, specs.Edits.{fault_of, edited, edited_by, first_fault}, proofs.FaultLaws.{applies-in, edited-few, insert-front, replace-front, remove-front}}
+use Rattle.deck_assembler.{specs.Joins.DeckParts.DeckParts, specs.Joins.DueCodes.{bound_otherwise, one_where, RisesReboundOf}, specs.Joins.Formers.known_in, specs.Joins.SizedDecks.IsSizedDeck, specs.Stays.RisesAnew, proofs.DueCodeCounts.bound-counted, proofs.SameLaws.never-bound, proofs.StayLaws.own-stay}
 use Rattle.deck_assembler.proofs.FrontLaws.{front-still as still}
-use Rattle.deck_assembler.proofs.DueCodeCounts.{bound-counted}
-use Rattle.deck_assembler.proofs.SameLaws.{never-bound}
-use Rattle.deck_assembler.proofs.StayLaws.{own-stay}
-use Rattle.edit_core.specs.Edited.{edits_bound, front_of, statement_count, AreDecksOf, IsRecordOf, RisesBehindFront, RisesToAnew, RisesToRebound}
-use Rattle.edit_core.specs.Faults.{against, against_all, record_fault}
-use Rattle.edit_core.specs.Records.{Record, ArePieces, piece_counts}
-use Rattle.edit_core.proofs.PieceLaws.{deck-pieces}
+use Rattle.edit_core.{specs.Edited.{edits_bound, front_of, statement_count, AreDecksOf, IsRecordOf, RisesBehindFront, RisesToAnew, RisesToRebound}, specs.Faults.{against, against_all, record_fault}, specs.Records.{Record, ArePieces, piece_counts}, proofs.PieceLaws.deck-pieces}
 
 -- what holds of the first cards holds of fewer
 fewer : (n m : ℕ) (cards others : List Card) → n ≤ m → take m cards ≡ take m others → take n cards ≡ take n others

@@ -1,18 +1,8 @@
 -- The cards behind the one that an edit is of stay.
-use Rattle.std.specs.Prelude.{remove, slice_set, insert, nat_le}
-use Rattle.std.proofs.Common.{ℕ, zero, suc, ◌≡◌, ◌+◌, ◌-◌, ◌≤◌, ◌<◌, inl, inr, List, [], ◌∷◌, length, drop, get_or, All, Bool, true, false, not, ◌==◌, Option, None, refl, sym, ap, ◌∙◌, subst, arith}
-use Rattle.std.proofs.lemmas.Bool.{and_parts, cases_lt, leb-true}
-use Rattle.std.proofs.lemmas.List.{length-drop, drop_all, drop-set-lt, drop_more}
-use Rattle.std.proofs.lemmas.List.Elements.{All-head, All-tail}
+use Rattle.std.{specs.Prelude.{remove, slice_set, insert, nat_le}, proofs.Common.{ℕ, zero, suc, ◌≡◌, ◌+◌, ◌-◌, ◌≤◌, ◌<◌, inl, inr, List, [], ◌∷◌, length, drop, get_or, All, Bool, true, false, not, ◌==◌, Option, None, refl, sym, ap, ◌∙◌, subst, arith}, proofs.lemmas.Bool.{and_parts, cases_lt, leb-true}, proofs.lemmas.List.{length-drop, drop_all, drop-set-lt, drop_more}, proofs.lemmas.List.Elements.{All-head, All-tail}}
 use Rattle.definitions.specs.Cards.{Card}
-use Rattle.cards.specs.Counts.{count_after}
-use Rattle.cards.specs.Causes.{when, first_cause}
-use Rattle.cards.specs.Edits.{is_place, fault_of, edited, edited_by, first_fault}
-use Rattle.cards.specs.declared.edits.Edit.{Edit}
-use Rattle.cards.specs.declared.edits.Edit.TheVariants.{Insert, Replace, Remove}
-use Rattle.cards.proofs.FaultLaws.{applies-in, edited-few, edited-length, made-in}
-use Rattle.deck_assembler.specs.Joins.Agreements.{HaveSameEnd}
-use Rattle.deck_assembler.proofs.OntoLaws.{drop-more}
+use Rattle.cards.{specs.Counts.count_after, specs.Causes.{when, first_cause}, specs.Edits.{is_place, fault_of, edited, edited_by, first_fault}, specs.declared.edits.Edit.Edit, specs.declared.edits.Edit.TheVariants.{Insert, Replace, Remove}, proofs.FaultLaws.{applies-in, edited-few, edited-length, made-in}}
+use Rattle.deck_assembler.{specs.Joins.Agreements.HaveSameEnd, proofs.OntoLaws.drop-more}
 use Rattle.edit_core.specs.Edited.{count_behind, front_of, StandBehind}
 
 drop-inserted : (n : ℕ) (card : Card) (cards : List Card) → n ≤ length cards → drop (suc n) (insert cards n card) ≡ drop n cards

@@ -1,20 +1,6 @@
 -- Where the decks of two edits agree one after the other, the deck before both agrees with the one behind them.
-use Rattle.std.proofs.Common.{◌≡◌, ◌+◌, ◌-◌, ◌<◌, ◌≤◌, inl, inr, ℕ, List, [], ◌∷◌, ◌++◌, take, drop, min, length, refl, sym, ap, ◌∙◌, subst, arith, append_assoc, length-append, take-append-drop}
-use Rattle.std.specs.Prelude.{map}
-use Rattle.std.specs.List.{AllByRecursion}
-use Rattle.std.proofs.lemmas.Bool.{cases_lt}
-use Rattle.std.proofs.lemmas.List.{length-drop}
-use Rattle.definitions.specs.Statements.{Statement, cards_in}
-use Rattle.definitions.specs.DeckKinds.{kind_of_statements}
-use Rattle.definitions.specs.Laws.Edits.{Edited, Split, DoAgree}
-use Rattle.definitions.specs.Settled.{Settled, defined}
-use Rattle.definitions.specs.Settling.{View, settled_all}
-use Rattle.definitions.specs.Laws.States.{state_after}
-use Rattle.definitions.specs.Laws.Agreement.{Agree, early_symbols, settled_tail, unnumbered, AgreeOnTail, HaveSameCards}
-use Rattle.definitions.proofs.EditLaws.{agreement-lasts, cards_in-append}
-use Rattle.definitions.proofs.NamesLaws.{all-front, all-behind}
-use Rattle.definitions.proofs.StateSteps.{settled_all-in_use}
-use Rattle.definitions.proofs.TailLaws.{tails-agree}
+use Rattle.std.{proofs.Common.{◌≡◌, ◌+◌, ◌-◌, ◌<◌, ◌≤◌, inl, inr, ℕ, List, [], ◌∷◌, ◌++◌, take, drop, min, length, refl, sym, ap, ◌∙◌, subst, arith, append_assoc, length-append, take-append-drop}, specs.Prelude.map, specs.List.AllByRecursion, proofs.lemmas.Bool.cases_lt, proofs.lemmas.List.length-drop}
+use Rattle.definitions.{specs.Statements.{Statement, cards_in}, specs.DeckKinds.kind_of_statements, specs.Laws.Edits.{Edited, Split, DoAgree}, specs.Settled.{Settled, defined}, specs.Settling.{View, settled_all}, specs.Laws.States.state_after, specs.Laws.Agreement.{Agree, early_symbols, settled_tail, unnumbered, AgreeOnTail, HaveSameCards}, proofs.EditLaws.{agreement-lasts, cards_in-append}, proofs.NamesLaws.{all-front, all-behind}, proofs.StateSteps.settled_all-in_use, proofs.TailLaws.tails-agree}
 use Rattle.deck_assembler.proofs.AgreementLaws.{between}
 
 -- the same cards as the same cards

@@ -1,21 +1,8 @@
 -- What is due for edits that are made at once is at most the sum of what is due for each, and what stands between them.
-use Rattle.std.proofs.Common.{◌≡◌, ◌+◌, ◌-◌, ◌≤◌, inl, inr, ℕ, List, ◌++◌, min, length, refl, sym, ap, ◌∙◌, subst, arith, length-append}
-use Rattle.std.proofs.lemmas.Bool.{cases_lt}
-use Rattle.definitions.specs.Statements.{Statement, cards_in}
-use Rattle.definitions.specs.DeckKinds.{kind_of_statements}
-use Rattle.definitions.specs.Laws.Edits.{Edited, IsUntouched, DoAgree}
-use Rattle.definitions.specs.Laws.Rebound.{rebound_front, rebound_tail, context_from}
-use Rattle.definitions.specs.Settling.{settled_all}
-use Rattle.definitions.specs.Laws.Agreement.{settled_tail}
-use Rattle.definitions.specs.declared.deck_kind.DeckKind.{DeckKind}
-use Rattle.definitions.proofs.EditLaws.{cards_in-append}
-use Rattle.definitions.proofs.StateSteps.{settled_all-in_use}
-use Rattle.definitions.proofs.TailLaws.{tails-agree}
-use Rattle.edit_core.specs.Sums.{Ends, AtEnd, Agreeing, in_front, rebound_behind, apart}
-use Rattle.edit_core.proofs.JoinLaws.{HaveCards, fronts-apart, same-count, agree-joined, lasts-in-new, lasts-in-old, shorter-of}
+use Rattle.std.proofs.{Common.{◌≡◌, ◌+◌, ◌-◌, ◌≤◌, inl, inr, ℕ, List, ◌++◌, min, length, refl, sym, ap, ◌∙◌, subst, arith, length-append}, lemmas.Bool.cases_lt}
+use Rattle.definitions.{specs.Statements.{Statement, cards_in}, specs.DeckKinds.kind_of_statements, specs.Laws.Edits.{Edited, IsUntouched, DoAgree}, specs.Laws.Rebound.{rebound_front, rebound_tail, context_from}, specs.Settling.settled_all, specs.Laws.Agreement.settled_tail, specs.declared.deck_kind.DeckKind.DeckKind, proofs.EditLaws.cards_in-append, proofs.StateSteps.settled_all-in_use, proofs.TailLaws.tails-agree}
+use Rattle.edit_core.{specs.Sums.{Ends, AtEnd, Agreeing, in_front, rebound_behind, apart}, proofs.JoinLaws.{HaveCards, fronts-apart, same-count, agree-joined, lasts-in-new, lasts-in-old, shorter-of}, proofs.NeutralJoins.{same-kind, neutral-within, neutral-unbound}, proofs.ReboundJoins.{rebounds, rebounds-counted, rebounds-both, rebounds-alike, front-rebounds, tail-rebounds}}
 use Rattle.deck_assembler.proofs.NeutralLaws.{AreNeutral, front-neutral}
-use Rattle.edit_core.proofs.NeutralJoins.{same-kind, neutral-within, neutral-unbound}
-use Rattle.edit_core.proofs.ReboundJoins.{rebounds, rebounds-counted, rebounds-both, rebounds-alike, front-rebounds, tail-rebounds}
 
 -- two decks, so many cards of which stand before those that edits are of, and so many behind them
 abbrev pub decks_of : List Statement → List Statement → ℕ → ℕ → ℕ → ℕ → Edited

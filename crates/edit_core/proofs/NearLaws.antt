@@ -1,16 +1,8 @@
 -- Edits that lie near each other are made at once, and others behind them.
-use Rattle.std.proofs.Common.{◌≡◌, ◌+◌, ◌≤◌, ◌<◌, ℕ, List, [], ◌∷◌, ◌++◌, min, take, get_or, length, Option, Some, None, suc, refl, sym, ap, ap₂, ◌∙◌, arith, append_assoc}
-use Rattle.std.specs.Prelude.{option_map}
-use Rattle.std.proofs.Math.Seq.{take-suc}
-use Rattle.std.proofs.lemmas.List.{append-nil, take_all}
+use Rattle.std.{proofs.Common.{◌≡◌, ◌+◌, ◌≤◌, ◌<◌, ℕ, List, [], ◌∷◌, ◌++◌, min, take, get_or, length, Option, Some, None, suc, refl, sym, ap, ap₂, ◌∙◌, arith, append_assoc}, specs.Prelude.option_map, proofs.Math.Seq.take-suc, proofs.lemmas.List.{append-nil, take_all}}
 use Rattle.definitions.specs.Cards.{Card}
-use Rattle.cards.specs.Counts.{count_after}
-use Rattle.cards.specs.Edits.{edited, edited_by, fault_of, first_fault}
-use Rattle.cards.specs.declared.edits.Edit.{Edit}
-use Rattle.cards.specs.declared.edits.EditFault.{EditFault}
-use Rattle.cards.proofs.FaultLaws.{applies-in}
-use Rattle.edit_core.specs.Edited.{front_of, count_behind}
-use Rattle.edit_core.specs.Sums.{DueForEach, fronts_sum, ends_sum, rebound_sum, apart, between_from, cards_between, RisesWithinSum, RisesWithinSumCode}
+use Rattle.cards.{specs.Counts.count_after, specs.Edits.{edited, edited_by, fault_of, first_fault}, specs.declared.edits.Edit.Edit, specs.declared.edits.EditFault.EditFault, proofs.FaultLaws.applies-in}
+use Rattle.edit_core.specs.{Edited.{front_of, count_behind}, Sums.{DueForEach, fronts_sum, ends_sum, rebound_sum, apart, between_from, cards_between, RisesWithinSum, RisesWithinSumCode}}
 
 -- an edit and so many others have so many cards between them; whatever edits follow are known by what these touch
 pub record AreTouched (first : Edit) (others : List Edit) (k count between before behind left : ℕ) : Type 0 where

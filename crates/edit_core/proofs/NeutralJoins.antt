@@ -1,22 +1,8 @@
 -- None of the neutral statements that decks of two kinds begin with is bound otherwise.
-use Rattle.std.proofs.Common.{◌≡◌, ◌⊎◌, inl, inr, ℕ, Bool, true, false, not, List, [], ◌∷◌, ◌++◌, Some, refl, sym, ap, arith, codes, if◌then◌else◌}
-use Rattle.std.specs.List.{list_any}
-use Rattle.std.proofs.lemmas.Bool.{true≢false}
-use Rattle.definitions.specs.Characters.{same_text}
-use Rattle.definitions.specs.Expressions.{Element}
-use Rattle.definitions.specs.Fields.{fields_of}
-use Rattle.definitions.specs.Operands.{Unread, BadOperand, operand_of}
+use Rattle.std.{proofs.Common.{◌≡◌, ◌⊎◌, inl, inr, ℕ, Bool, true, false, not, List, [], ◌∷◌, ◌++◌, Some, refl, sym, ap, arith, codes, if◌then◌else◌}, specs.List.list_any, proofs.lemmas.Bool.true≢false}
+use Rattle.definitions.specs.{Characters.same_text, Expressions.Element, Fields.fields_of, Operands.{Unread, BadOperand, operand_of}, Operations.{Operation, is_neutral, operation_of}, Laws.Rebound.{bound_alike, coded_elements, is_rebound}, Settling.{number_base_of, settle, settled_all}, StatementItems.Context, Statements.Statement, declared.deck_kind.DeckKind.DeckKind, declared.deck_kind.DeckKind.TheVariants.{Rel, Abs, Periph}, declared.number_base.NumberBase.NumberBase}
 use Rattle.definitions.specs.Operations as op
-use Rattle.definitions.specs.Operations.{Operation, is_neutral, operation_of}
-use Rattle.definitions.specs.Laws.Rebound.{bound_alike, coded_elements, is_rebound}
-use Rattle.definitions.specs.Settling.{number_base_of, settle, settled_all}
-use Rattle.definitions.specs.StatementItems.{Context}
-use Rattle.definitions.specs.Statements.{Statement}
-use Rattle.definitions.specs.declared.deck_kind.DeckKind.{DeckKind}
-use Rattle.definitions.specs.declared.deck_kind.DeckKind.TheVariants.{Rel, Abs, Periph}
-use Rattle.definitions.specs.declared.number_base.NumberBase.{NumberBase}
-use Rattle.deck_assembler.specs.Joins.DueCodes.{one_where}
-use Rattle.deck_assembler.proofs.NeutralLaws.{AreNeutral, neutral-known}
+use Rattle.deck_assembler.{specs.Joins.DueCodes.one_where, proofs.NeutralLaws.{AreNeutral, neutral-known}}
 use Rattle.edit_core.proofs.ReboundJoins.{rebounds}
 
 -- two kinds are one, or they are not

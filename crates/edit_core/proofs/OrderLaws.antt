@@ -1,20 +1,9 @@
 -- What edits count that are made in groups, one behind the other.
-use Rattle.std.proofs.Common.{◌≡◌, ◌+◌, ◌-◌, ◌*◌, ◌≤◌, ◌<◌, ℕ, suc, Bool, true, false, List, [], ◌∷◌, ◌++◌, take, drop, length, None, refl, sym, ap, ap₂, ◌∙◌, subst, arith, append_assoc, length-append, take-append-drop}
-use Rattle.std.proofs.lemmas.List.{append-nil, length-take-le}
+use Rattle.std.{proofs.Common.{◌≡◌, ◌+◌, ◌-◌, ◌*◌, ◌≤◌, ◌<◌, ℕ, suc, Bool, true, false, List, [], ◌∷◌, ◌++◌, take, drop, length, None, refl, sym, ap, ap₂, ◌∙◌, subst, arith, append_assoc, length-append, take-append-drop}, proofs.lemmas.List.{append-nil, length-take-le}, specs.Prelude.option_map}
 use Rattle.definitions.specs.Cards.{Card}
-use Rattle.cards.specs.Edits.{edited, edited_by, first_fault}
-use Rattle.cards.specs.declared.edits.Edit.{Edit}
-use Rattle.cards.specs.declared.edits.EditFault.{EditFault}
-use Rattle.cards.proofs.FaultLaws.{applies-in}
+use Rattle.cards.{specs.Edits.{edited, edited_by, first_fault}, specs.declared.edits.Edit.Edit, specs.declared.edits.EditFault.EditFault, proofs.FaultLaws.applies-in}
 use Rattle.statement_coder.specs.Meters.{Counts}
-use Rattle.edit_core.specs.Edited.{edits_bound, IsRecordOf, RisesToAnew, RisesToRebound}
-use Rattle.edit_core.specs.Faults.{against_all, record_fault}
-use Rattle.edit_core.specs.Joins.Groups.{IsFirstMade}
-use Rattle.edit_core.specs.Records.{Record}
-use Rattle.edit_core.specs.Sums.{DueForEach, fronts_sum, ends_sum, cards_between, edits_in, statements_sum, CountsInOrder, RisesByGroups, RisesInGroups, RisesWithinSum, RisesWithinSumCode, CountsAnewInGroups}
-use Rattle.edit_core.proofs.NearLaws.{sum-append, sum-append-code, apply-split}
-use Rattle.edit_core.proofs.SumLaws.{single, applies-all}
-use Rattle.std.specs.Prelude.{option_map}
+use Rattle.edit_core.{specs.Edited.{edits_bound, IsRecordOf, RisesToAnew, RisesToRebound}, specs.Faults.{against_all, record_fault}, specs.Joins.Groups.IsFirstMade, specs.Records.Record, specs.Sums.{DueForEach, fronts_sum, ends_sum, cards_between, edits_in, statements_sum, CountsInOrder, RisesByGroups, RisesInGroups, RisesWithinSum, RisesWithinSumCode, CountsAnewInGroups}, proofs.NearLaws.{sum-append, sum-append-code, apply-split}, proofs.SumLaws.{single, applies-all}}
 
 pub edited-append : (some others : List Edit) (cards : List Card) → edited_by (some ++ others) cards ≡ edited_by others (edited_by some cards)
 edited-append [] others cards = refl

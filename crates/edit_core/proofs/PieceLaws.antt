@@ -1,16 +1,7 @@
 -- The pieces of a record have all its statements.
-use Rattle.std.specs.List.{sum}
-use Rattle.std.proofs.Common.{ℕ, ◌≡◌, ◌+◌, ◌-◌, ◌<◌, ◌≤◌, All, List, [], ◌∷◌, length, drop, suc, refl, sym, ap, ◌∙◌, arith, length-append, reverse}
-use Rattle.std.proofs.lemmas.List.{length-reverse}
-use Rattle.std.proofs.lemmas.List.Elements.{All-nil, All-cons}
-use Rattle.std.proofs.lemmas.List.Sums.{sum_by-cons}
-use Rattle.definitions.specs.Cards.{Card}
-use Rattle.definitions.specs.DeckKinds.{up_to_end}
-use Rattle.definitions.specs.Statements.{Statement, statements_of}
-use Rattle.definitions.specs.declared.deck_kind.DeckKind.{DeckKind}
-use Rattle.deck_assembler.specs.Joins.DeckParts.{DeckPiece, DeckParts, sized_in}
-use Rattle.deck_assembler.specs.Joins.SizedDecks.{AreSizedFrom, AreFilled, IsSizedDeck}
-use Rattle.deck_assembler.specs.declared.sized_statement.SizedStatement.{SizedStatement}
+use Rattle.std.{specs.List.sum, proofs.Common.{ℕ, ◌≡◌, ◌+◌, ◌-◌, ◌<◌, ◌≤◌, All, List, [], ◌∷◌, length, drop, suc, refl, sym, ap, ◌∙◌, arith, length-append, reverse}, proofs.lemmas.List.length-reverse, proofs.lemmas.List.Elements.{All-nil, All-cons}, proofs.lemmas.List.Sums.sum_by-cons}
+use Rattle.definitions.specs.{Cards.Card, DeckKinds.up_to_end, Statements.{Statement, statements_of}, declared.deck_kind.DeckKind.DeckKind}
+use Rattle.deck_assembler.specs.{Joins.DeckParts.{DeckPiece, DeckParts, sized_in}, Joins.SizedDecks.{AreSizedFrom, AreFilled, IsSizedDeck}, declared.sized_statement.SizedStatement.SizedStatement}
 use Rattle.edit_core.specs.Records.{piece_counts, ArePieces}
 
 -- as many are sized as there are statements

@@ -1,25 +1,7 @@
 -- What is bound otherwise behind two edits is so behind one of them.
-use Rattle.std.proofs.Common.{◌≡◌, ◌+◌, ◌≤◌, ℕ, Bool, true, false, not, List, [], ◌∷◌, ◌++◌, Option, Some, None, cond, length, refl, sym, ap, ap₂, ◌∙◌, subst, arith, length-append}
-use Rattle.std.specs.Prelude.{Result, Ok, Err, ◌&&◌, ◌||◌, map}
-use Rattle.std.specs.List.{count_by, list_any}
-use Rattle.std.proofs.lemmas.Bool.{eqb-true}
-use Rattle.std.proofs.lemmas.Bool.Decides.{Decides-eqb, Decides-int_eq}
-use Rattle.std.proofs.lemmas.List.Recursion.{is_count_by}
-use Rattle.definitions.specs.Expressions.{Element}
-use Rattle.definitions.specs.Forms.{Form, Relocation, Block, External, Part, Added, Subtracted, element_form, same_relocation}
-use Rattle.definitions.specs.Laws.Rebound.{part_base, same_part, same_form, same_value, bound_alike, coded_elements, is_rebound}
-use Rattle.definitions.specs.Settled.{Settled}
-use Rattle.definitions.specs.Settling.{settled_all}
-use Rattle.definitions.specs.StatementItems.{Context, final_names}
-use Rattle.definitions.specs.Statements.{Statement}
-use Rattle.definitions.specs.Laws.Agreement.{settled_tail, unnumbered}
-use Rattle.definitions.specs.declared.deck_kind.DeckKind.{DeckKind}
-use Rattle.definitions.specs.declared.letter.Letter.{Letter}
-use Rattle.definitions.proofs.TailLaws.{settled_all-append}
-use Rattle.definitions.proofs.TestLaws.{and_left, and_right, or_left, or_right, not_false}
-use Rattle.definitions.proofs.TextLaws.{same_text-true}
-use Rattle.deck_assembler.specs.Joins.DueCodes.{one_where}
-use Rattle.deck_assembler.proofs.AgreementLaws.{between}
+use Rattle.std.{proofs.Common.{◌≡◌, ◌+◌, ◌≤◌, ℕ, Bool, true, false, not, List, [], ◌∷◌, ◌++◌, Option, Some, None, cond, length, refl, sym, ap, ap₂, ◌∙◌, subst, arith, length-append}, specs.Prelude.{Result, Ok, Err, ◌&&◌, ◌||◌, map}, specs.List.{count_by, list_any}, proofs.lemmas.Bool.eqb-true, proofs.lemmas.Bool.Decides.{Decides-eqb, Decides-int_eq}, proofs.lemmas.List.Recursion.is_count_by}
+use Rattle.definitions.{specs.Expressions.Element, specs.Forms.{Form, Relocation, Block, External, Part, Added, Subtracted, element_form, same_relocation}, specs.Laws.Rebound.{part_base, same_part, same_form, same_value, bound_alike, coded_elements, is_rebound}, specs.Settled.Settled, specs.Settling.settled_all, specs.StatementItems.{Context, final_names}, specs.Statements.Statement, specs.Laws.Agreement.{settled_tail, unnumbered}, specs.declared.deck_kind.DeckKind.DeckKind, specs.declared.letter.Letter.Letter, proofs.TailLaws.settled_all-append, proofs.TestLaws.{and_left, and_right, or_left, or_right, not_false}, proofs.TextLaws.same_text-true}
+use Rattle.deck_assembler.{specs.Joins.DueCodes.one_where, proofs.AgreementLaws.between}
 
 relocations-both : (a b c : Relocation) → same_relocation a b ≡ true → same_relocation b c ≡ true → same_relocation a c ≡ true
 relocations-both (Block a) (Block b) (Block c) e f = subst (λ t. same_relocation (Block a) (Block t) ≡ true) (same_text-true b c f) e

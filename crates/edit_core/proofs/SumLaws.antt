@@ -1,24 +1,9 @@
 -- What is counted for edits that are made at once is within the sum of what is due for each, and one more for each card between them.
-use Rattle.std.specs.Prelude.{option_map}
-use Rattle.std.proofs.Common.{◌≡◌, ◌+◌, ◌-◌, ◌≤◌, ℕ, Bool, true, false, List, [], ◌∷◌, min, length, All, Option, Some, None, refl, sym, ap, ap₂, ◌∙◌, subst, arith}
-use Rattle.std.proofs.lemmas.List.Elements.{All-cons, All-head, All-nil}
-use Rattle.definitions.specs.Cards.{Card}
-use Rattle.definitions.specs.Laws.Edits.{Edited, IsWithinDue, IsUntouched, DoAgree}
-use Rattle.definitions.specs.Laws.Rebound.{rebound_front, rebound_tail, IsWithinDueCode}
-use Rattle.definitions.specs.Statements.{Statement}
-use Rattle.cards.specs.Counts.{count_after}
-use Rattle.cards.specs.Edits.{edited, edited_by, fault_of, first_fault}
-use Rattle.cards.specs.declared.edits.Edit.{Edit}
-use Rattle.cards.specs.declared.edits.EditFault.{EditFault}
-use Rattle.cards.proofs.FaultLaws.{applies-in, edited-length}
-use Rattle.deck_assembler.specs.Joins.Formers.{known_in}
-use Rattle.deck_assembler.proofs.CutLaws.{known-cards}
-use Rattle.edit_core.specs.Edited.{front_of, count_behind, AreDecksOf, RisesWithinDue, RisesWithinDueCode, StandBehind, StandUnchanged}
-use Rattle.edit_core.specs.Faults.{against_all, record_fault}
-use Rattle.edit_core.specs.Sums.{Ends, AtEnd, Agreeing, in_front, rebound_behind, DueFor, DueForEach, fronts_sum, ends_sum, rebound_sum, apart, between_from, cards_between, RisesWithinSum, RisesWithinSumCode}
-use Rattle.edit_core.proofs.EndLaws.{apart-one}
-use Rattle.edit_core.proofs.JoinLaws.{HaveCards}
-use Rattle.edit_core.proofs.JoinedEdits.{decks_of, front-ordered, join, IsDueAtOnce}
+use Rattle.std.{specs.Prelude.option_map, proofs.Common.{◌≡◌, ◌+◌, ◌-◌, ◌≤◌, ℕ, Bool, true, false, List, [], ◌∷◌, min, length, All, Option, Some, None, refl, sym, ap, ap₂, ◌∙◌, subst, arith}, proofs.lemmas.List.Elements.{All-cons, All-head, All-nil}}
+use Rattle.definitions.specs.{Cards.Card, Laws.Edits.{Edited, IsWithinDue, IsUntouched, DoAgree}, Laws.Rebound.{rebound_front, rebound_tail, IsWithinDueCode}, Statements.Statement}
+use Rattle.cards.{specs.Counts.count_after, specs.Edits.{edited, edited_by, fault_of, first_fault}, specs.declared.edits.Edit.Edit, specs.declared.edits.EditFault.EditFault, proofs.FaultLaws.{applies-in, edited-length}}
+use Rattle.deck_assembler.{specs.Joins.Formers.known_in, proofs.CutLaws.known-cards}
+use Rattle.edit_core.{specs.Edited.{front_of, count_behind, AreDecksOf, RisesWithinDue, RisesWithinDueCode, StandBehind, StandUnchanged}, specs.Faults.{against_all, record_fault}, specs.Sums.{Ends, AtEnd, Agreeing, in_front, rebound_behind, DueFor, DueForEach, fronts_sum, ends_sum, rebound_sum, apart, between_from, cards_between, RisesWithinSum, RisesWithinSumCode}, proofs.EndLaws.apart-one, proofs.JoinLaws.HaveCards, proofs.JoinedEdits.{decks_of, front-ordered, join, IsDueAtOnce}}
 
 -- the numbers that are stated of edits may be stated otherwise
 told-otherwise : (old new : List Statement) (old_count new_count before behind fronts ends between others f e b o : ℕ) → fronts ≡ f → ends ≡ e → between ≡ b → others ≡ o →

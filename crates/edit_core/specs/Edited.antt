@@ -1,22 +1,10 @@
 -- What edits leave of a record (ours).
-use Rattle.std.specs.Prelude.{◌≡◌, ℕ, ⊤, ◌+◌, ◌-◌, ◌^◌, ◌<◌, ◌≤◌, All, true, false, List, [], ◌∷◌, length, reverse, Option, None, Result, Err, IfOk, IfErr}
-use Rattle.std.specs.List.{count_by}
-use Rattle.std.specs.Option.{ForSome}
-use Rattle.definitions.specs.Cards.{Card}
-use Rattle.definitions.specs.DeckKinds.{kind_of_statements, up_to_end}
-use Rattle.definitions.specs.Laws.Edits.{Edited, IsUntouched, IsWithinDue}
-use Rattle.definitions.specs.Laws.Rebound.{context_from, is_rebound, IsWithinDueCode}
-use Rattle.definitions.specs.Settling.{settled_all}
-use Rattle.definitions.specs.Statements.{Statement, statements_of}
-use Rattle.cards.specs.declared.edits.Edit.{Edit}
-use Rattle.cards.specs.declared.edits.Edit.TheVariants.{Insert, Replace, Remove}
-use Rattle.cards.specs.Counts.{count_after}
-use Rattle.cards.specs.Edits.{edited_by}
+use Rattle.std.specs.{Prelude.{◌≡◌, ℕ, ⊤, ◌+◌, ◌-◌, ◌^◌, ◌<◌, ◌≤◌, All, true, false, List, [], ◌∷◌, length, reverse, Option, None, Result, Err, IfOk, IfErr}, List.count_by, Option.ForSome}
+use Rattle.definitions.specs.{Cards.Card, DeckKinds.{kind_of_statements, up_to_end}, Laws.Edits.{Edited, IsUntouched, IsWithinDue}, Laws.Rebound.{context_from, is_rebound, IsWithinDueCode}, Settling.settled_all, Statements.{Statement, statements_of}}
+use Rattle.cards.specs.{declared.edits.Edit.Edit, declared.edits.Edit.TheVariants.{Insert, Replace, Remove}, Counts.count_after, Edits.edited_by}
 use Rattle.statement_coder.specs.Meters.{Counts}
 use Rattle.deck_assembler.specs.Stays.{RisesAnew}
-use Rattle.edit_core.specs.declared.faults.RecordFault.{RecordFault}
-use Rattle.edit_core.specs.declared.faults.RecordFault.TheVariants.{OutOfMemory}
-use Rattle.edit_core.specs.Records.{Record, ArePieces}
+use Rattle.edit_core.specs.{declared.faults.RecordFault.RecordFault, declared.faults.RecordFault.TheVariants.OutOfMemory, Records.{Record, ArePieces}}
 
 -- how many statements these cards have up to END
 abbrev pub statement_count : List Card → ℕ

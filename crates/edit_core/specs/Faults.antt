@@ -1,12 +1,9 @@
 -- What keeps a record from being edited (ours).
 use Rattle.std.specs.Prelude.{ℕ, Bool, true, false, List, Option, Some, option_map}
 use Rattle.definitions.specs.Cards.{Card}
-use Rattle.cards.specs.declared.edits.Edit.{Edit}
-use Rattle.cards.specs.declared.edits.EditFault.{EditFault}
+use Rattle.cards.specs.{declared.edits.Edit.Edit, declared.edits.EditFault.EditFault, Edits.{fault_of, first_fault}}
 use Rattle.cards.specs.declared.edits.EditFault.TheVariants as edit_fault
-use Rattle.cards.specs.Edits.{fault_of, first_fault}
-use Rattle.edit_core.specs.declared.faults.RecordFault.{RecordFault}
-use Rattle.edit_core.specs.declared.faults.RecordFault.TheVariants.{Spent, NoSuchCard, DeckFull}
+use Rattle.edit_core.specs.declared.faults.RecordFault.{RecordFault, TheVariants.{Spent, NoSuchCard, DeckFull}}
 
 -- the fault of an edit, as one of a record
 abbrev pub record_fault : EditFault → RecordFault

@@ -1,12 +1,7 @@
 -- What is due for edits, one after the other (ours).
 use Rattle.std.specs.Prelude.{ℕ, ⊤, ◌≡◌, ◌+◌, ◌-◌, ◌*◌, ◌≤◌, List, [], ◌∷◌, ◌++◌, length, min}
-use Rattle.definitions.specs.Cards.{Card}
-use Rattle.definitions.specs.Laws.Edits.{Edited, IsUntouched, Split, DoAgree}
-use Rattle.definitions.specs.Laws.Rebound.{rebound_front, rebound_tail}
-use Rattle.definitions.specs.Statements.{Statement}
-use Rattle.cards.specs.Counts.{count_after}
-use Rattle.cards.specs.Edits.{edited, edited_by}
-use Rattle.cards.specs.declared.edits.Edit.{Edit}
+use Rattle.definitions.specs.{Cards.Card, Laws.Edits.{Edited, IsUntouched, Split, DoAgree}, Laws.Rebound.{rebound_front, rebound_tail}, Statements.Statement}
+use Rattle.cards.specs.{Counts.count_after, Edits.{edited, edited_by}, declared.edits.Edit.Edit}
 use Rattle.statement_coder.specs.Meters.{Counts}
 use Rattle.edit_core.specs.Edited.{front_of, count_behind, statement_count, AreDecksOf, RisesToAnew, RisesToRebound, StandUnchanged}
 

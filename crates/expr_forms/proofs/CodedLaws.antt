@@ -1,25 +1,6 @@
 -- Numbers of characters: one character more, characters in places, and the words of a cut.
-use Rattle.std.proofs.Common.{◌≡◌, ℕ, zero, suc, ◌+◌, ◌-◌, ◌*◌, ◌/◌, ◌%◌, ◌^◌, ◌<◌, ◌≤◌, Bool, true, false, cond, List, [], ◌∷◌, ◌++◌, Some, length, take, drop, get_or, replicate, refl, sym, ap, ◌∙◌, inl, inr, arith, length-append, subst}
-use Rattle.std.specs.Prelude.{fold, unwrap_or}
-use Rattle.std.proofs.lemmas.List.{take_more, get_or-drop, length-drop, length-replicate, take-append-drop, length-take-le, length-take, get_or_append_left, get_or_at, take_all, drop-take, take-take}
-use Rattle.std.proofs.lemmas.List.Sums.{fold-append}
-use Rattle.std.proofs.lemmas.Bool.Decides.{eqb_tells}
-use Rattle.std.proofs.lemmas.Bool.{cases_Bool, le-leb}
-use Rattle.std.proofs.lemmas.Nat.{pow-add, div-mul-add, mod-mul-add}
-use Rattle.std.proofs.Math.Nat.{mod-eq-sub-mul-div, mul-le-mul_right, mul-lt-mul_of_pos_right}
-use Rattle.std.proofs.Math.Pow.{pow_mono}
-use Rattle.definitions.specs.Characters.{display_code_of}
-use Rattle.definitions.specs.CountedItems.{CountedItem, bits_needed}
-use Rattle.definitions.specs.Forms.{characters_number}
-use Rattle.definitions.specs.Coding.{at_left, blanks, counted_item_bits, counted_item_in, justified, words_needed}
-use Rattle.definitions.specs.Kinds.{word_bits}
-use Rattle.definitions.specs.declared.deck_kind.DeckKind.{DeckKind}
-use Rattle.definitions.specs.declared.deck_kind.DeckKind.TheVariants.{Rel, Abs, Periph}
-use Rattle.definitions.specs.declared.item_letter.ItemLetter.{ItemLetter}
-use Rattle.definitions.specs.declared.item_letter.ItemLetter.TheVariants.{H, A, L, R, C}
-use Rattle.definitions.specs.Words.{cut}
-use Rattle.definitions.proofs.WordLaws.{pow_positive}
-use Rattle.definitions.proofs.LiteralLaws.{characters_number-below, filled_length}
+use Rattle.std.{proofs.Common.{◌≡◌, ℕ, zero, suc, ◌+◌, ◌-◌, ◌*◌, ◌/◌, ◌%◌, ◌^◌, ◌<◌, ◌≤◌, Bool, true, false, cond, List, [], ◌∷◌, ◌++◌, Some, length, take, drop, get_or, replicate, refl, sym, ap, ◌∙◌, inl, inr, arith, length-append, subst}, specs.Prelude.{fold, unwrap_or}, proofs.lemmas.List.{take_more, get_or-drop, length-drop, length-replicate, take-append-drop, length-take-le, length-take, get_or_append_left, get_or_at, take_all, drop-take, take-take}, proofs.lemmas.List.Sums.fold-append, proofs.lemmas.Bool.Decides.eqb_tells, proofs.lemmas.Bool.{cases_Bool, le-leb}, proofs.lemmas.Nat.{pow-add, div-mul-add, mod-mul-add}, proofs.Math.Nat.{mod-eq-sub-mul-div, mul-le-mul_right, mul-lt-mul_of_pos_right}, proofs.Math.Pow.pow_mono}
+use Rattle.definitions.{specs.Characters.display_code_of, specs.CountedItems.{CountedItem, bits_needed}, specs.Forms.characters_number, specs.Coding.{at_left, blanks, counted_item_bits, counted_item_in, justified, words_needed}, specs.Kinds.word_bits, specs.declared.deck_kind.DeckKind.DeckKind, specs.declared.deck_kind.DeckKind.TheVariants.{Rel, Abs, Periph}, specs.declared.item_letter.ItemLetter.ItemLetter, specs.declared.item_letter.ItemLetter.TheVariants.{H, A, L, R, C}, specs.Words.cut, proofs.WordLaws.pow_positive, proofs.LiteralLaws.{characters_number-below, filled_length}}
 use Rattle.expr_forms.specs.Joins.CodedItems.{in_places, is_at_end, filler}
 
 abbrev pub code_or_zero : ℕ → ℕ

@@ -1,11 +1,7 @@
 -- The elements of an expression are those of its links.
-use Rattle.std.proofs.Common.{◌≡◌, List, [], ◌∷◌, ◌++◌, None, refl, sym, ◌∙◌, ap}
-use Rattle.std.specs.Prelude.{map, flat_map}
-use Rattle.definitions.specs.Expressions.{NoSign, Element, Operator, Times, Divide, Add, Subtract, OperatorElement, Term, Expression, Grouped, onto_grouped, grouped, elements_of}
-use Rattle.definitions.specs.StatementItems.{whole_term, whole_counted_item}
-use Rattle.definitions.proofs.TermLaws.{JoinsTerms, links_in}
-use Rattle.expr_forms.specs.Joins.ElementLists.{elements_in, item_alone}
-use Rattle.expr_forms.specs.Joins.Parsed.{BeginsTerm}
+use Rattle.std.{proofs.Common.{◌≡◌, List, [], ◌∷◌, ◌++◌, None, refl, sym, ◌∙◌, ap}, specs.Prelude.{map, flat_map}}
+use Rattle.definitions.{specs.Expressions.{NoSign, Element, Operator, Times, Divide, Add, Subtract, OperatorElement, Term, Expression, Grouped, onto_grouped, grouped, elements_of}, specs.StatementItems.{whole_term, whole_counted_item}, proofs.TermLaws.{JoinsTerms, links_in}}
+use Rattle.expr_forms.specs.Joins.{ElementLists.{elements_in, item_alone}, Parsed.BeginsTerm}
 
 elements_in-append : (front pairs : List OperatorElement) → elements_in (front ++ pairs) ≡ elements_in front ++ elements_in pairs
 elements_in-append [] pairs = refl

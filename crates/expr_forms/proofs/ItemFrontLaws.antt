@@ -1,15 +1,6 @@
 -- The counted item that begins a text begins each front of the text that holds it.
-use Rattle.std.proofs.Common.{◌≡◌, ℕ, zero, suc, ◌+◌, ◌-◌, ◌<◌, ◌≤◌, min, List, [], ◌∷◌, Bool, true, false, cond, ◌&&◌, nat_le, nat_lt, if◌then◌else◌, Option, Some, None, length, take, drop, refl, sym, ◌∙◌, ap, ap₂, subst, arith, ltb-true, ltb-false}
-use Rattle.std.specs.List.{prefix_len}
-use Rattle.std.proofs.lemmas.Bool.{leb-true, le-leb}
-use Rattle.std.proofs.lemmas.List.{drop-take, length-take, take-take}
-use Rattle.std.proofs.lemmas.List.Folds.{length-prefix_len}
-use Rattle.std.proofs.lemmas.List.Sums.{prefix_len-le-length}
-use Rattle.std.proofs.Math.Seq.{drop-length, take-length}
-use Rattle.definitions.specs.Characters.{is_digit}
-use Rattle.definitions.specs.Numerals.{number_of}
-use Rattle.definitions.specs.CountedItems.{CountedSpan, item_letter_of, counted_item_with, counted_item_behind, counted_item_at}
-use Rattle.definitions.specs.declared.item_letter.ItemLetter.{ItemLetter}
+use Rattle.std.{proofs.Common.{◌≡◌, ℕ, zero, suc, ◌+◌, ◌-◌, ◌<◌, ◌≤◌, min, List, [], ◌∷◌, Bool, true, false, cond, ◌&&◌, nat_le, nat_lt, if◌then◌else◌, Option, Some, None, length, take, drop, refl, sym, ◌∙◌, ap, ap₂, subst, arith, ltb-true, ltb-false}, specs.List.prefix_len, proofs.lemmas.Bool.{leb-true, le-leb}, proofs.lemmas.List.{drop-take, length-take, take-take}, proofs.lemmas.List.Folds.length-prefix_len, proofs.lemmas.List.Sums.prefix_len-le-length, proofs.Math.Seq.{drop-length, take-length}}
+use Rattle.definitions.specs.{Characters.is_digit, Numerals.number_of, CountedItems.{CountedSpan, item_letter_of, counted_item_with, counted_item_behind, counted_item_at}, declared.item_letter.ItemLetter.ItemLetter}
 
 -- an item has at most so many characters with its count and letter
 abbrev pub IsWithin : Option CountedSpan → ℕ → Type 0

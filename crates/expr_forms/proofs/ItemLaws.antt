@@ -1,8 +1,6 @@
 -- The numbers of items' characters are small.
-use Rattle.std.proofs.Common.{ℕ, ◌*◌, ◌^◌, ◌<◌, ◌≤◌, List, length, arith}
-use Rattle.std.proofs.Math.Pow.{pow_mono}
-use Rattle.definitions.specs.Forms.{characters_number}
-use Rattle.definitions.proofs.LiteralLaws.{characters_number-below}
+use Rattle.std.proofs.{Common.{ℕ, ◌*◌, ◌^◌, ◌<◌, ◌≤◌, List, length, arith}, Math.Pow.pow_mono}
+use Rattle.definitions.{specs.Forms.characters_number, proofs.LiteralLaws.characters_number-below}
 
 -- nine characters
 pub characters_number-small : (cs : List ℕ) → length cs ≤ 9 → characters_number cs < 2 ^ 54

@@ -1,9 +1,6 @@
 -- The pairs behind an element by the character that begins them.
 use Rattle.std.proofs.Common.{◌≡◌, ℕ, List, [], ◌∷◌, Option, Some, None, refl, ◌∙◌, ap}
-use Rattle.definitions.specs.Pieces.{Mark, Comma, Plus, Minus, Star, Slash, Equals, AtStart, Inside, Begun, Piece, IsMark, IsCountedItem, Plain, mark_of, begun_by, spot_behind, left_of, onto_plain, onto_pieces, pieces_at, pieces_of}
-use Rattle.definitions.specs.Expressions.{Operator, Times, Divide, Add, Subtract, OperatorElement, pairs_of}
-use Rattle.definitions.specs.declared.number_base.NumberBase.{NumberBase}
-use Rattle.definitions.proofs.GrammarLaws.{pairs_from}
+use Rattle.definitions.{specs.Pieces.{Mark, Comma, Plus, Minus, Star, Slash, Equals, AtStart, Inside, Begun, Piece, IsMark, IsCountedItem, Plain, mark_of, begun_by, spot_behind, left_of, onto_plain, onto_pieces, pieces_at, pieces_of}, specs.Expressions.{Operator, Times, Divide, Add, Subtract, OperatorElement, pairs_of}, specs.declared.number_base.NumberBase.NumberBase, proofs.GrammarLaws.pairs_from}
 use Rattle.expr_forms.specs.Joins.Links.{operator_marked}
 
 -- a run is no operator

@@ -1,17 +1,7 @@
 -- Links and terms without those that are one register.
-use Rattle.std.proofs.Common.{◌≡◌, ℕ, ◌≤◌, List, [], ◌∷◌, ◌++◌, length, Bool, true, false, ◌&&◌, if◌then◌else◌, Option, Some, None, refl, sym, ◌∙◌, ap, arith}
-use Rattle.std.specs.Prelude.{is_some, unwrap_or}
-use Rattle.definitions.specs.Pieces.{Piece, mark_of, pieces_of}
-use Rattle.definitions.specs.Expressions.{Element, Operator, Times, Divide, Add, Subtract, OperatorElement, Term, Grouped, onto_grouped, grouped}
-use Rattle.definitions.specs.declared.number_base.NumberBase.{NumberBase}
-use Rattle.definitions.proofs.GrammarLaws.{link_of, StartsWithElement, pairs_from-read, pairs_from}
-use Rattle.definitions.proofs.TermLaws.{JoinsTerms, AreFactorLinks, AreJoined, links_in, term_of, IsGrouping, grouped-groups}
-use Rattle.expr_forms.specs.Joins.Links.{operator_marked, pairs_behind, links_behind, IsLawful}
-use Rattle.expr_forms.specs.Joins.Parsed.{BeginsTerm}
-use Rattle.expr_forms.specs.Joins.LoneRegisters.{joins_terms, is_register, begins_term, is_lone, without_lone, links_left_by, has_no_factors, other_terms, terms_left_by}
-use Rattle.expr_forms.specs.declared.links.LoneRegisters.{LoneRegisters}
-use Rattle.expr_forms.specs.declared.links.LoneRegisters.TheVariants.{Kept, LeftOut}
-use Rattle.expr_forms.proofs.LinkLaws.{link-operator, link-unlawful}
+use Rattle.std.{proofs.Common.{◌≡◌, ℕ, ◌≤◌, List, [], ◌∷◌, ◌++◌, length, Bool, true, false, ◌&&◌, if◌then◌else◌, Option, Some, None, refl, sym, ◌∙◌, ap, arith}, specs.Prelude.{is_some, unwrap_or}}
+use Rattle.definitions.{specs.Pieces.{Piece, mark_of, pieces_of}, specs.Expressions.{Element, Operator, Times, Divide, Add, Subtract, OperatorElement, Term, Grouped, onto_grouped, grouped}, specs.declared.number_base.NumberBase.NumberBase, proofs.GrammarLaws.{link_of, StartsWithElement, pairs_from-read, pairs_from}, proofs.TermLaws.{JoinsTerms, AreFactorLinks, AreJoined, links_in, term_of, IsGrouping, grouped-groups}}
+use Rattle.expr_forms.{specs.Joins.Links.{operator_marked, pairs_behind, links_behind, IsLawful}, specs.Joins.Parsed.BeginsTerm, specs.Joins.LoneRegisters.{joins_terms, is_register, begins_term, is_lone, without_lone, links_left_by, has_no_factors, other_terms, terms_left_by}, specs.declared.links.LoneRegisters.LoneRegisters, specs.declared.links.LoneRegisters.TheVariants.{Kept, LeftOut}, proofs.LinkLaws.{link-operator, link-unlawful}}
 
 begins-by : (base : NumberBase) (o : Operator) (pieces : List Piece) (x : Option (List OperatorElement)) → pairs_from base o pieces ≡ x → is_some x ≡ true →
     joins_terms o ≡ begins_term (unwrap_or x [])

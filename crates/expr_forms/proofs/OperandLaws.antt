@@ -1,11 +1,7 @@
 -- Operands by the subfields that were read.
-use Rattle.std.proofs.Common.{◌≡◌, List, [], ◌∷◌, Bool, true, false, ◌&&◌, Option, refl, ◌∙◌, ap}
-use Rattle.std.specs.Prelude.{is_some}
-use Rattle.std.specs.List.{list_all}
-use Rattle.definitions.specs.Pieces.{Piece}
-use Rattle.definitions.specs.declared.number_base.NumberBase.{NumberBase}
-use Rattle.expr_forms.specs.declared.operands.Subfield.{Subfield}
-use Rattle.expr_forms.specs.Joins.Operands.{IsSubfield, is_subfield, is_operand}
+use Rattle.std.{proofs.Common.{◌≡◌, List, [], ◌∷◌, Bool, true, false, ◌&&◌, Option, refl, ◌∙◌, ap}, specs.Prelude.is_some, specs.List.list_all}
+use Rattle.definitions.specs.{Pieces.Piece, declared.number_base.NumberBase.NumberBase}
+use Rattle.expr_forms.specs.{declared.operands.Subfield.Subfield, Joins.Operands.{IsSubfield, is_subfield, is_operand}}
 
 -- where one subfield is no expression there is no operand
 pub refused_one : (base : NumberBase) (subfields : List (List Piece)) → list_all (is_subfield base) subfields ≡ false → is_operand base subfields ≡ false

@@ -1,14 +1,7 @@
 -- An expression by its sign, its first element and what is behind it.
-use Rattle.std.proofs.Common.{◌≡◌, ◌≢◌, ℕ, ◌+◌, ◌*◌, ◌≤◌, inl, inr, List, [], ◌∷◌, length, Bool, true, false, ◌==◌, if◌then◌else◌, Option, Some, None, refl, sym, ◌∙◌, ap, subst, arith, length-append, zero, suc, ne_eqb}
-use Rattle.std.specs.Prelude.{is_some, unwrap_or}
-use Rattle.definitions.specs.CountedItems.{CountedSpan, counted_item_at}
-use Rattle.definitions.specs.Pieces.{Mark, Comma, Plus, Minus, Star, Slash, Equals, Spot, Inside, Begun, ByMark, ByCountedItem, ByOther, Piece, IsMark, IsCountedItem, Plain, mark_of, begun_by, begun_by_counted_item, begun_at, spot_behind, left_of, onto_plain, onto_pieces, pieces_at, pieces_of}
-use Rattle.definitions.specs.Expressions.{Sign, NoSign, PlusSign, MinusSign, OfNumber, OfCountedItem, Element, ANumber, ACountedItem, ASymbol, ARegister, LocationCounter, OriginCounter, ALiteral, Operator, Add, Subtract, OperatorElement, onto_pairs, grouped, with_sign, expression_of}
-use Rattle.definitions.specs.Laws.Grammar.{IsElement, operator_of}
-use Rattle.definitions.specs.declared.number_base.NumberBase.{NumberBase}
-use Rattle.definitions.proofs.GrammarLaws.{link_of, AreLinks, pairs_of-read, pairs_from}
-use Rattle.expr_forms.specs.Joins.Links.{pairs_behind, links_behind, links_left, IsLawful}
-use Rattle.expr_forms.specs.declared.links.Link.{Link}
+use Rattle.std.{proofs.Common.{◌≡◌, ◌≢◌, ℕ, ◌+◌, ◌*◌, ◌≤◌, inl, inr, List, [], ◌∷◌, length, Bool, true, false, ◌==◌, if◌then◌else◌, Option, Some, None, refl, sym, ◌∙◌, ap, subst, arith, length-append, zero, suc, ne_eqb}, specs.Prelude.{is_some, unwrap_or}}
+use Rattle.definitions.{specs.CountedItems.{CountedSpan, counted_item_at}, specs.Pieces.{Mark, Comma, Plus, Minus, Star, Slash, Equals, Spot, Inside, Begun, ByMark, ByCountedItem, ByOther, Piece, IsMark, IsCountedItem, Plain, mark_of, begun_by, begun_by_counted_item, begun_at, spot_behind, left_of, onto_plain, onto_pieces, pieces_at, pieces_of}, specs.Expressions.{Sign, NoSign, PlusSign, MinusSign, OfNumber, OfCountedItem, Element, ANumber, ACountedItem, ASymbol, ARegister, LocationCounter, OriginCounter, ALiteral, Operator, Add, Subtract, OperatorElement, onto_pairs, grouped, with_sign, expression_of}, specs.Laws.Grammar.{IsElement, operator_of}, specs.declared.number_base.NumberBase.NumberBase, proofs.GrammarLaws.{link_of, AreLinks, pairs_of-read, pairs_from}}
+use Rattle.expr_forms.specs.{Joins.Links.{pairs_behind, links_behind, links_left, IsLawful}, declared.links.Link.Link}
 
 -- a plus in front
 pub signed-plus : (base : NumberBase) (text body : List ℕ) (c : ℕ) → text ≡ c ∷ body → c ≡ 43 →

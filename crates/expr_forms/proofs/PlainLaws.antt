@@ -1,22 +1,7 @@
 -- What is known of an expression without registers and literals.
-use Rattle.std.proofs.Common.{◌≡◌, ℕ, Some, None, Option, List, [], ◌∷◌, ◌++◌, Bool, true, false, ◌&&◌, refl, sym, ◌∙◌, ap, append_assoc}
-use Rattle.std.specs.Prelude.{map, flat_map, filter_map, option_map, unwrap_or, is_some}
-use Rattle.std.specs.List.{cons_option, list_all}
-use Rattle.std.proofs.lemmas.List.{append-nil}
-use Rattle.std.proofs.lemmas.List.Folds.{list_all-append}
-use Rattle.definitions.proofs.TestLaws.{and_left, and_right}
-use Rattle.definitions.proofs.TermLaws.{JoinsTerms}
-use Rattle.definitions.specs.Expressions.{Sign, NoSign, PlusSign, MinusSign, Literal, OfNumber, OfCountedItem, Element, ANumber, ACountedItem, ASymbol, ARegister, LocationCounter, OriginCounter, ALiteral, Operator, Times, Divide, Add, Subtract, OperatorElement, Term, Grouped, onto_grouped, grouped, onto_pairs, is_allowed}
-use Rattle.definitions.specs.Laws.Grammar.{operator_of}
-use Rattle.definitions.specs.Literals.{literal_in}
-use Rattle.definitions.specs.Matching.{Sum, onto_sum, sum_of}
-use Rattle.definitions.specs.declared.number_base.NumberBase.{NumberBase}
-use Rattle.expr_forms.specs.Joins.Links.{links_behind}
-use Rattle.expr_forms.specs.Joins.LoneRegisters.{has_terms}
-use Rattle.expr_forms.specs.Joins.Parsed.{are_plain, expression_behind, IsPlainSum}
-use Rattle.expr_forms.specs.declared.links.LoneRegisters.TheVariants.{Kept}
-use Rattle.expr_forms.proofs.ElementListLaws.{elements_in-links}
-use Rattle.expr_forms.proofs.LoneLaws.{left-links}
+use Rattle.std.{proofs.Common.{◌≡◌, ℕ, Some, None, Option, List, [], ◌∷◌, ◌++◌, Bool, true, false, ◌&&◌, refl, sym, ◌∙◌, ap, append_assoc}, specs.Prelude.{map, flat_map, filter_map, option_map, unwrap_or, is_some}, specs.List.{cons_option, list_all}, proofs.lemmas.List.append-nil, proofs.lemmas.List.Folds.list_all-append}
+use Rattle.definitions.{proofs.TestLaws.{and_left, and_right}, proofs.TermLaws.JoinsTerms, specs.Expressions.{Sign, NoSign, PlusSign, MinusSign, Literal, OfNumber, OfCountedItem, Element, ANumber, ACountedItem, ASymbol, ARegister, LocationCounter, OriginCounter, ALiteral, Operator, Times, Divide, Add, Subtract, OperatorElement, Term, Grouped, onto_grouped, grouped, onto_pairs, is_allowed}, specs.Laws.Grammar.operator_of, specs.Literals.literal_in, specs.Matching.{Sum, onto_sum, sum_of}, specs.declared.number_base.NumberBase.NumberBase}
+use Rattle.expr_forms.{specs.Joins.Links.links_behind, specs.Joins.LoneRegisters.has_terms, specs.Joins.Parsed.{are_plain, expression_behind, IsPlainSum}, specs.declared.links.LoneRegisters.TheVariants.Kept, proofs.ElementListLaws.elements_in-links, proofs.LoneLaws.left-links}
 
 -- what is allowed without literals is allowed with them
 allowed-more : (literals : Bool) (e : Element) → is_allowed false e ≡ true → is_allowed literals e ≡ true

@@ -1,10 +1,6 @@
 -- Variable fields by their texts.
-use Rattle.std.proofs.Common.{◌≡◌, ℕ, ◌-◌, List, [], ◌∷◌, ◌++◌, true, false, ◌==◌, ◌&&◌, length, take, refl, sym, ◌∙◌, ap, arith, length-append, eq-eqb, ne_eqb, nat_eq}
-use Rattle.std.proofs.Math.Bool.{and-true}
-use Rattle.std.proofs.Math.Seq.{take-append_seam}
-use Rattle.definitions.specs.Characters.{same_text, slash}
-use Rattle.definitions.specs.Symbols.{is_linked_name}
-use Rattle.definitions.specs.Operands.{is_common_name}
+use Rattle.std.proofs.{Common.{◌≡◌, ℕ, ◌-◌, List, [], ◌∷◌, ◌++◌, true, false, ◌==◌, ◌&&◌, length, take, refl, sym, ◌∙◌, ap, arith, length-append, eq-eqb, ne_eqb, nat_eq}, Math.Bool.and-true, Math.Seq.take-append_seam}
+use Rattle.definitions.specs.{Characters.{same_text, slash}, Symbols.is_linked_name, Operands.is_common_name}
 
 -- a text that begins with a character is that one where nothing is behind it
 pub lone : (text behind : List ℕ) (first character : ℕ) → text ≡ first ∷ behind → first ≡ character →

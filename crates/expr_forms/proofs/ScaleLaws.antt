@@ -1,10 +1,5 @@
 -- A number times a power of two, where the number is known up to a cap.
-use Rattle.std.proofs.Common.{◌≡◌, ◌≢◌, ℕ, ◌+◌, ◌-◌, ◌*◌, ◌^◌, ◌/◌, ◌<◌, ◌≤◌, min, Bool, true, false, Option, Some, refl, sym, ◌∙◌, ap, arith, if◌then◌else◌, inl, inr}
-use Rattle.std.proofs.lemmas.Bool.{le-leb, lt-leb}
-use Rattle.std.proofs.lemmas.Bool.Decides.{leb_tells}
-use Rattle.std.proofs.lemmas.Nat.{shr_le, le-div, pow_pos}
-use Rattle.std.proofs.Math.Pow.{pow_mono}
-use Rattle.std.proofs.Math.Nat.{div-mul-le_self, mul-le-mul_right, mul-le-mul}
+use Rattle.std.proofs.{Common.{◌≡◌, ◌≢◌, ℕ, ◌+◌, ◌-◌, ◌*◌, ◌^◌, ◌/◌, ◌<◌, ◌≤◌, min, Bool, true, false, Option, Some, refl, sym, ◌∙◌, ap, arith, if◌then◌else◌, inl, inr}, lemmas.Bool.{le-leb, lt-leb}, lemmas.Bool.Decides.leb_tells, lemmas.Nat.{shr_le, le-div, pow_pos}, Math.Pow.pow_mono, Math.Nat.{div-mul-le_self, mul-le-mul_right, mul-le-mul}}
 use Rattle.definitions.specs.Symbols.{Number, Value, TooGreat, bounded, greatest}
 
 -- a number above the greatest

@@ -1,14 +1,7 @@
 -- A field is cut into its first subfield and those behind its comma.
-use Rattle.std.proofs.Common.{◌≡◌, ℕ, zero, suc, ◌+◌, ◌-◌, ◌<◌, ◌≤◌, List, [], ◌∷◌, Bool, true, false, cond, ◌==◌, if◌then◌else◌, Option, Some, None, take, drop, refl, sym, ◌∙◌, ap, ap₂, subst, arith, drop-drop}
-use Rattle.std.specs.Prelude.{is_none}
-use Rattle.std.specs.List.{prefix_len, onto_first}
-use Rattle.definitions.specs.Characters.{equals}
-use Rattle.definitions.specs.CountedItems.{CountedSpan, counted_item_at}
-use Rattle.definitions.specs.Pieces.{Mark, Comma, Plus, Minus, Star, Slash, Equals, Spot, AtStart, AtEquals, Inside, Begun, ByMark, ByCountedItem, ByOther, Piece, IsMark, IsCountedItem, Plain, mark_of, begun_by, begun_by_counted_item, begun_at, spot_behind, left_of, onto_plain, pieces_at, pieces_of, subfields_of}
-use Rattle.expr_forms.specs.Joins.Subfields.{ends_subfield, subfield_len, len_to_mark, text_behind, subfields_left}
-use Rattle.expr_forms.proofs.ItemFrontLaws.{IsWithin, item-front}
-use Rattle.expr_forms.proofs.PieceLaws.{is_of_run, pieces_begun}
-use Rattle.expr_forms.proofs.ParseLaws.{mark_by}
+use Rattle.std.{proofs.Common.{◌≡◌, ℕ, zero, suc, ◌+◌, ◌-◌, ◌<◌, ◌≤◌, List, [], ◌∷◌, Bool, true, false, cond, ◌==◌, if◌then◌else◌, Option, Some, None, take, drop, refl, sym, ◌∙◌, ap, ap₂, subst, arith, drop-drop}, specs.Prelude.is_none, specs.List.{prefix_len, onto_first}}
+use Rattle.definitions.specs.{Characters.equals, CountedItems.{CountedSpan, counted_item_at}, Pieces.{Mark, Comma, Plus, Minus, Star, Slash, Equals, Spot, AtStart, AtEquals, Inside, Begun, ByMark, ByCountedItem, ByOther, Piece, IsMark, IsCountedItem, Plain, mark_of, begun_by, begun_by_counted_item, begun_at, spot_behind, left_of, onto_plain, pieces_at, pieces_of, subfields_of}}
+use Rattle.expr_forms.{specs.Joins.Subfields.{ends_subfield, subfield_len, len_to_mark, text_behind, subfields_left}, proofs.ItemFrontLaws.{IsWithin, item-front}, proofs.PieceLaws.{is_of_run, pieces_begun}, proofs.ParseLaws.mark_by}
 
 -- how long a subfield is that goes on with what began
 abbrev len_begun : Begun → List ℕ → ℕ

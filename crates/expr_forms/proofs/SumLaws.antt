@@ -1,12 +1,7 @@
 -- Sums taken apart link by link.
-use Rattle.std.proofs.Common.{◌≡◌, ℕ, ◌<◌, length-append, Some, None, List, [], ◌∷◌, ◌++◌, length, true, false, ◌&&◌, if◌then◌else◌, refl, sym, ◌∙◌, ap, subst, arith, append_assoc}
-use Rattle.std.proofs.lemmas.List.{append-nil}
-use Rattle.definitions.specs.Expressions.{Sign, Element, ANumber, ACountedItem, ASymbol, ARegister, LocationCounter, OriginCounter, ALiteral, Operator, Times, Divide, Add, Subtract, OperatorElement, Term, Expression, Grouped, onto_grouped, grouped}
-use Rattle.definitions.specs.Symbols.{Register}
-use Rattle.definitions.specs.Matching.{Sum, onto_sum, sum_of, sum_field}
-use Rattle.expr_forms.specs.Joins.LoneRegisters.{joins_terms, is_register, has_no_factors, has_terms, other_terms}
-use Rattle.expr_forms.specs.Joins.Sums.{onto_sum_by, onto_sum_link, field_of, HasParts}
-use Rattle.expr_forms.specs.declared.sums.Parts.{Parts}
+use Rattle.std.proofs.{Common.{◌≡◌, ℕ, ◌<◌, length-append, Some, None, List, [], ◌∷◌, ◌++◌, length, true, false, ◌&&◌, if◌then◌else◌, refl, sym, ◌∙◌, ap, subst, arith, append_assoc}, lemmas.List.append-nil}
+use Rattle.definitions.specs.{Expressions.{Sign, Element, ANumber, ACountedItem, ASymbol, ARegister, LocationCounter, OriginCounter, ALiteral, Operator, Times, Divide, Add, Subtract, OperatorElement, Term, Expression, Grouped, onto_grouped, grouped}, Symbols.Register, Matching.{Sum, onto_sum, sum_of, sum_field}}
+use Rattle.expr_forms.specs.{Joins.LoneRegisters.{joins_terms, is_register, has_no_factors, has_terms, other_terms}, Joins.Sums.{onto_sum_by, onto_sum_link, field_of, HasParts}, declared.sums.Parts.Parts}
 
 sum-onto : (pair : OperatorElement) (o : Operator) (behind : List OperatorElement) (sum : Sum) → pair.operator ≡ o →
     sum_of (onto_grouped pair o (grouped behind)).terms sum ≡ sum_of (grouped behind).terms (onto_sum_by (joins_terms o) pair (grouped behind).factors sum)

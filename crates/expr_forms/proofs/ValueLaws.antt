@@ -1,14 +1,7 @@
 -- The value of an expression, one link more at a time.
-use Rattle.std.proofs.Common.{◌≡◌, ℕ, subst, List, [], ◌∷◌, refl, sym, ◌∙◌, ap}
-use Rattle.std.specs.Prelude.{Result, Ok, Err, pos}
-use Rattle.definitions.specs.Expressions.{Element, Operator, OperatorElement, Term, Expression, Grouped, grouped}
-use Rattle.definitions.specs.Forms.{Form, Names, Running, element_form, combined_with, product, plus_term, sum_from, closed, value_of, absolute}
-use Rattle.definitions.specs.declared.letter.Letter.{Letter}
-use Rattle.definitions.proofs.TermLaws.{JoinsFactors, JoinsTerms, term_of, onto_grouped-factor, onto_grouped-term}
-use Rattle.expr_forms.specs.Joins.Parsed.{BeginsTerm}
-use Rattle.expr_forms.specs.Joins.Running.{bases_as, AreSmall}
-use Rattle.expr_forms.specs.Joins.Walks.{value_at}
-use Rattle.expr_forms.specs.declared.running.Base.{Base}
+use Rattle.std.{proofs.Common.{◌≡◌, ℕ, subst, List, [], ◌∷◌, refl, sym, ◌∙◌, ap}, specs.Prelude.{Result, Ok, Err, pos}}
+use Rattle.definitions.{specs.Expressions.{Element, Operator, OperatorElement, Term, Expression, Grouped, grouped}, specs.Forms.{Form, Names, Running, element_form, combined_with, product, plus_term, sum_from, closed, value_of, absolute}, specs.declared.letter.Letter.Letter, proofs.TermLaws.{JoinsFactors, JoinsTerms, term_of, onto_grouped-factor, onto_grouped-term}}
+use Rattle.expr_forms.specs.{Joins.Parsed.BeginsTerm, Joins.Running.{bases_as, AreSmall}, Joins.Walks.value_at, declared.running.Base.Base}
 
 -- a fault stays the product
 product-fault : (names : Names) (l : Letter) (factors : List OperatorElement) → product names (Err l) factors ≡ Err l

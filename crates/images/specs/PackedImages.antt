@@ -2,10 +2,7 @@
 -- (ours).
 use Rattle.std.specs.Prelude.{ℕ, List, flat_map}
 use Rattle.word_packing.specs.Packing.{packed}
-use Rattle.images.specs.Processors.{hexadecimal_digits}
-use Rattle.images.specs.declared.word_rows.WordRow.{WordRow}
-use Rattle.images.specs.declared.image.Section.{Section}
-use Rattle.images.specs.declared.image.Image.{Image}
+use Rattle.images.specs.{Processors.hexadecimal_digits, declared.word_rows.WordRow.WordRow, declared.image.Section.Section, declared.image.Image.Image}
 
 -- the bytes of a row
 abbrev pub row_bytes : WordRow → List ℕ

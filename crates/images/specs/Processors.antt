@@ -1,7 +1,6 @@
 -- The words of the two processors (6600 Computer System Reference Manual 60100000).
 use Rattle.std.specs.Prelude.{ℕ}
-use Rattle.images.specs.declared.processor.Processor.{Processor}
-use Rattle.images.specs.declared.processor.Processor.TheVariants.{Central, Peripheral}
+use Rattle.images.specs.declared.processor.Processor.{Processor, TheVariants.{Central, Peripheral}}
 
 -- how many hexadecimal digits a word has: 60 bits, or 12
 abbrev pub hexadecimal_digits : Processor → ℕ

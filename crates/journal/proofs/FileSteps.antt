@@ -1,11 +1,6 @@
 -- Steps of the file of a journal: what it has kept goes on.
 use Rattle.std.proofs.Common.{ℕ, ◌≡◌, ◌+◌, ◌≤◌, ◌<◌, List, [], ◌∷◌, ◌++◌, length, Bool, true, false, refl, sym, ap, subst, ◌∙◌, arith, append_assoc, append-nil, length-append}
-use Rattle.journal.specs.Queues.{InOrder, texts_from}
-use Rattle.journal.specs.Records.{text_with_version}
-use Rattle.journal.specs.declared.marks.Mark.{Mark}
-use Rattle.journal.specs.Marks.{mark_behind}
-use Rattle.journal.proofs.MarkSteps.{mark-none, mark-more}
-use Rattle.journal.specs.JournalFiles.{Append, Sync, CutTo, Step, Note, HasKept, at_opening, cut_back, noted, not_noted, not_synced, not_written, IsRun, JournalFile, TakesStep, TakesSome, CutsLast, IsCutBack, WritesAndNotes, told_to_note, sync_failed, append_failed, HasRecords, AreKept, AreKeptAs, IsKept, IsKeptAs}
+use Rattle.journal.{specs.Queues.{InOrder, texts_from}, specs.Records.text_with_version, specs.declared.marks.Mark.Mark, specs.Marks.mark_behind, proofs.MarkSteps.{mark-none, mark-more}, specs.JournalFiles.{Append, Sync, CutTo, Step, Note, HasKept, at_opening, cut_back, noted, not_noted, not_synced, not_written, IsRun, JournalFile, TakesStep, TakesSome, CutsLast, IsCutBack, WritesAndNotes, told_to_note, sync_failed, append_failed, HasRecords, AreKept, AreKeptAs, IsKept, IsKeptAs}}
 
 -- ---- runs of records
 

@@ -1,18 +1,7 @@
 -- The journal of bytes that begin with a line, or with none.
-use Rattle.std.proofs.Common.{ℕ, ◌≡◌, ◌+◌, ◌<◌, ◌≤◌, ◌==◌, List, [], ◌∷◌, ◌++◌, Bool, true, false, if◌then◌else◌, Option, None, Some, length, refl, ap, ◌∙◌, inl, inr, arith, length-append, le-ltb, lt-ltb}
-use Rattle.std.specs.List.{onto_first}
-use Rattle.std.proofs.lemmas.Bool.Decides.{eqb_tells}
-use Rattle.std.proofs.lemmas.List.Splits.{slice_split_none, slice_split_at, slice_split-cons_no, slice_split-cons_yes}
-use Rattle.text_ports.specs.Lines.{line_feed, IsUnbroken}
-use Rattle.text_ports.proofs.LineLaws.{pieces_of, passed_over, some_piece, first_piece, pieces_of-behind}
-use Rattle.journal.specs.declared.beginning.Open.{Open}
-use Rattle.journal.specs.declared.places.Place.{Place}
-use Rattle.journal.specs.declared.places.Ending.TheVariants.{Whole}
-use Rattle.journal.specs.declared.steps.Step.{Step}
-use Rattle.journal.specs.declared.steps.Step.TheVariants.{Goes, Ends, Wrong, Bad}
-use Rattle.journal.specs.Places.{advanced, behind_record}
-use Rattle.journal.specs.Steps.{line_step}
-use Rattle.journal.specs.Journals.{Journal, ends, in_front, cut_at, faulty_at, last_ending, wrong_ending, read_on, journal_from}
+use Rattle.std.{proofs.Common.{ℕ, ◌≡◌, ◌+◌, ◌<◌, ◌≤◌, ◌==◌, List, [], ◌∷◌, ◌++◌, Bool, true, false, if◌then◌else◌, Option, None, Some, length, refl, ap, ◌∙◌, inl, inr, arith, length-append, le-ltb, lt-ltb}, specs.List.onto_first, proofs.lemmas.Bool.Decides.eqb_tells, proofs.lemmas.List.Splits.{slice_split_none, slice_split_at, slice_split-cons_no, slice_split-cons_yes}}
+use Rattle.text_ports.{specs.Lines.{line_feed, IsUnbroken}, proofs.LineLaws.{pieces_of, passed_over, some_piece, first_piece, pieces_of-behind}}
+use Rattle.journal.specs.{declared.beginning.Open.Open, declared.places.Place.Place, declared.places.Ending.TheVariants.Whole, declared.steps.Step.Step, declared.steps.Step.TheVariants.{Goes, Ends, Wrong, Bad}, Places.{advanced, behind_record}, Steps.line_step, Journals.{Journal, ends, in_front, cut_at, faulty_at, last_ending, wrong_ending, read_on, journal_from}}
 
 -- the journal behind a line of so many bytes, which made this step
 abbrev pub stepped : Step → Place → ℕ → List (List ℕ) → Journal

@@ -1,21 +1,7 @@
 -- Lines that lead from one open record to the next: their journal, and that of a text that ends among them.
-use Rattle.std.proofs.Common.{ℕ, ◌≡◌, ◌≢◌, ◌+◌, ◌-◌, ◌<◌, ◌≤◌, List, [], ◌∷◌, ◌++◌, Option, None, Some, length, take, drop, refl, sym, ap, subst, ◌∙◌, inl, inr, arith, length-append, append_assoc, append-nil}
-use Rattle.std.proofs.lemmas.Bool.Decides.{leb_tells}
-use Rattle.std.proofs.lemmas.List.{length-take-le, take-append-le}
-use Rattle.std.proofs.lemmas.List.Elements.{All-take}
-use Rattle.std.proofs.Math.Seq.{take-add}
-use Rattle.std.proofs.lemmas.List.{take_at, drop_at}
-use Rattle.text_ports.specs.Lines.{line_feed, IsUnbroken}
-use Rattle.text_ports.proofs.LineLaws.{pieces_of}
-use Rattle.journal.specs.declared.beginning.Open.{Open}
-use Rattle.journal.specs.declared.places.Place.{Place}
-use Rattle.journal.specs.declared.steps.Step.{Step}
-use Rattle.journal.specs.declared.steps.Step.TheVariants.{Goes}
-use Rattle.journal.specs.Places.{advanced, capped}
-use Rattle.journal.specs.Records.{ended, text_of_lines}
-use Rattle.journal.specs.Steps.{line_step}
-use Rattle.journal.specs.Journals.{ends, cut_at, journal_from}
-use Rattle.journal.proofs.JournalSteps.{stepped, journal-line, journal-open, journal-cut}
+use Rattle.std.proofs.{Common.{ℕ, ◌≡◌, ◌≢◌, ◌+◌, ◌-◌, ◌<◌, ◌≤◌, List, [], ◌∷◌, ◌++◌, Option, None, Some, length, take, drop, refl, sym, ap, subst, ◌∙◌, inl, inr, arith, length-append, append_assoc, append-nil}, lemmas.Bool.Decides.leb_tells, lemmas.List.{length-take-le, take-append-le, take_at, drop_at}, lemmas.List.Elements.All-take, Math.Seq.take-add}
+use Rattle.text_ports.{specs.Lines.{line_feed, IsUnbroken}, proofs.LineLaws.pieces_of}
+use Rattle.journal.{specs.declared.beginning.Open.Open, specs.declared.places.Place.Place, specs.declared.steps.Step.Step, specs.declared.steps.Step.TheVariants.Goes, specs.Places.{advanced, capped}, specs.Records.{ended, text_of_lines}, specs.Steps.line_step, specs.Journals.{ends, cut_at, journal_from}, proofs.JournalSteps.{stepped, journal-line, journal-open, journal-cut}}
 
 -- a line: no line feed is among its bytes, which are at most 256
 pub record IsLine (line : List ℕ) : Type 0 where

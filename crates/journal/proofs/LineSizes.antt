@@ -1,25 +1,9 @@
 -- The lines of a record have no line feed, and at most 256 bytes.
-use Rattle.std.proofs.Common.{ℕ, ◌≡◌, ◌+◌, ◌≤◌, List, [], ◌++◌, true, length, refl, arith, length-append, codes}
-use Rattle.std.specs.Prelude.{decimal}
-use Rattle.definitions.specs.Cards.{Card, IsCard, card_of}
-use Rattle.definitions.specs.DeckInput.{is_deck_name}
-use Rattle.cards.specs.declared.edits.Edit.{Edit}
-use Rattle.cards.specs.declared.edits.Edit.TheVariants.{Insert, Replace, Remove}
-use Rattle.session_commands.specs.Words.{greatest_number}
-use Rattle.session_commands.specs.Commands.{is_batch_size, is_put_size}
-use Rattle.session_commands.specs.declared.words.Seen.TheVariants.{Exactly}
-use Rattle.session_commands.specs.Lines.{behind_a_blank, name_and_number, line_of_edit, line_in_batch, IsLawfulEdit}
-use Rattle.std.proofs.lemmas.Bool.{and_parts, leb-true}
-use Rattle.std.specs.Prelude.{nat_le}
-use Rattle.journal.specs.declared.changes.Change.{Change}
-use Rattle.journal.specs.declared.changes.Change.TheVariants.{Added, Put, Dropped, Edited, Batch}
-use Rattle.journal.specs.declared.records.Entry.{Entry}
-use Rattle.journal.specs.declared.records.Entry.TheVariants.{Begun, Made}
-use Rattle.journal.specs.declared.records.Record.{Record}
-use Rattle.journal.specs.Records.{line_of_change, line_of_entry, first_line, sum_line}
-use Rattle.journal.specs.Lawful.{IsLawfulChange, IsLawfulEntry, IsLawful}
-use Rattle.journal.proofs.LineChains.{IsLine}
-use Rattle.journal.proofs.PlainTexts.{ArePlain, plain-append, plain-unbroken, decimal-plain, decimal-short, name-plain, name-short, moment-plain, moment-short, card-text}
+use Rattle.std.{proofs.Common.{ℕ, ◌≡◌, ◌+◌, ◌≤◌, List, [], ◌++◌, true, length, refl, arith, length-append, codes}, specs.Prelude.{decimal, nat_le}, proofs.lemmas.Bool.{and_parts, leb-true}}
+use Rattle.definitions.specs.{Cards.{Card, IsCard, card_of}, DeckInput.is_deck_name}
+use Rattle.cards.specs.declared.edits.Edit.{Edit, TheVariants.{Insert, Replace, Remove}}
+use Rattle.session_commands.specs.{Words.greatest_number, Commands.{is_batch_size, is_put_size}, declared.words.Seen.TheVariants.Exactly, Lines.{behind_a_blank, name_and_number, line_of_edit, line_in_batch, IsLawfulEdit}}
+use Rattle.journal.{specs.declared.changes.Change.Change, specs.declared.changes.Change.TheVariants.{Added, Put, Dropped, Edited, Batch}, specs.declared.records.Entry.Entry, specs.declared.records.Entry.TheVariants.{Begun, Made}, specs.declared.records.Record.Record, specs.Records.{line_of_change, line_of_entry, first_line, sum_line}, specs.Lawful.{IsLawfulChange, IsLawfulEntry, IsLawful}, proofs.LineChains.IsLine, proofs.PlainTexts.{ArePlain, plain-append, plain-unbroken, decimal-plain, decimal-short, name-plain, name-short, moment-plain, moment-short, card-text}}
 
 -- a text without line feeds, of at most so many bytes
 pub record Fits (most : ℕ) (text : List ℕ) : Type 0 where

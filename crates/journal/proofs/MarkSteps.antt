@@ -1,11 +1,6 @@
 -- Steps of reading the first bytes of a journal: their mark goes on.
-use Rattle.std.proofs.Common.{ℕ, ◌≡◌, ◌+◌, ◌-◌, ◌≤◌, List, [], ◌++◌, length, Option, refl, sym, ap, ◌∙◌, arith, length-append}
-use Rattle.std.proofs.lemmas.Grind.{fold-append}
-use Rattle.std.proofs.KnownBytes.{Consumes-nil, Consumes-trans}
-use Rattle.std.specs.Io.KnownBytes.{Consumes}
-use Rattle.journal.specs.declared.marks.Mark.{Mark}
-use Rattle.journal.specs.Marks.{first_mark, mark_behind, mark_of, IsRead}
-use Rattle.journal.specs.CheckSums.{sum_over, sum_after}
+use Rattle.std.{proofs.Common.{ℕ, ◌≡◌, ◌+◌, ◌-◌, ◌≤◌, List, [], ◌++◌, length, Option, refl, sym, ap, ◌∙◌, arith, length-append}, proofs.lemmas.Grind.fold-append, proofs.KnownBytes.{Consumes-nil, Consumes-trans}, specs.Io.KnownBytes.Consumes}
+use Rattle.journal.specs.{declared.marks.Mark.Mark, Marks.{first_mark, mark_behind, mark_of, IsRead}, CheckSums.{sum_over, sum_after}}
 
 pub mark-none : (mark : Mark) → mark ≡ mark_behind mark []
 mark-none mark = let same : mark.length ≡ mark.length + 0 = omega arith in ap (λ (n : ℕ). record mark { length = n }) same

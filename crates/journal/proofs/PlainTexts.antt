@@ -1,20 +1,8 @@
 -- Texts without line feeds, and how long they are.
-use Rattle.std.proofs.Common.{ℕ, zero, suc, ◌≡◌, ◌≢◌, ◌<◌, ◌≤◌, ◌==◌, inl, inr, Bool, true, false, ◌&&◌, List, [], ◌∷◌, ◌++◌, Option, None, Some, position, length, get_or, refl, sym, ap, subst, ◌∙◌, arith, if◌then◌else◌, cond, eqb-true, true≢false, le-ltb, lt-ltb}
-use Rattle.std.specs.Prelude.{nat_le, decimal, is_none, ◌||◌}
-use Rattle.std.specs.List.{list_all, position_or_len}
-use Rattle.std.proofs.lemmas.List.Sums.{fails_before_first}
-use Rattle.std.proofs.lemmas.Bool.{and_parts, and_from, le-leb, leb-true, or_cases}
-use Rattle.std.proofs.lemmas.Bool.Decides.{leb_tells}
-use Rattle.std.proofs.lemmas.List.Elements.{All-nil, All-cons}
-use Rattle.std.proofs.lemmas.Fmt.{length-decimal-le}
-use Rattle.std.proofs.lemmas.List.Folds.{list_all-append}
-use Rattle.std.proofs.lemmas.List.Quantifiers.{position-Some}
-use Rattle.definitions.specs.Characters.{blank, is_digit, is_letter, characters, display_code_of, zero_digit}
-use Rattle.definitions.specs.Cards.{Card, CardRead, IsCard, TooWide, BadCharacter, card_of, checked, trimmed}
-use Rattle.definitions.specs.DeckInput.{is_deck_name}
+use Rattle.std.{proofs.Common.{ℕ, zero, suc, ◌≡◌, ◌≢◌, ◌<◌, ◌≤◌, ◌==◌, inl, inr, Bool, true, false, ◌&&◌, List, [], ◌∷◌, ◌++◌, Option, None, Some, position, length, get_or, refl, sym, ap, subst, ◌∙◌, arith, if◌then◌else◌, cond, eqb-true, true≢false, le-ltb, lt-ltb}, specs.Prelude.{nat_le, decimal, is_none, ◌||◌}, specs.List.{list_all, position_or_len}, proofs.lemmas.List.Sums.fails_before_first, proofs.lemmas.Bool.{and_parts, and_from, le-leb, leb-true, or_cases}, proofs.lemmas.Bool.Decides.leb_tells, proofs.lemmas.List.Elements.{All-nil, All-cons}, proofs.lemmas.Fmt.length-decimal-le, proofs.lemmas.List.Folds.list_all-append, proofs.lemmas.List.Quantifiers.position-Some}
+use Rattle.definitions.specs.{Characters.{blank, is_digit, is_letter, characters, display_code_of, zero_digit}, Cards.{Card, CardRead, IsCard, TooWide, BadCharacter, card_of, checked, trimmed}, DeckInput.is_deck_name}
 use Rattle.text_ports.specs.Lines.{line_feed, IsUnbroken}
-use Rattle.session_commands.specs.Words.{greatest_number}
-use Rattle.session_commands.proofs.ReadBack.{all-by, digit-no_blank, no_blank, spells-decimal, IsWord}
+use Rattle.session_commands.{specs.Words.greatest_number, proofs.ReadBack.{all-by, digit-no_blank, no_blank, spells-decimal, IsWord}}
 use Rattle.deck_files.specs.Moments.{moment_form, fits_one, fits, is_moment}
 
 -- a character from the blank on

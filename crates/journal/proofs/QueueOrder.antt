@@ -1,10 +1,6 @@
 -- What goes out of a queue goes out in the order of versions.
-use Rattle.std.proofs.Common.{ℕ, ◌≡◌, ◌+◌, ◌==◌, cond, List, [], ◌∷◌, ◌++◌, length, Contains, Option, Some, None, refl, sym, ap, ap₂, subst, ◌∙◌, arith, inl, inr, append_assoc, append-nil, eqb-true, eq-eqb, length-append}
-use Rattle.std.proofs.lemmas.Bool.{cases_Bool}
-use Rattle.std.proofs.lemmas.List.Elements.{Contains-push, Contains-push_cases, Contains-append_left, Contains-append_right, Contains-append_cases}
-use Rattle.journal.specs.declared.queue.Unwritten.{Unwritten}
-use Rattle.journal.specs.Records.{text_with_version}
-use Rattle.journal.specs.Queues.{GoOut, start, more, draft_of, draft_queued, or_else, unwritten, Waits, AllWait, texts_from, InOrder}
+use Rattle.std.proofs.{Common.{ℕ, ◌≡◌, ◌+◌, ◌==◌, cond, List, [], ◌∷◌, ◌++◌, length, Contains, Option, Some, None, refl, sym, ap, ap₂, subst, ◌∙◌, arith, inl, inr, append_assoc, append-nil, eqb-true, eq-eqb, length-append}, lemmas.Bool.cases_Bool, lemmas.List.Elements.{Contains-push, Contains-push_cases, Contains-append_left, Contains-append_right, Contains-append_cases}}
+use Rattle.journal.specs.{declared.queue.Unwritten.Unwritten, Records.text_with_version, Queues.{GoOut, start, more, draft_of, draft_queued, or_else, unwritten, Waits, AllWait, texts_from, InOrder}}
 
 -- the record that is found waits
 here-or-later : (place : Option Unwritten) (places : List (Option Unwritten)) (version : ℕ) (draft : List ℕ) → or_else (draft_of version place) (draft_queued version places) ≡ Some draft →

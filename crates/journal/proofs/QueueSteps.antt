@@ -1,8 +1,6 @@
 -- What goes out of a queue, record by record.
 use Rattle.std.proofs.Common.{ℕ, ◌≡◌, ◌+◌, List, [], ◌∷◌, ◌++◌, Option, Some, sym, ap, subst, ◌∙◌}
-use Rattle.journal.specs.declared.queue.Unwritten.{Unwritten}
-use Rattle.journal.specs.Records.{text_with_version}
-use Rattle.journal.specs.Queues.{GoOut, start, more, draft_queued}
+use Rattle.journal.specs.{declared.queue.Unwritten.Unwritten, Records.text_with_version, Queues.{GoOut, start, more, draft_queued}}
 
 -- nothing
 pub GoOut-start : (places : List (Option Unwritten)) (first : ℕ) (drafts : List (List ℕ)) (text : List ℕ) → drafts ≡ [] → text ≡ [] → GoOut places first drafts text first

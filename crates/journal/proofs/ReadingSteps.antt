@@ -1,23 +1,9 @@
 -- The steps of reading a record: the lines so far leave the journal of what is left.
-use Rattle.std.proofs.Common.{ℕ, ◌≡◌, ◌+◌, ◌-◌, ◌^◌, ◌<◌, ◌≤◌, List, [], ◌∷◌, ◌++◌, Option, None, Some, length, refl, sym, ap, subst, ◌∙◌, arith, append_assoc, length-append}
-use Rattle.std.specs.Io.KnownBytes.{Consumes}
-use Rattle.std.proofs.KnownBytes.{Consumes-nil, Consumes-trans}
-use Rattle.text_ports.specs.Lines.{line_feed, ReadsWholeLine}
+use Rattle.std.{proofs.Common.{ℕ, ◌≡◌, ◌+◌, ◌-◌, ◌^◌, ◌<◌, ◌≤◌, List, [], ◌∷◌, ◌++◌, Option, None, Some, length, refl, sym, ap, subst, ◌∙◌, arith, append_assoc, length-append}, specs.Io.KnownBytes.Consumes, proofs.KnownBytes.{Consumes-nil, Consumes-trans}}
+use Rattle.text_ports.{specs.Lines.{line_feed, ReadsWholeLine}, proofs.LineLaws.pieces_of}
 use Rattle.text_ports.specs.declared.lines.LineIs.TheVariants as is
-use Rattle.text_ports.proofs.LineLaws.{pieces_of}
-use Rattle.journal.specs.declared.beginning.Open.{Open}
-use Rattle.journal.specs.declared.records.Record.{Record}
-use Rattle.journal.specs.declared.places.Place.{Place}
-use Rattle.journal.specs.declared.places.Ending.{Ending}
-use Rattle.journal.specs.declared.places.Ending.TheVariants.{Whole, Cut, Faulty}
-use Rattle.journal.specs.declared.reading.Next.TheVariants.{Found, Ended}
-use Rattle.journal.specs.declared.steps.Step.{Step}
+use Rattle.journal.{specs.declared.beginning.Open.Open, specs.declared.records.Record.Record, specs.declared.places.Place.Place, specs.declared.places.Ending.Ending, specs.declared.places.Ending.TheVariants.{Whole, Cut, Faulty}, specs.declared.reading.Next.TheVariants.{Found, Ended}, specs.declared.steps.Step.Step, specs.Places.{advanced, behind_record}, specs.Steps.line_step, specs.Journals.{ends, cut_at, faulty_at, journal_from}, specs.Reading.{ReadsNext, EndsIn, EndsWrong, GivesTooMuch, nothing, something}, proofs.JournalSteps.{stepped, journal-line, journal-nothing, journal-open, journal-cut, journal-long, wrong-something, wrong-nothing}}
 use Rattle.journal.specs.declared.steps.Step.TheVariants as step
-use Rattle.journal.specs.Places.{advanced, behind_record}
-use Rattle.journal.specs.Steps.{line_step}
-use Rattle.journal.specs.Journals.{ends, cut_at, faulty_at, journal_from}
-use Rattle.journal.specs.Reading.{ReadsNext, EndsIn, EndsWrong, GivesTooMuch, nothing, something}
-use Rattle.journal.proofs.JournalSteps.{stepped, journal-line, journal-nothing, journal-open, journal-cut, journal-long, wrong-something, wrong-nothing}
 
 -- how the journal ends where no line is left, or it is too long
 pub EndsIn-whole : (old new : Option (List ℕ)) (current : Option Open) (place : Place) (line : List ℕ) → current ≡ None → ReadsWholeLine old new is.End line → EndsIn old new current place Whole

@@ -1,39 +1,12 @@
 -- The lines of a lawful record lead to that record.
-use Rattle.std.proofs.Common.{ℕ, ◌≡◌, ◌*◌, ◌%◌, ◌<◌, ◌≤◌, ◌==◌, Bool, true, List, [], ◌∷◌, ◌++◌, Option, None, Some, Result, Ok, length, map, drop, refl, sym, ap, subst, ◌∙◌, arith, append_assoc, append-nil, if◌then◌else◌}
-use Rattle.std.specs.Prelude.{decimal, option_map, option_and_then, All}
-use Rattle.std.specs.Int.Bits.{bit_xor}
-use Rattle.std.proofs.lemmas.List.{map-id}
-use Rattle.std.proofs.lemmas.List.Sums.{fold-append}
-use Rattle.std.proofs.lemmas.List.Elements.{All-head, All-tail}
-use Rattle.std.proofs.lemmas.Bool.{eq-eqb, and_from}
-use Rattle.definitions.specs.Cards.{Card, CardRead, IsCard, card_of}
-use Rattle.definitions.specs.DeckInput.{Deck, is_deck_name}
-use Rattle.cards.specs.declared.edits.Edit.{Edit}
-use Rattle.cards.specs.declared.edits.Edit.TheVariants.{Insert, Replace, Remove}
+use Rattle.std.{proofs.Common.{ℕ, ◌≡◌, ◌*◌, ◌%◌, ◌<◌, ◌≤◌, ◌==◌, Bool, true, List, [], ◌∷◌, ◌++◌, Option, None, Some, Result, Ok, length, map, drop, refl, sym, ap, subst, ◌∙◌, arith, append_assoc, append-nil, if◌then◌else◌}, specs.Prelude.{decimal, option_map, option_and_then, All}, specs.Int.Bits.bit_xor, proofs.lemmas.List.map-id, proofs.lemmas.List.Sums.fold-append, proofs.lemmas.List.Elements.{All-head, All-tail}, proofs.lemmas.Bool.{eq-eqb, and_from}}
+use Rattle.definitions.specs.{Cards.{Card, CardRead, IsCard, card_of}, DeckInput.{Deck, is_deck_name}}
+use Rattle.cards.specs.declared.edits.Edit.{Edit, TheVariants.{Insert, Replace, Remove}}
 use Rattle.session_commands.specs.declared.commands.Command.TheVariants as command
-use Rattle.session_commands.specs.declared.refusals.Refusal.{Refusal}
-use Rattle.session_commands.specs.Words.{first_word, first_number, behind_word, greatest_number}
-use Rattle.session_commands.specs.Edits.{is_end}
-use Rattle.session_commands.specs.declared.words.Seen.TheVariants.{Exactly}
-use Rattle.session_commands.specs.Lines.{behind_a_blank, line_of_edit, line_in_batch, IsLawfulEdit}
-use Rattle.session_commands.proofs.ReadBack.{word-decimal, word-name, first-word, behind-word, first-number}
-use Rattle.session_commands.proofs.LineLaws.{line-back, batch_line-back}
-use Rattle.journal.specs.declared.changes.Change.TheVariants.{Added, Put, Dropped, Edited, Batch}
-use Rattle.journal.specs.declared.records.Entry.{Entry}
+use Rattle.session_commands.{specs.declared.refusals.Refusal.Refusal, specs.Words.{first_word, first_number, behind_word, greatest_number}, specs.Edits.is_end, specs.declared.words.Seen.TheVariants.Exactly, specs.Lines.{behind_a_blank, line_of_edit, line_in_batch, IsLawfulEdit}, proofs.ReadBack.{word-decimal, word-name, first-word, behind-word, first-number}, proofs.LineLaws.{line-back, batch_line-back}}
+use Rattle.journal.{specs.declared.changes.Change.TheVariants.{Added, Put, Dropped, Edited, Batch}, specs.declared.records.Entry.Entry, specs.declared.records.Record.Record, specs.declared.beginning.Begun.Begun, specs.declared.beginning.Open.Open, specs.declared.steps.Step.TheVariants.{Ends, Wrong}, specs.CheckSums.{first_sum, sum_after, sum_over, check_sum}, specs.Records.{ended, text_of_lines, line_of_entry, lines_behind, first_line, lines_of_record, sum_line}, specs.Begun.{given, begun_by, begun_of, name_of, open_with, opened}, specs.Steps.{deck_with_card, deck_with, edits_with, entry_with, inner_step, has_all, sum_in, end_step, first_step, line_step}, specs.Lawful.{IsLawfulEntry, IsLawful}, proofs.LineChains.{IsLine, IsChain}, proofs.LineSizes.{first-line, card-line, edit-line}, proofs.PlainTexts.moment-word}
 use Rattle.journal.specs.declared.records.Entry.TheVariants as entry
-use Rattle.journal.specs.declared.records.Record.{Record}
-use Rattle.journal.specs.declared.beginning.Begun.{Begun}
-use Rattle.journal.specs.declared.beginning.Open.{Open}
-use Rattle.journal.specs.declared.steps.Step.TheVariants.{Ends, Wrong}
-use Rattle.journal.specs.CheckSums.{first_sum, sum_after, sum_over, check_sum}
 use Rattle.deck_files.specs.Moments.{moment_of}
-use Rattle.journal.specs.Records.{ended, text_of_lines, line_of_entry, lines_behind, first_line, lines_of_record, sum_line}
-use Rattle.journal.specs.Begun.{given, begun_by, begun_of, name_of, open_with, opened}
-use Rattle.journal.specs.Steps.{deck_with_card, deck_with, edits_with, entry_with, inner_step, has_all, sum_in, end_step, first_step, line_step}
-use Rattle.journal.specs.Lawful.{IsLawfulEntry, IsLawful}
-use Rattle.journal.proofs.LineChains.{IsLine, IsChain}
-use Rattle.journal.proofs.LineSizes.{first-line, card-line, edit-line}
-use Rattle.journal.proofs.PlainTexts.{moment-word}
 
 -- what the first line of a record shows
 abbrev pub bare : Entry → Begun

@@ -1,22 +1,7 @@
 -- The journal of the text of records, whole or cut.
-use Rattle.std.proofs.Common.{ℕ, ◌≡◌, ◌+◌, ◌<◌, List, [], ◌∷◌, ◌++◌, None, Some, length, take, refl, sym, ap, ◌∙◌, arith, length-append, append_assoc, append-nil}
-use Rattle.std.specs.Prelude.{All}
-use Rattle.std.proofs.lemmas.List.Elements.{All-head, All-tail}
-use Rattle.text_ports.specs.Lines.{line_feed}
-use Rattle.text_ports.proofs.LineLaws.{pieces_of}
-use Rattle.journal.specs.declared.records.Record.{Record}
-use Rattle.journal.specs.declared.places.Place.{Place}
-use Rattle.journal.specs.declared.places.Ending.TheVariants.{Whole, Cut}
-use Rattle.journal.specs.declared.steps.Step.{Step}
-use Rattle.journal.specs.Places.{capped, at_start, advanced, behind_record}
-use Rattle.journal.specs.Records.{ended, text_of_lines, first_line, lines_of_record, sum_line, text_of_record, text_of_records}
-use Rattle.journal.specs.Journals.{Journal, ends, in_front, cut_at, journal_from, journal_of}
-use Rattle.journal.specs.Lawful.{IsLawful}
-use Rattle.journal.specs.Replaying.{fronted}
-use Rattle.journal.proofs.JournalSteps.{stepped, journal-line, journal-nothing}
-use Rattle.journal.proofs.LineChains.{chain-journal, chain-cut, advanced-twice, length-ended}
-use Rattle.journal.proofs.LineSizes.{sum-line}
-use Rattle.journal.proofs.RecordChains.{open_whole, record-chain, record-ends, sum-told}
+use Rattle.std.{proofs.Common.{ℕ, ◌≡◌, ◌+◌, ◌<◌, List, [], ◌∷◌, ◌++◌, None, Some, length, take, refl, sym, ap, ◌∙◌, arith, length-append, append_assoc, append-nil}, specs.Prelude.All, proofs.lemmas.List.Elements.{All-head, All-tail}}
+use Rattle.text_ports.{specs.Lines.line_feed, proofs.LineLaws.pieces_of}
+use Rattle.journal.{specs.declared.records.Record.Record, specs.declared.places.Place.Place, specs.declared.places.Ending.TheVariants.{Whole, Cut}, specs.declared.steps.Step.Step, specs.Places.{capped, at_start, advanced, behind_record}, specs.Records.{ended, text_of_lines, first_line, lines_of_record, sum_line, text_of_record, text_of_records}, specs.Journals.{Journal, ends, in_front, cut_at, journal_from, journal_of}, specs.Lawful.IsLawful, specs.Replaying.fronted, proofs.JournalSteps.{stepped, journal-line, journal-nothing}, proofs.LineChains.{chain-journal, chain-cut, advanced-twice, length-ended}, proofs.LineSizes.sum-line, proofs.RecordChains.{open_whole, record-chain, record-ends, sum-told}}
 
 -- the place behind a record
 abbrev behind : Record → Place → Place

@@ -1,37 +1,13 @@
 -- The steps of making the changes of a journal again: the records so far are made, and leave the journal of what is left.
-use Rattle.std.proofs.Common.{ℕ, ◌≡◌, ◌+◌, ◌-◌, ◌^◌, ◌<◌, ◌≤◌, Bool, true, false, List, [], ◌∷◌, ◌++◌, Option, None, Some, length, refl, sym, ap, subst, ◌∙◌, inl, inr, arith, append_assoc, append-nil, length-append}
-use Rattle.std.specs.List.{cons_option}
-use Rattle.std.specs.Io.KnownBytes.{Consumes}
-use Rattle.std.proofs.KnownBytes.{Consumes-nil, Consumes-trans}
-use Rattle.std.proofs.lemmas.List.Elements.{filter_map-append}
+use Rattle.std.{proofs.Common.{ℕ, ◌≡◌, ◌+◌, ◌-◌, ◌^◌, ◌<◌, ◌≤◌, Bool, true, false, List, [], ◌∷◌, ◌++◌, Option, None, Some, length, refl, sym, ap, subst, ◌∙◌, inl, inr, arith, append_assoc, append-nil, length-append}, specs.List.cons_option, specs.Io.KnownBytes.Consumes, proofs.KnownBytes.{Consumes-nil, Consumes-trans}, proofs.lemmas.List.Elements.filter_map-append}
 use Rattle.text_ports.specs.Faults.{count_up}
 use Rattle.turn_office.specs.Histories.{Leads, entry}
 use Rattle.desk_core.specs.Changes as changes
-use Rattle.desk_core.specs.Changes.{decks_after}
-use Rattle.desk_core.specs.Desks.{Desk, new_desk_at}
-use Rattle.desk_core.specs.declared.calls.Call.{Call}
-use Rattle.desk_core.specs.declared.replies.Reply.{Reply}
-use Rattle.desk_core.specs.declared.replies.Reply.TheVariants.{Changed}
-use Rattle.desk_core.specs.Steps.{Steps}
-use Rattle.desk_core.specs.Runs.{History, Runs, change_asked, change_in, changes_in}
-use Rattle.desk_core.proofs.EveryRun.{is_of_its_changes}
-use Rattle.journal.specs.declared.changes.Change.{Change}
+use Rattle.desk_core.{specs.Changes.decks_after, specs.Desks.{Desk, new_desk_at}, specs.declared.calls.Call.Call, specs.declared.replies.Reply.Reply, specs.declared.replies.Reply.TheVariants.Changed, specs.Steps.Steps, specs.Runs.{History, Runs, change_asked, change_in, changes_in}, proofs.EveryRun.is_of_its_changes}
+use Rattle.journal.specs.{declared.changes.Change.Change, declared.records.Entry.Entry, declared.records.Entry.TheVariants.{Begun, Made}, declared.records.Record.Record, declared.places.Place.Place, declared.places.Ending.Ending, declared.places.Ending.TheVariants.{Whole, Cut, Faulty}, declared.reading.Next.TheVariants.{Found, Ended}, declared.reading.JournalFault.JournalFault, declared.replaying.ReplayFault.ReplayFault, Places.at_start, Journals.{Journal, in_front, journal_from, journal_of}, Reading.{Tells, TellsEnd, ReadsNext, GivesTooMuch, StopsReading}, Replaying.{replay_fault, call_of, change_of, change_in_entry, change_told, changes_told, begun_at, begun_by, fronted, are_none, IsNotTaken, IsTakenAs, IsTaken, IsReplayed, LeadsTo, StopsReplay, TellsJournal, Replays}}
 use Rattle.journal.specs.declared.changes.Change.TheVariants as change
-use Rattle.journal.specs.declared.records.Entry.{Entry}
-use Rattle.journal.specs.declared.records.Entry.TheVariants.{Begun, Made}
-use Rattle.journal.specs.declared.records.Record.{Record}
-use Rattle.journal.specs.declared.places.Place.{Place}
-use Rattle.journal.specs.declared.places.Ending.{Ending}
-use Rattle.journal.specs.declared.places.Ending.TheVariants.{Whole, Cut, Faulty}
-use Rattle.journal.specs.declared.reading.Next.TheVariants.{Found, Ended}
-use Rattle.journal.specs.declared.reading.JournalFault.{JournalFault}
 use Rattle.journal.specs.declared.reading.JournalFault.TheVariants as fault
-use Rattle.journal.specs.declared.replaying.ReplayFault.{ReplayFault}
 use Rattle.journal.specs.declared.replaying.ReplayFault.TheVariants as replay
-use Rattle.journal.specs.Places.{at_start}
-use Rattle.journal.specs.Journals.{Journal, in_front, journal_from, journal_of}
-use Rattle.journal.specs.Reading.{Tells, TellsEnd, ReadsNext, GivesTooMuch, StopsReading}
-use Rattle.journal.specs.Replaying.{replay_fault, call_of, change_of, change_in_entry, change_told, changes_told, begun_at, begun_by, fronted, are_none, IsNotTaken, IsTakenAs, IsTaken, IsReplayed, LeadsTo, StopsReplay, TellsJournal, Replays}
 
 -- the records so far, of a byte each at least, are made, and leave the journal of what is left
 pub record AreMade (old new : Option (List ℕ)) (first : Bool) (desk : Desk) (place : Place) (count : ℕ) : Type 0 where

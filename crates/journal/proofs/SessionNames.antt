@@ -1,11 +1,6 @@
 -- The name of a session is one that a deck might have.
-use Rattle.std.proofs.Common.{ℕ, ◌≡◌, ◌≤◌, ◌<◌, ◌%◌, ◌||◌, true, length, arith}
-use Rattle.std.specs.Prelude.{decimal}
-use Rattle.std.specs.List.{list_all}
-use Rattle.std.proofs.lemmas.Bool.{and_from, le-leb, or_right}
-use Rattle.std.proofs.lemmas.Fmt.{decimal_nonempty, length-decimal-le}
-use Rattle.definitions.specs.Characters.{is_digit, is_letter}
-use Rattle.definitions.specs.DeckInput.{is_deck_name}
+use Rattle.std.{proofs.Common.{ℕ, ◌≡◌, ◌≤◌, ◌<◌, ◌%◌, ◌||◌, true, length, arith}, specs.Prelude.decimal, specs.List.list_all, proofs.lemmas.Bool.{and_from, le-leb, or_right}, proofs.lemmas.Fmt.{decimal_nonempty, length-decimal-le}}
+use Rattle.definitions.specs.{Characters.{is_digit, is_letter}, DeckInput.is_deck_name}
 use Rattle.session_commands.proofs.ReadBack.{all-by, spells-decimal}
 use Rattle.journal.specs.Names.{session_name}
 

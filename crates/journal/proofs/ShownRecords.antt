@@ -1,7 +1,6 @@
 -- Records that are shown one before the other.
 use Rattle.std.proofs.Common.{ℕ, ◌≡◌, ◌+◌, List, [], ◌∷◌, ◌++◌, length, Option, position, sym, ap, ap₂, ◌∙◌, arith}
-use Rattle.journal.specs.declared.queue.Unwritten.{Unwritten}
-use Rattle.journal.specs.Queues.{Shown, is_at, shown_at, all_shown}
+use Rattle.journal.specs.{declared.queue.Unwritten.Unwritten, Queues.{Shown, is_at, shown_at, all_shown}}
 
 -- the last is shown first
 pub shown-last : (places : List (Option Unwritten)) (version : ℕ) (drafts : List (List ℕ)) (draft : List ℕ) (shown : List (Option Shown)) →

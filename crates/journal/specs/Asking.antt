@@ -1,12 +1,10 @@
 -- Which calls of a desk ask for a change (ours).
 use Rattle.std.specs.Prelude.{ℕ, List}
-use Rattle.desk_core.specs.declared.calls.Call.{Call}
-use Rattle.desk_core.specs.declared.calls.Call.TheVariants.{AddDeck, PutDeck, DropDeck, EditDeck, Batch, EditSince, BatchSince, Undo}
+use Rattle.desk_core.specs.declared.calls.Call.{Call, TheVariants.{AddDeck, PutDeck, DropDeck, EditDeck, Batch, EditSince, BatchSince, Undo}}
 use Rattle.journal.specs.declared.changes.Change.TheVariants as change
 use Rattle.journal.specs.declared.changes.Carry.{Carry as Carrying}
 use Rattle.journal.specs.declared.changes.Carry.TheVariants as carry
-use Rattle.journal.specs.declared.changes.Asked.{Asked}
-use Rattle.journal.specs.declared.changes.Asked.TheVariants.{Change, Carry, Other}
+use Rattle.journal.specs.declared.changes.Asked.{Asked, TheVariants.{Change, Carry, Other}}
 
 -- what a call asks for; who asks is set by the door that keeps the changes
 abbrev pub asked_of : Call → Asked

@@ -1,25 +1,12 @@
 -- How a record begins (ours): its first line shows the version, when it was made, the name of the session, and what was done.
 use Rattle.std.specs.Prelude.{ℕ, List, [], Option, Some, None, Result, Ok, Err, codes, drop, option_and_then, option_map, if◌then◌else◌}
-use Rattle.definitions.specs.Characters.{same_text}
-use Rattle.definitions.specs.DeckInput.{is_deck_name}
-use Rattle.definitions.specs.Fields.{unbroken_front}
-use Rattle.session_commands.specs.declared.commands.Command.{Command}
+use Rattle.definitions.specs.{Characters.same_text, DeckInput.is_deck_name, Fields.unbroken_front}
+use Rattle.session_commands.specs.{declared.commands.Command.Command, declared.refusals.Refusal.Refusal, declared.words.Seen.Seen, declared.words.Seen.TheVariants.{Exactly, Since}, Words.{from_blank, first_word, first_number, behind_word}, Commands.command_of}
 use Rattle.session_commands.specs.declared.commands.Command.TheVariants as command
-use Rattle.session_commands.specs.declared.refusals.Refusal.{Refusal}
 use Rattle.cards.specs.declared.edits.Edit.{Edit}
-use Rattle.session_commands.specs.declared.words.Seen.{Seen}
-use Rattle.session_commands.specs.declared.words.Seen.TheVariants.{Exactly, Since}
-use Rattle.session_commands.specs.Words.{from_blank, first_word, first_number, behind_word}
-use Rattle.session_commands.specs.Commands.{command_of}
-use Rattle.journal.specs.declared.changes.Change.TheVariants.{Added, Put, Dropped, Edited, Batch}
-use Rattle.journal.specs.declared.records.Entry.{Entry}
+use Rattle.journal.specs.{declared.changes.Change.TheVariants.{Added, Put, Dropped, Edited, Batch}, declared.records.Entry.Entry, declared.records.Entry.TheVariants.Made, declared.beginning.Begun.Begun, declared.beginning.Open.Open, CheckSums.{first_sum, sum_over}, Records.ended}
 use Rattle.journal.specs.declared.records.Entry.TheVariants as entry
-use Rattle.journal.specs.declared.records.Entry.TheVariants.{Made}
-use Rattle.journal.specs.declared.beginning.Begun.{Begun}
-use Rattle.journal.specs.declared.beginning.Open.{Open}
-use Rattle.journal.specs.CheckSums.{first_sum, sum_over}
 use Rattle.deck_files.specs.Moments.{moment_of}
-use Rattle.journal.specs.Records.{ended}
 
 -- what is made of a part that a line needs, if it has it
 abbrev pub given : {A B : Type 0} → Option A → (A → Option B) → Option B

@@ -1,6 +1,5 @@
 -- The check sum of a record: FNV-1a of 32 bits (Fowler, Noll and Vo).
-use Rattle.std.specs.Prelude.{ℕ, ◌*◌, ◌%◌, ◌^◌, List, fold}
-use Rattle.std.specs.Int.Bits.{bit_xor}
+use Rattle.std.specs.{Prelude.{ℕ, ◌*◌, ◌%◌, ◌^◌, List, fold}, Int.Bits.bit_xor}
 
 -- the sum with one byte more
 abbrev pub sum_after : ℕ → ℕ → ℕ

@@ -1,10 +1,7 @@
 -- A journal that begins with decks, in place of the changes that led to them (ours).
 use Rattle.std.specs.Prelude.{ℕ, ◌+◌, List, [], ◌∷◌}
 use Rattle.definitions.specs.DeckInput.{Deck}
-use Rattle.journal.specs.declared.changes.Change.TheVariants.{Added}
-use Rattle.journal.specs.declared.records.Entry.TheVariants.{Begun, Made}
-use Rattle.journal.specs.declared.records.Record.{Record}
-use Rattle.journal.specs.Names.{session_name}
+use Rattle.journal.specs.{declared.changes.Change.TheVariants.Added, declared.records.Entry.TheVariants.{Begun, Made}, declared.records.Record.Record, Names.session_name}
 
 -- the record of a deck that is added
 abbrev pub added_record : List ℕ → ℕ → Deck → Record

@@ -1,12 +1,7 @@
 -- Records of changes whose versions are not known yet (ours).
 use Rattle.std.specs.Prelude.{ℕ, Bool, true, false, List, []}
 use Rattle.cards.specs.declared.edits.Edit.{Edit}
-use Rattle.journal.specs.declared.changes.Change.{Change}
-use Rattle.journal.specs.declared.changes.Change.TheVariants.{Added, Put, Dropped, Edited, Batch}
-use Rattle.journal.specs.declared.drafts.Stamp.{Stamp}
-use Rattle.journal.specs.declared.drafts.Form.{Form}
-use Rattle.journal.specs.declared.drafts.Form.TheVariants.{Written, Told, Nothing}
-use Rattle.journal.specs.Records.{text_behind_version}
+use Rattle.journal.specs.{declared.changes.Change.Change, declared.changes.Change.TheVariants.{Added, Put, Dropped, Edited, Batch}, declared.drafts.Stamp.Stamp, declared.drafts.Form.Form, declared.drafts.Form.TheVariants.{Written, Told, Nothing}, Records.text_behind_version}
 
 -- the text of a record from behind its version
 abbrev pub form_text : Form → List ℕ

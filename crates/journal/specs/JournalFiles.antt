@@ -1,8 +1,6 @@
 -- The file of a journal (ours): what it was asked, step by step, and whether it did so; and what it has kept by these steps.
 use Rattle.std.specs.Prelude.{ℕ, ◌≡◌, ◌≢◌, ◌+◌, ◌≤◌, ◌<◌, List, [], ◌∷◌, ◌++◌, length, Bool, true, false}
-use Rattle.journal.specs.declared.marks.Mark.{Mark}
-use Rattle.journal.specs.Marks.{mark_behind}
-use Rattle.journal.specs.Queues.{texts_from}
+use Rattle.journal.specs.{declared.marks.Mark.Mark, Marks.mark_behind, Queues.texts_from}
 
 -- what is asked: to write bytes behind all others; to wait until all that was written is kept, also if the machine fails; to cut off what stands behind so many bytes; to note beside the file how much of it is kept
 pub data Asked : Type 0 where

@@ -1,15 +1,7 @@
 -- A journal (ours): the records of its bytes, and how it ends.
-use Rattle.std.specs.Prelude.{ℕ, ◌+◌, ◌==◌, List, [], ◌∷◌, Option, Some, None, true, false, nat_lt, length, if◌then◌else◌}
-use Rattle.std.specs.List.{slice_split}
+use Rattle.std.specs.{Prelude.{ℕ, ◌+◌, ◌==◌, List, [], ◌∷◌, Option, Some, None, true, false, nat_lt, length, if◌then◌else◌}, List.slice_split}
 use Rattle.definitions.specs.Characters.{line_feed}
-use Rattle.journal.specs.declared.records.Record.{Record}
-use Rattle.journal.specs.declared.places.Place.{Place}
-use Rattle.journal.specs.declared.places.Ending.{Ending}
-use Rattle.journal.specs.declared.places.Ending.TheVariants.{Whole, Cut, Faulty}
-use Rattle.journal.specs.declared.beginning.Open.{Open}
-use Rattle.journal.specs.declared.steps.Step.TheVariants.{Goes, Ends, Wrong, Bad}
-use Rattle.journal.specs.Places.{capped, at_start, advanced, behind_record}
-use Rattle.journal.specs.Steps.{line_step}
+use Rattle.journal.specs.{declared.records.Record.Record, declared.places.Place.Place, declared.places.Ending.Ending, declared.places.Ending.TheVariants.{Whole, Cut, Faulty}, declared.beginning.Open.Open, declared.steps.Step.TheVariants.{Goes, Ends, Wrong, Bad}, Places.{capped, at_start, advanced, behind_record}, Steps.line_step}
 
 -- the records of a journal, and how it ends
 pub record Journal : Type 0 where

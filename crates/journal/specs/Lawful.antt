@@ -1,15 +1,9 @@
 -- Records whose text reads back (ours): a name, numbers that can be written, cards, and where it is a batch or a put as many edits or cards as it may have.
 use Rattle.std.specs.Prelude.{◌≡◌, ◌≤◌, ⊤, IsTrue, length, All}
-use Rattle.definitions.specs.Cards.{Card, IsCard, card_of}
-use Rattle.definitions.specs.DeckInput.{Deck, is_deck_name}
-use Rattle.session_commands.specs.Words.{greatest_number}
-use Rattle.session_commands.specs.Commands.{is_batch_size, is_put_size}
-use Rattle.session_commands.specs.Lines.{IsLawfulEdit}
-use Rattle.journal.specs.declared.changes.Change.{Change}
-use Rattle.journal.specs.declared.changes.Change.TheVariants.{Added, Put, Dropped, Edited, Batch}
-use Rattle.journal.specs.declared.records.Entry.{Entry}
+use Rattle.definitions.specs.{Cards.{Card, IsCard, card_of}, DeckInput.{Deck, is_deck_name}}
+use Rattle.session_commands.specs.{Words.greatest_number, Commands.{is_batch_size, is_put_size}, Lines.IsLawfulEdit}
+use Rattle.journal.specs.declared.{changes.Change.Change, changes.Change.TheVariants.{Added, Put, Dropped, Edited, Batch}, records.Entry.Entry, records.Record.Record}
 use Rattle.journal.specs.declared.records.Entry.TheVariants as entry
-use Rattle.journal.specs.declared.records.Record.{Record}
 use Rattle.deck_files.specs.Moments.{is_moment}
 
 -- a deck with a lawful name and cards

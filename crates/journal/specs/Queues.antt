@@ -1,8 +1,7 @@
 -- Records that are not written yet (ours): one place for each session, and the version of the record that is to be written next.
 use Rattle.std.specs.Prelude.{ℕ, ◌≡◌, ⊤, ◌+◌, ◌==◌, List, [], ◌∷◌, ◌++◌, length, Bool, false, ◌&&◌, Contains, Option, Some, None, if◌then◌else◌, position, set}
 use Rattle.definitions.specs.Characters.{same_text}
-use Rattle.journal.specs.declared.queue.Unwritten.{Unwritten}
-use Rattle.journal.specs.Records.{text_with_version}
+use Rattle.journal.specs.{declared.queue.Unwritten.Unwritten, Records.text_with_version}
 
 -- a record of which it was shown that it is kept: its version, and its text from behind that
 pub record Shown : Type 0 where

@@ -1,16 +1,7 @@
 -- What one call reads of a journal (ours).
-use Rattle.std.specs.Prelude.{ℕ, ◌≡◌, ◌-◌, ◌^◌, ◌<◌, ◌≤◌, ◌⊎◌, List, [], ◌++◌, Option, None, length}
-use Rattle.std.specs.Io.KnownBytes.{Consumes, IsAtEnd}
+use Rattle.std.specs.{Prelude.{ℕ, ◌≡◌, ◌-◌, ◌^◌, ◌<◌, ◌≤◌, ◌⊎◌, List, [], ◌++◌, Option, None, length}, Io.KnownBytes.{Consumes, IsAtEnd}}
 use Rattle.text_ports.specs.Faults.{count_up}
-use Rattle.journal.specs.declared.beginning.Open.{Open}
-use Rattle.journal.specs.declared.places.Place.{Place}
-use Rattle.journal.specs.declared.places.Ending.{Ending}
-use Rattle.journal.specs.declared.places.Ending.TheVariants.{Whole, Cut, Faulty}
-use Rattle.journal.specs.declared.reading.Next.{Next}
-use Rattle.journal.specs.declared.reading.Next.TheVariants.{Found, Ended}
-use Rattle.journal.specs.declared.reading.JournalFault.{JournalFault}
-use Rattle.journal.specs.declared.reading.JournalFault.TheVariants.{ReadFault, OutOfMemory}
-use Rattle.journal.specs.Journals.{ends, in_front, journal_from, cut_at, faulty_at}
+use Rattle.journal.specs.{declared.beginning.Open.Open, declared.places.Place.Place, declared.places.Ending.Ending, declared.places.Ending.TheVariants.{Whole, Cut, Faulty}, declared.reading.Next.Next, declared.reading.Next.TheVariants.{Found, Ended}, declared.reading.JournalFault.JournalFault, declared.reading.JournalFault.TheVariants.{ReadFault, OutOfMemory}, Journals.{ends, in_front, journal_from, cut_at, faulty_at}}
 
 -- what the bytes that were taken are where a journal ends: all that it has left; or no record, whatever follows
 abbrev pub TellsEnd : Option Open → Place → Ending → List ℕ → Option (List ℕ) → Type 0

@@ -1,14 +1,8 @@
 -- The text of a record (ours): a line that shows what was done, a line for each card or edit that belongs to it, behind a blank, and a line with the check sum of the lines before it.
 use Rattle.std.specs.Prelude.{ℕ, List, [], ◌∷◌, ◌++◌, length, map, flat_map, codes, decimal}
 use Rattle.definitions.specs.Characters.{line_feed}
-use Rattle.session_commands.specs.declared.words.Seen.TheVariants.{Exactly}
-use Rattle.session_commands.specs.Lines.{behind_a_blank, name_and_number, line_of_edit, line_in_batch}
-use Rattle.journal.specs.declared.changes.Change.{Change}
-use Rattle.journal.specs.declared.changes.Change.TheVariants.{Added, Put, Dropped, Edited, Batch}
-use Rattle.journal.specs.declared.records.Entry.{Entry}
-use Rattle.journal.specs.declared.records.Entry.TheVariants.{Begun, Made}
-use Rattle.journal.specs.declared.records.Record.{Record}
-use Rattle.journal.specs.CheckSums.{check_sum}
+use Rattle.session_commands.specs.{declared.words.Seen.TheVariants.Exactly, Lines.{behind_a_blank, name_and_number, line_of_edit, line_in_batch}}
+use Rattle.journal.specs.{declared.changes.Change.Change, declared.changes.Change.TheVariants.{Added, Put, Dropped, Edited, Batch}, declared.records.Entry.Entry, declared.records.Entry.TheVariants.{Begun, Made}, declared.records.Record.Record, CheckSums.check_sum}
 
 -- a line and its line feed
 abbrev pub ended : List ℕ → List ℕ

@@ -1,30 +1,11 @@
 -- The changes of a journal made again, one after the other, on a desk (ours).
-use Rattle.std.specs.Prelude.{ℕ, ◌≡◌, ◌≢◌, ◌+◌, ⊤, Bool, true, false, List, [], ◌∷◌, ◌++◌, Option, Some, None, length, filter_map}
-use Rattle.std.specs.Io.KnownBytes.{Consumes, IsAtEnd}
+use Rattle.std.specs.{Prelude.{ℕ, ◌≡◌, ◌≢◌, ◌+◌, ⊤, Bool, true, false, List, [], ◌∷◌, ◌++◌, Option, Some, None, length, filter_map}, Io.KnownBytes.{Consumes, IsAtEnd}}
 use Rattle.desk_core.specs.Changes as changes
-use Rattle.desk_core.specs.declared.calls.Call.{Call}
-use Rattle.desk_core.specs.declared.calls.Call.TheVariants.{AddDeck, PutDeck, DropDeck, EditDeck, Batch}
-use Rattle.desk_core.specs.declared.replies.Refusal.TheVariants.{OutOfMemory}
-use Rattle.desk_core.specs.declared.replies.Reply.{Reply}
-use Rattle.desk_core.specs.declared.replies.Reply.TheVariants.{Changed, Refused}
-use Rattle.desk_core.specs.Desks.{Desk, new_desk_at, decks_of}
-use Rattle.desk_core.specs.Runs.{History, Runs, changes_in}
-use Rattle.desk_core.specs.Steps.{Steps}
-use Rattle.journal.specs.declared.changes.Change.{Change}
+use Rattle.desk_core.specs.{declared.calls.Call.Call, declared.calls.Call.TheVariants.{AddDeck, PutDeck, DropDeck, EditDeck, Batch}, declared.replies.Refusal.TheVariants.OutOfMemory, declared.replies.Reply.Reply, declared.replies.Reply.TheVariants.{Changed, Refused}, Desks.{Desk, new_desk_at, decks_of}, Runs.{History, Runs, changes_in}, Steps.Steps}
+use Rattle.journal.specs.{declared.changes.Change.Change, declared.records.Entry.Entry, declared.records.Entry.TheVariants.{Begun, Made}, declared.records.Record.Record, declared.places.Ending.Ending, declared.places.Ending.TheVariants.{Whole, Cut, Faulty}, declared.reading.JournalFault.JournalFault, declared.replaying.ReplayFault.ReplayFault, declared.places.Place.Place, Places.capped, Journals.{Journal, journal_from, journal_of}, Reading.StopsReading}
 use Rattle.journal.specs.declared.changes.Change.TheVariants as change
-use Rattle.journal.specs.declared.records.Entry.{Entry}
-use Rattle.journal.specs.declared.records.Entry.TheVariants.{Begun, Made}
-use Rattle.journal.specs.declared.records.Record.{Record}
-use Rattle.journal.specs.declared.places.Ending.{Ending}
-use Rattle.journal.specs.declared.places.Ending.TheVariants.{Whole, Cut, Faulty}
-use Rattle.journal.specs.declared.reading.JournalFault.{JournalFault}
 use Rattle.journal.specs.declared.reading.JournalFault.TheVariants as fault
-use Rattle.journal.specs.declared.replaying.ReplayFault.{ReplayFault}
 use Rattle.journal.specs.declared.replaying.ReplayFault.TheVariants as replay
-use Rattle.journal.specs.declared.places.Place.{Place}
-use Rattle.journal.specs.Places.{capped}
-use Rattle.journal.specs.Journals.{Journal, journal_from, journal_of}
-use Rattle.journal.specs.Reading.{StopsReading}
 
 -- the call by which who has a name asks for a change
 abbrev pub call_of : List ℕ → Change → Call

@@ -1,23 +1,10 @@
 -- What a line makes of the record that is open (ours).
 use Rattle.std.specs.Prelude.{ℕ, ◌==◌, List, [], ◌∷◌, ◌++◌, Option, Some, None, Result, Ok, Err, Bool, true, ◌&&◌, codes, length, drop, option_map, if◌then◌else◌}
-use Rattle.definitions.specs.Characters.{blank, same_text}
-use Rattle.definitions.specs.Cards.{CardRead, IsCard, TooWide, BadCharacter, card_of, begins_with}
-use Rattle.definitions.specs.DeckInput.{Deck}
-use Rattle.definitions.specs.Fields.{unbroken_front}
+use Rattle.definitions.specs.{Characters.{blank, same_text}, Cards.{CardRead, IsCard, TooWide, BadCharacter, card_of, begins_with}, DeckInput.Deck, Fields.unbroken_front}
 use Rattle.cards.specs.declared.edits.Edit.{Edit}
-use Rattle.session_commands.specs.declared.refusals.Refusal.{Refusal}
-use Rattle.session_commands.specs.Words.{from_blank, first_number, behind_word}
-use Rattle.session_commands.specs.Edits.{is_end, edit_in_batch}
-use Rattle.journal.specs.declared.changes.Change.{Change}
-use Rattle.journal.specs.declared.changes.Change.TheVariants.{Added, Put, Dropped, Edited, Batch}
-use Rattle.journal.specs.declared.records.Entry.{Entry}
+use Rattle.session_commands.specs.{declared.refusals.Refusal.Refusal, Words.{from_blank, first_number, behind_word}, Edits.{is_end, edit_in_batch}}
+use Rattle.journal.specs.{declared.changes.Change.Change, declared.changes.Change.TheVariants.{Added, Put, Dropped, Edited, Batch}, declared.records.Entry.Entry, declared.beginning.Open.Open, declared.steps.Step.Step, declared.steps.Step.TheVariants.{Goes, Ends, Wrong, Bad}, CheckSums.sum_over, Records.ended, Begun.opened}
 use Rattle.journal.specs.declared.records.Entry.TheVariants as entry
-use Rattle.journal.specs.declared.beginning.Open.{Open}
-use Rattle.journal.specs.declared.steps.Step.{Step}
-use Rattle.journal.specs.declared.steps.Step.TheVariants.{Goes, Ends, Wrong, Bad}
-use Rattle.journal.specs.CheckSums.{sum_over}
-use Rattle.journal.specs.Records.{ended}
-use Rattle.journal.specs.Begun.{opened}
 
 -- a deck with a card more, if it is one
 abbrev pub deck_with_card : Deck → CardRead → Option Deck

@@ -1,31 +1,13 @@
 -- What a desk whose changes are kept reports as refused has changed nothing.
 use Rattle.std.proofs.Common.{ℕ, ◌≡◌, List, Bool, true, false, Option, refl, sym, ap, subst, ◌∙◌}
 use Rattle.cards.specs.declared.edits.Edit.{Edit}
-use Rattle.desk_core.specs.Desks.{Desk, Publication}
-use Rattle.desk_core.specs.declared.calls.Call.{Call}
-use Rattle.desk_core.specs.declared.calls.Call.TheVariants.{AddDeck, PutDeck, DropDeck, EditDeck, Batch, EditSince, BatchSince, Undo, Changes, CardsAt, Cards, Show, Status, Claim, DeliverDeck, DeliverLink, OfferObject, Publish, GiveUp}
-use Rattle.desk_core.specs.declared.replies.Reply.{Reply}
-use Rattle.desk_core.specs.declared.replies.Reply.TheVariants.{Changed, Carried, Unkept, CardsAre, ChangesAre, CardsBefore, Shown, StatusIs, DeckJob, LinkJob, Idle, AllOut, Stored, Considered, Published, Cleared, Refused}
-use Rattle.desk_core.specs.Runs.{IsUnchanged, accepts}
-use Rattle.desk_core.specs.Steps.{Steps}
-use Rattle.desk_core.proofs.Outcomes.{Outcome, by_staying, by_changing, by_publishing, publishes}
-use Rattle.desk_core.proofs.Publishing.{step_comes}
-use Rattle.session_line.specs.DeskRelations.{DeskRelations}
-use Rattle.session_line.specs.declared.greetings.Greeting.{Greeting}
-use Rattle.session_line.specs.Refusing.{tells_refusal}
-use Rattle.session_line.proofs.RefusedCommands.{is_question}
-use Rattle.session_line.specs.Joins.Kinds.{fits_call, is_session_call}
-use Rattle.session_line.proofs.SessionKinds.{session_fits}
+use Rattle.desk_core.{specs.Desks.{Desk, Publication}, specs.declared.calls.Call.Call, specs.declared.calls.Call.TheVariants.{AddDeck, PutDeck, DropDeck, EditDeck, Batch, EditSince, BatchSince, Undo, Changes, CardsAt, Cards, Show, Status, Claim, DeliverDeck, DeliverLink, OfferObject, Publish, GiveUp}, specs.declared.replies.Reply.Reply, specs.declared.replies.Reply.TheVariants.{Changed, Carried, Unkept, CardsAre, ChangesAre, CardsBefore, Shown, StatusIs, DeckJob, LinkJob, Idle, AllOut, Stored, Considered, Published, Cleared, Refused}, specs.Runs.{IsUnchanged, accepts}, specs.Steps.Steps, proofs.Outcomes.{Outcome, by_staying, by_changing, by_publishing, publishes}, proofs.Publishing.step_comes}
+use Rattle.session_line.{specs.DeskRelations.DeskRelations, specs.declared.greetings.Greeting.Greeting, specs.Refusing.tells_refusal, proofs.RefusedCommands.is_question, specs.Joins.Kinds.{fits_call, is_session_call}, proofs.SessionKinds.session_fits}
 use Rattle.journal.specs.declared.changes.Asked.TheVariants as asked
-use Rattle.journal.specs.declared.changes.Carry.{Carry}
+use Rattle.journal.specs.{declared.changes.Carry.Carry, declared.changes.Change.Change, declared.drafts.Stamp.Stamp, Asking.{asked_of, call_of_carry, carried_deck}, Replaying.call_of}
 use Rattle.journal.specs.declared.changes.Carry.TheVariants as carry
-use Rattle.journal.specs.declared.changes.Change.{Change}
 use Rattle.journal.specs.declared.changes.Change.TheVariants as change
-use Rattle.journal.specs.declared.drafts.Stamp.{Stamp}
-use Rattle.journal.specs.Asking.{asked_of, call_of_carry, carried_deck}
-use Rattle.kept_desk.specs.EndsRelations.{EndsRelations}
-use Rattle.kept_desk.specs.Keeping.{TellsKept, TellsCarried, MakesKept, refused, called, not_opened, opened, told_of}
-use Rattle.journal.specs.Replaying.{call_of}
+use Rattle.kept_desk.specs.{EndsRelations.EndsRelations, Keeping.{TellsKept, TellsCarried, MakesKept, refused, called, not_opened, opened, told_of}}
 
 -- no call of a session is answered as one of a worker is that publishes
 stored-fits : (call : Call) → is_session_call call ≡ true → fits_call call Stored ≡ false

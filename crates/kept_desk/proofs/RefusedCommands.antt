@@ -2,26 +2,9 @@
 use Rattle.std.proofs.Common.{ℕ, List, refl, ◌∙◌}
 use Rattle.deck_files.specs.ShelfRelations.{ShelfRelations}
 use Rattle.turn_office.specs.Seats.{OfficeFacts, SeatFacts}
-use Rattle.desk_core.specs.Desks.{Desk}
-use Rattle.desk_core.specs.declared.calls.Call.{Call}
-use Rattle.desk_core.specs.declared.calls.Call.TheVariants.{Status}
-use Rattle.desk_core.specs.declared.replies.Reply.{Reply}
-use Rattle.desk_core.specs.Runs.{IsUnchanged}
-use Rattle.desk_core.proofs.Outcomes.{unchanged_itself}
-use Rattle.session_line.specs.declared.greetings.Greeting.{Greeting}
-use Rattle.session_line.specs.declared.rights.Rights.{Rights}
-use Rattle.session_line.specs.DeskRelations.{DeskRelations, desk_alone, seated}
-use Rattle.session_line.specs.Refusing.{RefusesCommand}
-use Rattle.session_line.specs.Serving.{Sides}
-use Rattle.session_line.proofs.RefusedCommands.{IsSteady, command-same}
-use Rattle.session_line.proofs.SessionKinds.{session_fits}
-use Rattle.kept_desk.specs.Doors.{door_of}
-use Rattle.kept_desk.specs.EndsRelations.{EndsRelations}
-use Rattle.kept_desk.specs.Greeting.{GreetsAmong, lacking, listed}
-use Rattle.kept_desk.specs.Waiting.{SleepsOn, not_yet, once_more, AwaitsPublication, shown, time_up}
-use Rattle.kept_desk.specs.Refused.{ChangesNothing}
-use Rattle.kept_desk.proofs.RefusedChanges.{IsQuiet, session-quiet, stays-same, question-same, refused-same, asked-same}
-use Rattle.kept_desk.proofs.SeatSteps.{seat-quiet}
+use Rattle.desk_core.{specs.Desks.Desk, specs.declared.calls.Call.Call, specs.declared.calls.Call.TheVariants.Status, specs.declared.replies.Reply.Reply, specs.Runs.IsUnchanged, proofs.Outcomes.unchanged_itself}
+use Rattle.session_line.{specs.declared.greetings.Greeting.Greeting, specs.declared.rights.Rights.Rights, specs.DeskRelations.{DeskRelations, desk_alone, seated}, specs.Refusing.RefusesCommand, specs.Serving.Sides, proofs.RefusedCommands.{IsSteady, command-same}, proofs.SessionKinds.session_fits}
+use Rattle.kept_desk.{specs.Doors.door_of, specs.EndsRelations.EndsRelations, specs.Greeting.{GreetsAmong, lacking, listed}, specs.Waiting.{SleepsOn, not_yet, once_more, AwaitsPublication, shown, time_up}, specs.Refused.ChangesNothing, proofs.RefusedChanges.{IsQuiet, session-quiet, stays-same, question-same, refused-same, asked-same}, proofs.SeatSteps.seat-quiet}
 
 module _ {C E S : Type 0} (calls : DeskRelations C) (IsSame : C → C → Type 0) (quiet : IsQuiet calls IsSame) (ends : EndsRelations E) (files : ShelfRelations S) where
   status-same : (desk next : C) (reply : Reply) → calls.makes desk Status reply next → IsSame desk next

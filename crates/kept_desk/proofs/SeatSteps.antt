@@ -1,20 +1,9 @@
 -- What a call from a seat adds to what the seat has seen.
-use Rattle.std.proofs.Common.{◌≡◌, ℕ, ◌==◌, Bool, true, cond, List, [], ◌∷◌, ◌++◌, All, refl, sym, ap, subst, ◌∙◌, append_assoc, append-nil, eq-eqb}
-use Rattle.std.proofs.lemmas.List.Elements.{All-nil, All-append, All-push, filter-append}
-use Rattle.turn_office.specs.declared.history.Entry.{Entry}
-use Rattle.turn_office.specs.Histories.{Answers, Leads, entry, entries_by}
-use Rattle.turn_office.specs.Seats.{OfficeFacts, SeatFacts}
-use Rattle.desk_core.specs.Desks.{Desk}
-use Rattle.desk_core.specs.Runs.{History}
-use Rattle.desk_core.specs.Steps.{Steps}
-use Rattle.desk_core.specs.declared.calls.Call.{Call}
-use Rattle.desk_core.specs.declared.replies.Reply.{Reply}
-use Rattle.session_line.specs.declared.greetings.Greeting.{Greeting}
-use Rattle.session_line.specs.DeskRelations.{AsksSeat, seated}
-use Rattle.session_line.specs.Joins.Kinds.{fits_call, is_session_call}
-use Rattle.session_line.proofs.SessionKinds.{session_fits}
-use Rattle.kept_desk.specs.Refused.{LeavesAll, ChangesNothing}
-use Rattle.kept_desk.proofs.RefusedChanges.{IsQuiet, session-quiet}
+use Rattle.std.proofs.{Common.{◌≡◌, ℕ, ◌==◌, Bool, true, cond, List, [], ◌∷◌, ◌++◌, All, refl, sym, ap, subst, ◌∙◌, append_assoc, append-nil, eq-eqb}, lemmas.List.Elements.{All-nil, All-append, All-push, filter-append}}
+use Rattle.turn_office.specs.{declared.history.Entry.Entry, Histories.{Answers, Leads, entry, entries_by}, Seats.{OfficeFacts, SeatFacts}}
+use Rattle.desk_core.specs.{Desks.Desk, Runs.History, Steps.Steps, declared.calls.Call.Call, declared.replies.Reply.Reply}
+use Rattle.session_line.{specs.declared.greetings.Greeting.Greeting, specs.DeskRelations.{AsksSeat, seated}, specs.Joins.Kinds.{fits_call, is_session_call}, proofs.SessionKinds.session_fits}
+use Rattle.kept_desk.{specs.Refused.{LeavesAll, ChangesNothing}, proofs.RefusedChanges.{IsQuiet, session-quiet}}
 
 -- the last of steps
 last-step : (first last : Desk) (before : History) (number : ℕ) (call : Call) (reply : Reply) → Leads Steps first (before ++ entry number call reply ∷ []) last → (desk : Desk) × Steps desk call reply last

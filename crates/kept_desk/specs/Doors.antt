@@ -2,10 +2,7 @@
 use Rattle.std.specs.Prelude.{None}
 use Rattle.journal.specs.Asking.{asked_of}
 use Rattle.session_line.specs.DeskRelations.{DeskRelations}
-use Rattle.kept_desk.specs.EndsRelations.{EndsRelations}
-use Rattle.kept_desk.specs.Greeting.{GreetsAmong}
-use Rattle.kept_desk.specs.Keeping.{MakesKept}
-use Rattle.kept_desk.specs.Waiting.{AwaitsPublication}
+use Rattle.kept_desk.specs.{EndsRelations.EndsRelations, Greeting.GreetsAmong, Keeping.MakesKept, Waiting.AwaitsPublication}
 
 -- what its calls make of the desk and the ends; of a session that begins the ends are given that it has no name yet
 abbrev pub door_of : {C E : Type 0} → DeskRelations C → EndsRelations E → DeskRelations (C × E)

@@ -1,8 +1,7 @@
 -- What the calls of the ends that a session has at its service make of them (ours): each relation has the ends before, what is asked, what is answered, and the ends after.
 use Rattle.std.specs.Prelude.{ℕ, List, Bool, Option, Result}
 use Rattle.desk_core.specs.declared.replies.Refusal.{Refusal}
-use Rattle.journal.specs.declared.changes.Change.{Change}
-use Rattle.journal.specs.declared.drafts.Stamp.{Stamp}
+use Rattle.journal.specs.declared.{changes.Change.Change, drafts.Stamp.Stamp}
 use Rattle.session_line.specs.declared.greetings.Connected.{Connected}
 use Rattle.kept_desk.specs.declared.ends.Woken.{Woken}
 

@@ -1,10 +1,7 @@
 -- What who greets is answered at a door (ours).
 use Rattle.std.specs.Prelude.{ℕ, ◌≡◌, List, [], Some}
-use Rattle.desk_core.specs.declared.replies.Reply.TheVariants.{Refused}
-use Rattle.desk_core.specs.declared.replies.Refusal.TheVariants.{OutOfMemory}
-use Rattle.session_line.specs.declared.greetings.Connected.{Connected}
-use Rattle.session_line.specs.declared.greetings.Greeting.{Greeting}
-use Rattle.session_line.specs.Greetings.{WhereMet, is_met, met}
+use Rattle.desk_core.specs.declared.replies.{Reply.TheVariants.Refused, Refusal.TheVariants.OutOfMemory}
+use Rattle.session_line.specs.{declared.greetings.Connected.Connected, declared.greetings.Greeting.Greeting, Greetings.{WhereMet, is_met, met}}
 use Rattle.kept_desk.specs.EndsRelations.{EndsRelations}
 
 module _ {C E : Type 0} (greets : C → List ℕ → Greeting → C → Type 0) (ends : EndsRelations E) where

@@ -1,19 +1,8 @@
 -- A desk whose changes are kept (ours): what one call makes of the desk and of its ends.
 use Rattle.std.specs.Prelude.{ℕ, ◌≡◌, List, Bool, true, false, Option, Some, None, Result, Ok, Err}
-use Rattle.desk_core.specs.Runs.{accepts}
-use Rattle.desk_core.specs.declared.calls.Call.{Call}
-use Rattle.desk_core.specs.declared.replies.Reply.{Reply}
-use Rattle.desk_core.specs.declared.replies.Reply.TheVariants.{Changed, Carried, Unkept, Refused}
-use Rattle.desk_core.specs.declared.replies.Refusal.{Refusal}
-use Rattle.desk_core.specs.declared.replies.Refusal.TheVariants.{Foreign}
-use Rattle.journal.specs.declared.changes.Change.{Change}
+use Rattle.desk_core.specs.{Runs.accepts, declared.calls.Call.Call, declared.replies.Reply.Reply, declared.replies.Reply.TheVariants.{Changed, Carried, Unkept, Refused}, declared.replies.Refusal.Refusal, declared.replies.Refusal.TheVariants.Foreign}
+use Rattle.journal.specs.{declared.changes.Change.Change, declared.changes.Asked.Asked, declared.changes.Carry.Carry, declared.drafts.Stamp.Stamp, Drafts.carried_text, Asking.{call_of_carry, carried_deck}, Replaying.call_of}
 use Rattle.journal.specs.declared.changes.Asked.TheVariants as asked
-use Rattle.journal.specs.declared.changes.Asked.{Asked}
-use Rattle.journal.specs.declared.changes.Carry.{Carry}
-use Rattle.journal.specs.declared.drafts.Stamp.{Stamp}
-use Rattle.journal.specs.Drafts.{carried_text}
-use Rattle.journal.specs.Asking.{call_of_carry, carried_deck}
-use Rattle.journal.specs.Replaying.{call_of}
 use Rattle.kept_desk.specs.EndsRelations.{EndsRelations}
 use Rattle.session_line.specs.Greetings.{WhereMet}
 

@@ -1,13 +1,7 @@
 -- What a session that is refused leaves of a desk which it shares with others (ours): its seat goes on with what they did, and nothing that it did itself changes anything.
 use Rattle.std.specs.Prelude.{◌≡◌, List, ◌++◌, All}
-use Rattle.turn_office.specs.declared.history.Entry.{Entry}
-use Rattle.turn_office.specs.Histories.{entries_by}
-use Rattle.turn_office.specs.Seats.{SeatFacts}
-use Rattle.desk_core.specs.Desks.{Desk}
-use Rattle.desk_core.specs.Runs.{IsUnchanged}
-use Rattle.desk_core.specs.Steps.{Steps}
-use Rattle.desk_core.specs.declared.calls.Call.{Call}
-use Rattle.desk_core.specs.declared.replies.Reply.{Reply}
+use Rattle.turn_office.specs.{declared.history.Entry.Entry, Histories.entries_by, Seats.SeatFacts}
+use Rattle.desk_core.specs.{Desks.Desk, Runs.IsUnchanged, Steps.Steps, declared.calls.Call.Call, declared.replies.Reply.Reply}
 
 -- a call with its reply leaves version, cards and publication, whatever the desk was
 abbrev pub LeavesAll : Entry Call Reply → Type 0

@@ -1,11 +1,7 @@
 -- Who waits until a version is published (ours): the questions that are asked meanwhile, and the sleeps between them.
 use Rattle.std.specs.Prelude.{ℕ, ◌≡◌, Bool, true, false, Option, Some, None, nat_le}
-use Rattle.desk_core.specs.declared.calls.Call.{Call}
-use Rattle.desk_core.specs.declared.calls.Call.TheVariants.{Status}
-use Rattle.desk_core.specs.declared.replies.Reply.{Reply}
-use Rattle.desk_core.specs.declared.replies.Reply.TheVariants.{StatusIs}
-use Rattle.kept_desk.specs.declared.ends.Woken.{Woken}
-use Rattle.kept_desk.specs.declared.ends.Woken.TheVariants.{Delivered, TimeUp}
+use Rattle.desk_core.specs.declared.{calls.Call.Call, calls.Call.TheVariants.Status, replies.Reply.Reply, replies.Reply.TheVariants.StatusIs}
+use Rattle.kept_desk.specs.declared.ends.Woken.{Woken, TheVariants.{Delivered, TimeUp}}
 
 -- whether a version or a later one is published
 abbrev pub is_reached : ℕ → Option ℕ → Bool

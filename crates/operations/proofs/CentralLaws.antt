@@ -1,18 +1,8 @@
 -- The three tables against those of the definitions: for each operation the same rows in the same order.
-use Rattle.std.proofs.Common.{◌≡◌, ℕ, ◌<◌, Bool, true, false, cond, ◌&&◌, ◌||◌, List, [], ◌∷◌, Option, Some, None, map, filter, eqb, get_or, Fits, w8, refl, sym, ap, ap₂, ◌∙◌, arith}
-use Rattle.std.specs.List.{list_all, list_any}
-use Rattle.std.proofs.lemmas.Bool.{and_parts}
+use Rattle.std.{proofs.Common.{◌≡◌, ℕ, ◌<◌, Bool, true, false, cond, ◌&&◌, ◌||◌, List, [], ◌∷◌, Option, Some, None, map, filter, eqb, get_or, Fits, w8, refl, sym, ap, ap₂, ◌∙◌, arith}, specs.List.{list_all, list_any}, proofs.lemmas.Bool.and_parts}
 use Rattle.definitions.specs.CentralTable as table
-use Rattle.definitions.specs.CentralTable.{SumRow}
-use Rattle.definitions.specs.Matching.{is_octal_digit, is_operation}
-use Rattle.operations.specs.declared.row.Row.{Row}
-use Rattle.operations.specs.Joins.SortedNames.{name_number, has_number}
-use Rattle.operations.proofs.TableLaws.{same_filters, filter-map}
-use Rattle.operations.specs.declared.central.operand_table.TheConstants.{OPERAND_ROWS}
-use Rattle.operations.specs.declared.central.sum_table.TheConstants.{SUM_ROWS}
-use Rattle.operations.specs.Joins.OperationNames.{name_of, padded, rows_with, rows_named}
-use Rattle.operations.specs.Joins.CentralTables.{operand_row, sum_row, padded_row, padded_sum_row, operand_rows_of, sum_rows_of, is_some_of}
-use Rattle.operations.proofs.OperationLaws.{is_shaped, operation-two, operation-three, operation-other, operation-long, operation-short, operation-none}
+use Rattle.definitions.specs.{CentralTable.SumRow, Matching.{is_octal_digit, is_operation}}
+use Rattle.operations.{specs.declared.row.Row.Row, specs.Joins.SortedNames.{name_number, has_number}, proofs.TableLaws.{same_filters, filter-map}, specs.declared.central.operand_table.TheConstants.OPERAND_ROWS, specs.declared.central.sum_table.TheConstants.SUM_ROWS, specs.Joins.OperationNames.{name_of, padded, rows_with, rows_named}, specs.Joins.CentralTables.{operand_row, sum_row, padded_row, padded_sum_row, operand_rows_of, sum_rows_of, is_some_of}, proofs.OperationLaws.{is_shaped, operation-two, operation-three, operation-other, operation-long, operation-short, operation-none}}
 
 -- tests that agree on all elements keep the same
 filter-agree : {X : Type 0} (p q s : X → Bool) (xs : List X) → ((x : X) → s x ≡ true → p x ≡ q x) → list_all s xs ≡ true → filter p xs ≡ filter q xs

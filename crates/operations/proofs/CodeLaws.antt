@@ -1,10 +1,6 @@
 -- The digits of a lawful code are octal, and their number is small.
-use Rattle.std.proofs.Common.{◌≡◌, ℕ, ◌+◌, ◌-◌, ◌*◌, ◌^◌, ◌<◌, ◌≤◌, Bool, true, false, cond, ◌&&◌, List, [], ◌∷◌, length, codes, eqb, refl, ap, ap₂, arith}
-use Rattle.std.specs.Prelude.{nat_lt}
-use Rattle.std.proofs.lemmas.Bool.{and_parts, ltb-true, lt-ltb}
-use Rattle.std.proofs.Math.Nat.{mul-le-mul_right, pow-le-pow_right, pow-suc}
-use Rattle.definitions.specs.Characters.{is_among}
-use Rattle.definitions.specs.Matching.{RegisterDigits, octal_number, code_digits, digit_in}
+use Rattle.std.{proofs.Common.{◌≡◌, ℕ, ◌+◌, ◌-◌, ◌*◌, ◌^◌, ◌<◌, ◌≤◌, Bool, true, false, cond, ◌&&◌, List, [], ◌∷◌, length, codes, eqb, refl, ap, ap₂, arith}, specs.Prelude.nat_lt, proofs.lemmas.Bool.{and_parts, ltb-true, lt-ltb}, proofs.Math.Nat.{mul-le-mul_right, pow-le-pow_right, pow-suc}}
+use Rattle.definitions.specs.{Characters.is_among, Matching.{RegisterDigits, octal_number, code_digits, digit_in}}
 use Rattle.operations.specs.Joins.LawfulCodes.{sevens, are_octal}
 
 -- so many octal digits are a number below this power

@@ -1,8 +1,6 @@
 -- The digits of a code, one character after the other.
-use Rattle.std.proofs.Common.{◌≡◌, ℕ, ◌+◌, ◌*◌, ◌^◌, ◌<◌, ◌≤◌, Bool, true, false, List, [], ◌∷◌, codes, refl, sym, ap, ◌∙◌, arith}
-use Rattle.std.proofs.Math.Nat.{pow-le-pow_right}
-use Rattle.definitions.specs.Characters.{is_among}
-use Rattle.definitions.specs.Matching.{RegisterDigits, digit_in, code_digits}
+use Rattle.std.proofs.{Common.{◌≡◌, ℕ, ◌+◌, ◌*◌, ◌^◌, ◌<◌, ◌≤◌, Bool, true, false, List, [], ◌∷◌, codes, refl, sym, ap, ◌∙◌, arith}, Math.Nat.pow-le-pow_right}
+use Rattle.definitions.specs.{Characters.is_among, Matching.{RegisterDigits, digit_in, code_digits}}
 use Rattle.operations.specs.Joins.CodeTexts.{shortened}
 
 -- a digit more

@@ -1,13 +1,8 @@
 -- An operation has no row in a table whose names begin with other letters.
-use Rattle.std.proofs.Common.{◌≡◌, ℕ, Bool, true, false, not, cond, ◌&&◌, ◌||◌, ◌==◌, List, [], ◌∷◌, None, eqb, filter, map, refl, sym, ap, ◌∙◌}
-use Rattle.std.specs.List.{list_all}
-use Rattle.std.proofs.lemmas.Bool.{and_parts, eqb-true}
+use Rattle.std.{proofs.Common.{◌≡◌, ℕ, Bool, true, false, not, cond, ◌&&◌, ◌||◌, ◌==◌, List, [], ◌∷◌, None, eqb, filter, map, refl, sym, ap, ◌∙◌}, specs.List.list_all, proofs.lemmas.Bool.{and_parts, eqb-true}}
 use Rattle.definitions.specs.CentralTable as table
-use Rattle.definitions.specs.CentralTable.{SumRow, sum_rows, central_rows}
-use Rattle.definitions.specs.Matching.{no_ijk, is_ijk, matched, is_operation}
-use Rattle.operations.specs.Joins.CentralTables.{operand_rows_of, sum_rows_of, padded_row, padded_sum_row}
-use Rattle.operations.specs.Joins.FirstLetters.{begins_sum}
-use Rattle.operations.proofs.OperationLaws.{is_found, is_operation-found, matched-letter, is_not}
+use Rattle.definitions.specs.{CentralTable.{SumRow, sum_rows, central_rows}, Matching.{no_ijk, is_ijk, matched, is_operation}}
+use Rattle.operations.{specs.Joins.CentralTables.{operand_rows_of, sum_rows_of, padded_row, padded_sum_row}, specs.Joins.FirstLetters.begins_sum, proofs.OperationLaws.{is_found, is_operation-found, matched-letter, is_not}}
 
 -- a name that begins with a letter which stands for no register, J or S exactly where that is asked
 abbrev is_of : Bool → List ℕ → Bool

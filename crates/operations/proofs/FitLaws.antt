@@ -1,17 +1,9 @@
 -- What subfields make of patterns, and rows of an operand.
-use Rattle.std.proofs.Common.{◌≡◌, ℕ, true, not, cond, ◌&&◌, List, [], ◌∷◌, Option, Some, None, codes, refl, sym, ap, ◌∙◌}
-use Rattle.std.proofs.lemmas.Bool.{and_parts}
-use Rattle.definitions.specs.Characters.{same_text}
-use Rattle.definitions.specs.Pieces.{Piece, pieces_of}
-use Rattle.definitions.specs.Expressions.{expression_of}
-use Rattle.definitions.specs.Matching.{OfK, OfN, Match, matched, plain_text, plain_field, with_field, subfield_matched, subfields_matched}
-use Rattle.definitions.specs.declared.number_base.NumberBase.{NumberBase}
-use Rattle.expr_forms.specs.Joins.Operands.{IsOperand}
-use Rattle.expr_forms.specs.declared.operands.Subfield.{Subfield}
+use Rattle.std.proofs.{Common.{◌≡◌, ℕ, true, not, cond, ◌&&◌, List, [], ◌∷◌, Option, Some, None, codes, refl, sym, ap, ◌∙◌}, lemmas.Bool.and_parts}
+use Rattle.definitions.specs.{Characters.same_text, Pieces.{Piece, pieces_of}, Expressions.expression_of, Matching.{OfK, OfN, Match, matched, plain_text, plain_field, with_field, subfield_matched, subfields_matched}, declared.number_base.NumberBase.NumberBase}
+use Rattle.expr_forms.specs.{Joins.Operands.IsOperand, declared.operands.Subfield.Subfield}
 use Rattle.expr_forms.specs.declared.operands.Operand.TheVariants as operand
-use Rattle.operations.specs.Joins.PatternTexts.{is_text_pattern}
-use Rattle.operations.proofs.OperationLaws.{is_not}
-use Rattle.operations.proofs.PatternTextLaws.{matched-text}
+use Rattle.operations.{specs.Joins.PatternTexts.is_text_pattern, proofs.OperationLaws.is_not, proofs.PatternTextLaws.matched-text}
 
 -- a subfield against registers
 pub subfield-registers : (base : NumberBase) (pattern text : List ℕ) (pieces : List Piece) (so_far : Match) →

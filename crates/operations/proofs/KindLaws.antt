@@ -1,12 +1,6 @@
 -- The kind that is found statement by statement is the kind of the deck.
-use Rattle.std.proofs.Common.{◌≡◌, List, [], ◌∷◌, ◌++◌, Bool, true, false, Option, Some, None, reverse, refl, sym, ap, ◌∙◌, append_assoc, append-nil}
-use Rattle.std.specs.Prelude.{if◌then◌else◌}
-use Rattle.std.proofs.lemmas.Grind.{reverse_onto}
-use Rattle.definitions.specs.Fields.{Fields}
-use Rattle.definitions.specs.Operations.{pseudo_instructions, pseudo_among, is_neutral}
-use Rattle.definitions.specs.DeckKinds.{kind_made, kind_of}
-use Rattle.definitions.specs.declared.deck_kind.DeckKind.{DeckKind}
-use Rattle.definitions.specs.declared.deck_kind.DeckKind.TheVariants.{Rel}
+use Rattle.std.{proofs.Common.{◌≡◌, List, [], ◌∷◌, ◌++◌, Bool, true, false, Option, Some, None, reverse, refl, sym, ap, ◌∙◌, append_assoc, append-nil}, specs.Prelude.if◌then◌else◌, proofs.lemmas.Grind.reverse_onto}
+use Rattle.definitions.specs.{Fields.Fields, Operations.{pseudo_instructions, pseudo_among, is_neutral}, DeckKinds.{kind_made, kind_of}, declared.deck_kind.DeckKind.DeckKind, declared.deck_kind.DeckKind.TheVariants.Rel}
 use Rattle.operations.specs.Joins.KindsFound.{or_kind, kind_found}
 
 -- the kind that is found, or else that of later statements

@@ -1,14 +1,6 @@
 -- The letters of two sets, and of one letter.
-use Rattle.std.proofs.Common.{◌≡◌, ℕ, zero, suc, ◌<◌, ◌/◌, ◌%◌, ◌^◌, List, [], ◌∷◌, ◌++◌, Bool, true, false, ◌&&◌, ◌||◌, cond, eqb, filter, refl, sym, ap, ap₂, ◌∙◌, inl, inr, bit_or, arith}
-use Rattle.std.specs.Prelude.{codes}
-use Rattle.std.proofs.lemmas.Bool.Decides.{eqb_tells}
-use Rattle.std.proofs.lemmas.List.Folds.{list_any-append}
-use Rattle.std.proofs.lemmas.Map.Views.{any-filter_same}
-use Rattle.std.proofs.lemmas.Nat.{or_shr, or_mod, mod_below}
-use Rattle.std.proofs.lemmas.Grind.{flat_map-append}
-use Rattle.definitions.specs.Characters.{is_among}
-use Rattle.definitions.specs.Letters.{letter_text, texts, in_order}
-use Rattle.definitions.specs.declared.letter.Letter.{Letter}
+use Rattle.std.{proofs.Common.{◌≡◌, ℕ, zero, suc, ◌<◌, ◌/◌, ◌%◌, ◌^◌, List, [], ◌∷◌, ◌++◌, Bool, true, false, ◌&&◌, ◌||◌, cond, eqb, filter, refl, sym, ap, ap₂, ◌∙◌, inl, inr, bit_or, arith}, specs.Prelude.codes, proofs.lemmas.Bool.Decides.eqb_tells, proofs.lemmas.List.Folds.list_any-append, proofs.lemmas.Map.Views.any-filter_same, proofs.lemmas.Nat.{or_shr, or_mod, mod_below}, proofs.lemmas.Grind.flat_map-append}
+use Rattle.definitions.specs.{Characters.is_among, Letters.{letter_text, texts, in_order}, declared.letter.Letter.Letter}
 use Rattle.operations.specs.Joins.LetterBits.{is_flagged, flagged}
 
 or_true : (b : Bool) → (b || true) ≡ true

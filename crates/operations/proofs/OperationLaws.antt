@@ -1,10 +1,7 @@
 -- An operation is that of a pattern where their names are the same number.
-use Rattle.std.proofs.Common.{◌≡◌, ℕ, ◌<◌, Bool, true, false, not, cond, ◌&&◌, List, [], ◌∷◌, Option, Some, None, eqb, ltb, refl, sym, ap, ◌∙◌, arith}
-use Rattle.std.proofs.lemmas.Bool.{and_parts, and_right, eqb-true, ltb-true}
+use Rattle.std.proofs.{Common.{◌≡◌, ℕ, ◌<◌, Bool, true, false, not, cond, ◌&&◌, List, [], ◌∷◌, Option, Some, None, eqb, ltb, refl, sym, ap, ◌∙◌, arith}, lemmas.Bool.{and_parts, and_right, eqb-true, ltb-true}}
 use Rattle.definitions.specs.Matching.{RegisterDigits, no_ijk, is_ijk, is_octal_digit, matched, is_operation}
-use Rattle.operations.specs.Joins.SortedNames.{name_number}
-use Rattle.operations.proofs.TableLaws.{eqb-name_number}
-use Rattle.operations.specs.Joins.OperationNames.{padded}
+use Rattle.operations.{specs.Joins.SortedNames.name_number, proofs.TableLaws.eqb-name_number, specs.Joins.OperationNames.padded}
 
 -- two letters that are no digits of registers, and perhaps i
 abbrev pub is_shaped : List ℕ → Bool

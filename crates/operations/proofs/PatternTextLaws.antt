@@ -1,16 +1,7 @@
 -- A pattern of registers fits the text of pieces where it fits the text that they are the pieces of.
-use Rattle.std.proofs.Common.{◌≡◌, ℕ, ◌-◌, Bool, true, false, not, cond, ◌&&◌, ◌||◌, List, [], ◌∷◌, Option, Some, None, eqb, refl, sym, ap, ◌∙◌, inl, inr}
-use Rattle.std.specs.Prelude.{is_none}
-use Rattle.std.proofs.lemmas.Bool.{and_parts, eqb-true}
-use Rattle.std.proofs.lemmas.Bool.Decides.{eqb_tells}
-use Rattle.definitions.specs.Characters.{is_digit, equals}
-use Rattle.definitions.specs.CountedItems.{CountedSpan, counted_item_at}
-use Rattle.definitions.specs.Pieces.{Mark, Comma, Plus, Minus, Star, Slash, Equals, AtStart, AtEquals, Inside, Begun, ByMark, ByCountedItem, Piece, IsMark, IsCountedItem, Plain, mark_of, begun_by, begun_by_counted_item, spot_behind, left_of, onto_plain, onto_pieces, pieces_at, pieces_of}
-use Rattle.definitions.specs.Matching.{RegisterDigits, is_ijk, with_ijk, is_octal_digit, matched, plain_text}
-use Rattle.operations.specs.Joins.RegisterPieces.{mark_character, is_of_run}
-use Rattle.operations.specs.Joins.PatternTexts.{begins_apart, is_apart, is_text_pattern}
-use Rattle.operations.proofs.OperationLaws.{matched-letter, is_not}
-use Rattle.operations.proofs.RegisterPieceLaws.{plain_text-mark, no_digit}
+use Rattle.std.{proofs.Common.{◌≡◌, ℕ, ◌-◌, Bool, true, false, not, cond, ◌&&◌, ◌||◌, List, [], ◌∷◌, Option, Some, None, eqb, refl, sym, ap, ◌∙◌, inl, inr}, specs.Prelude.is_none, proofs.lemmas.Bool.{and_parts, eqb-true}, proofs.lemmas.Bool.Decides.eqb_tells}
+use Rattle.definitions.specs.{Characters.{is_digit, equals}, CountedItems.{CountedSpan, counted_item_at}, Pieces.{Mark, Comma, Plus, Minus, Star, Slash, Equals, AtStart, AtEquals, Inside, Begun, ByMark, ByCountedItem, Piece, IsMark, IsCountedItem, Plain, mark_of, begun_by, begun_by_counted_item, spot_behind, left_of, onto_plain, onto_pieces, pieces_at, pieces_of}, Matching.{RegisterDigits, is_ijk, with_ijk, is_octal_digit, matched, plain_text}}
+use Rattle.operations.{specs.Joins.RegisterPieces.{mark_character, is_of_run}, specs.Joins.PatternTexts.{begins_apart, is_apart, is_text_pattern}, proofs.OperationLaws.{matched-letter, is_not}, proofs.RegisterPieceLaws.{plain_text-mark, no_digit}}
 
 -- the text of a character in front of pieces
 plain_text-onto_plain : (c : ℕ) (pieces : List Piece) → plain_text (onto_plain c pieces) ≡ c ∷ plain_text pieces

@@ -1,21 +1,7 @@
 -- The table of peripheral instructions against that of the definitions.
-use Rattle.std.proofs.Common.{◌≡◌, ℕ, ◌<◌, ◌≤◌, Bool, true, false, List, [], ◌∷◌, map, filter, eqb, ltb, length, get_or, Option, Some, None, refl, sym, ap, ◌∙◌, ◌&&◌, cond, Fits, w8, inl, inr, arith}
-use Rattle.std.specs.List.{list_all}
-use Rattle.std.specs.Bool.{OnTrue}
-use Rattle.std.proofs.lemmas.Bool.Decides.{eqb_tells}
-use Rattle.std.proofs.lemmas.Bool.{and_parts, ltb-true}
-use Rattle.definitions.specs.Characters.{same_text}
-use Rattle.definitions.specs.Expressions.{Expression}
-use Rattle.definitions.specs.Operands.{PeripheralOperand, just_one, one_or_two}
-use Rattle.definitions.specs.PeripheralTable.{PeripheralRow, peripheral_rows, peripheral_row, row_among}
-use Rattle.definitions.proofs.TextLaws.{same_text-true}
-use Rattle.operations.specs.declared.row.Row.{Row}
-use Rattle.operations.specs.Joins.SortedNames.{name_number, has_number}
-use Rattle.operations.proofs.TableLaws.{same_filters, filter-map, eqb-name_number}
-use Rattle.operations.specs.declared.peripheral.table.TheConstants.{ROWS}
-use Rattle.operations.specs.declared.peripheral.code.Code.{Code}
-use Rattle.operations.specs.Joins.PeripheralCodes.{row_as, found_row}
-use Rattle.operations.specs.Joins.PeripheralTables.{rows_as, rows_with, first_code}
+use Rattle.std.{proofs.Common.{◌≡◌, ℕ, ◌<◌, ◌≤◌, Bool, true, false, List, [], ◌∷◌, map, filter, eqb, ltb, length, get_or, Option, Some, None, refl, sym, ap, ◌∙◌, ◌&&◌, cond, Fits, w8, inl, inr, arith}, specs.List.list_all, specs.Bool.OnTrue, proofs.lemmas.Bool.Decides.eqb_tells, proofs.lemmas.Bool.{and_parts, ltb-true}}
+use Rattle.definitions.{specs.Characters.same_text, specs.Expressions.Expression, specs.Operands.{PeripheralOperand, just_one, one_or_two}, specs.PeripheralTable.{PeripheralRow, peripheral_rows, peripheral_row, row_among}, proofs.TextLaws.same_text-true}
+use Rattle.operations.{specs.declared.row.Row.Row, specs.Joins.SortedNames.{name_number, has_number}, proofs.TableLaws.{same_filters, filter-map, eqb-name_number}, specs.declared.peripheral.table.TheConstants.ROWS, specs.declared.peripheral.code.Code.Code, specs.Joins.PeripheralCodes.{row_as, found_row}, specs.Joins.PeripheralTables.{rows_as, rows_with, first_code}}
 
 abbrev number_of : PeripheralRow → ℕ
 number_of row = name_number row.operation

@@ -1,19 +1,7 @@
 -- The pieces of a subfield fit a pattern of registers where the elements that they spell do.
-use Rattle.std.proofs.Common.{◌≡◌, ℕ, ◌-◌, Bool, true, false, not, cond, ◌&&◌, List, [], ◌∷◌, Option, Some, None, eqb, leb, codes, refl, sym, ap, ◌∙◌, inl, inr}
-use Rattle.std.proofs.lemmas.Bool.{and_parts}
-use Rattle.std.proofs.lemmas.Bool.Decides.{eqb_tells}
-use Rattle.definitions.specs.Characters.{is_among, same_text}
-use Rattle.definitions.specs.CountedItems.{CountedItem}
-use Rattle.definitions.specs.Pieces.{Mark, Comma, Plus, Minus, Star, Slash, Equals, Piece, IsMark, IsCountedItem, Plain}
-use Rattle.definitions.specs.Symbols.{Register, register_of, is_symbol, Number, number_read}
-use Rattle.definitions.specs.Expressions.{Sign, NoSign, PlusSign, MinusSign, OfCountedItem, Element, ANumber, ACountedItem, ASymbol, ARegister, LocationCounter, OriginCounter, ALiteral, Operator, Times, Divide, Add, Subtract, OperatorElement, onto_pairs, pairs_of, element_of_number, element_of_name, element_of_text, counter_of, literal_of}
-use Rattle.definitions.specs.Matching.{RegisterDigits, is_ijk, with_ijk, is_octal_digit, matched, plain_text}
-use Rattle.definitions.specs.declared.number_base.NumberBase.{NumberBase}
-use Rattle.definitions.proofs.GrammarLaws.{pairs_from}
-use Rattle.operations.specs.Joins.RegisterPieces.{pieces_fit, is_of_run, begins_with_run, is_run, is_sum_of_registers, are_of_field, is_letter_of, is_operator, is_behind_register}
-use Rattle.operations.specs.Joins.RegisterLinks.{operator_character, register_digit, with_digit, links_fit, read_links_fit}
-use Rattle.operations.proofs.OperationLaws.{is_not}
-use Rattle.operations.proofs.RegisterPieceLaws.{IsLetter, letter_of, letter_no_mark, cond_same, registers_fit, pattern_fits}
+use Rattle.std.proofs.{Common.{◌≡◌, ℕ, ◌-◌, Bool, true, false, not, cond, ◌&&◌, List, [], ◌∷◌, Option, Some, None, eqb, leb, codes, refl, sym, ap, ◌∙◌, inl, inr}, lemmas.Bool.and_parts, lemmas.Bool.Decides.eqb_tells}
+use Rattle.definitions.{specs.Characters.{is_among, same_text}, specs.CountedItems.CountedItem, specs.Pieces.{Mark, Comma, Plus, Minus, Star, Slash, Equals, Piece, IsMark, IsCountedItem, Plain}, specs.Symbols.{Register, register_of, is_symbol, Number, number_read}, specs.Expressions.{Sign, NoSign, PlusSign, MinusSign, OfCountedItem, Element, ANumber, ACountedItem, ASymbol, ARegister, LocationCounter, OriginCounter, ALiteral, Operator, Times, Divide, Add, Subtract, OperatorElement, onto_pairs, pairs_of, element_of_number, element_of_name, element_of_text, counter_of, literal_of}, specs.Matching.{RegisterDigits, is_ijk, with_ijk, is_octal_digit, matched, plain_text}, specs.declared.number_base.NumberBase.NumberBase, proofs.GrammarLaws.pairs_from}
+use Rattle.operations.{specs.Joins.RegisterPieces.{pieces_fit, is_of_run, begins_with_run, is_run, is_sum_of_registers, are_of_field, is_letter_of, is_operator, is_behind_register}, specs.Joins.RegisterLinks.{operator_character, register_digit, with_digit, links_fit, read_links_fit}, proofs.OperationLaws.is_not, proofs.RegisterPieceLaws.{IsLetter, letter_of, letter_no_mark, cond_same, registers_fit, pattern_fits}}
 
 -- an element that is there and is a register
 abbrev is_register_element : Option Element → Bool

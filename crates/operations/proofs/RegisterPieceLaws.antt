@@ -1,17 +1,8 @@
 -- The text of a subfield fits a pattern of registers where its pieces do.
-use Rattle.std.proofs.Common.{◌≡◌, ℕ, ◌-◌, Bool, true, false, not, cond, ◌&&◌, List, [], ◌∷◌, ◌++◌, None, eqb, codes, refl, sym, ap, ◌∙◌, inl, inr}
-use Rattle.std.specs.List.{list_all, slice_split}
-use Rattle.std.proofs.lemmas.Bool.{and_parts, eqb-true}
-use Rattle.std.proofs.lemmas.Bool.Decides.{eqb_tells}
-use Rattle.definitions.specs.Characters.{is_among}
-use Rattle.definitions.specs.CountedItems.{CountedItem}
-use Rattle.definitions.specs.Pieces.{Mark, Comma, Plus, Minus, Star, Slash, Equals, Piece, IsMark, IsCountedItem, Plain}
-use Rattle.definitions.specs.Matching.{RegisterDigits, is_ijk, with_ijk, is_octal_digit, matched, plain_text}
-use Rattle.operations.specs.declared.central.patterns.OperandPattern.{OperandPattern}
+use Rattle.std.{proofs.Common.{◌≡◌, ℕ, ◌-◌, Bool, true, false, not, cond, ◌&&◌, List, [], ◌∷◌, ◌++◌, None, eqb, codes, refl, sym, ap, ◌∙◌, inl, inr}, specs.List.{list_all, slice_split}, proofs.lemmas.Bool.{and_parts, eqb-true}, proofs.lemmas.Bool.Decides.eqb_tells}
+use Rattle.definitions.specs.{Characters.is_among, CountedItems.CountedItem, Pieces.{Mark, Comma, Plus, Minus, Star, Slash, Equals, Piece, IsMark, IsCountedItem, Plain}, Matching.{RegisterDigits, is_ijk, with_ijk, is_octal_digit, matched, plain_text}}
+use Rattle.operations.{specs.declared.central.patterns.OperandPattern.OperandPattern, specs.Joins.CodeTexts.operand_text, specs.Joins.RegisterPieces.{is_pattern_part, mark_character, pieces_fit, is_of_run, begins_with_run, is_run, are_of_field, is_letter_of, is_operator, is_behind_register, is_sum_of_registers, is_register_pattern}, proofs.OperationLaws.{matched-letter, is_not}}
 use Rattle.operations.specs.declared.central.patterns.OperandPattern.TheVariants as pattern
-use Rattle.operations.specs.Joins.CodeTexts.{operand_text}
-use Rattle.operations.specs.Joins.RegisterPieces.{is_pattern_part, mark_character, pieces_fit, is_of_run, begins_with_run, is_run, are_of_field, is_letter_of, is_operator, is_behind_register, is_sum_of_registers, is_register_pattern}
-use Rattle.operations.proofs.OperationLaws.{matched-letter, is_not}
 
 -- a place of a digit takes an octal digit
 matched-digit : (q : ℕ) (ps : List ℕ) (c : ℕ) (cs : List ℕ) (ijk : RegisterDigits) → is_ijk q ≡ true →

@@ -1,20 +1,8 @@
 -- The rows of an operation give what the definitions' rows give.
-use Rattle.std.proofs.Common.{◌≡◌, ℕ, Bool, true, false, not, cond, ◌&&◌, List, [], ◌∷◌, ◌++◌, Option, Some, None, map, filter, eqb, refl, sym, ap, ◌∙◌}
-use Rattle.std.specs.Prelude.{nat_lt}
-use Rattle.std.specs.List.{list_all, slice_split}
-use Rattle.std.proofs.lemmas.Bool.{and_parts, eqb-true}
-use Rattle.definitions.specs.Pieces.{Piece}
+use Rattle.std.{proofs.Common.{◌≡◌, ℕ, Bool, true, false, not, cond, ◌&&◌, List, [], ◌∷◌, ◌++◌, Option, Some, None, map, filter, eqb, refl, sym, ap, ◌∙◌}, specs.Prelude.nat_lt, specs.List.{list_all, slice_split}, proofs.lemmas.Bool.{and_parts, eqb-true}}
+use Rattle.definitions.specs.{Pieces.Piece, CentralTable.SumRow, Matching.{RegisterDigits, no_ijk, is_ijk, is_octal_digit, matched, is_operation, Instruction, Sum, matched_instruction, subfields_matched, with_registers, sum_code, sum_instruction, registers_matched, ignoring_fit, row_fit, sum_fit, rows_for, sum_rows_for, first_fit}, declared.number_base.NumberBase.NumberBase}
 use Rattle.definitions.specs.CentralTable as table
-use Rattle.definitions.specs.CentralTable.{SumRow}
-use Rattle.definitions.specs.Matching.{RegisterDigits, no_ijk, is_ijk, is_octal_digit, matched, is_operation, Instruction, Sum, matched_instruction, subfields_matched, with_registers, sum_code, sum_instruction, registers_matched, ignoring_fit, row_fit, sum_fit, rows_for, sum_rows_for, first_fit}
-use Rattle.definitions.specs.declared.number_base.NumberBase.{NumberBase}
-use Rattle.operations.specs.declared.row.Row.{Row}
-use Rattle.operations.specs.declared.central.code.Code.{Code}
-use Rattle.operations.specs.declared.central.code.OperandForm.{OperandForm}
-use Rattle.operations.specs.declared.central.code.SumForm.{SumForm}
-use Rattle.operations.specs.Joins.CentralTables.{operand_row, code_row, sum_row, padded_row, padded_sum_row, ignoring_rows_of, operand_rows_of, sum_rows_of}
-use Rattle.operations.specs.Joins.Fits.{named_digits, row_fit_with, sum_fit_with}
-use Rattle.operations.proofs.OperationLaws.{is_shaped, is_found, is_operation-found, no_more, matched-letter, is_not, operation-none, operation-short}
+use Rattle.operations.{specs.declared.row.Row.Row, specs.declared.central.code.Code.Code, specs.declared.central.code.OperandForm.OperandForm, specs.declared.central.code.SumForm.SumForm, specs.Joins.CentralTables.{operand_row, code_row, sum_row, padded_row, padded_sum_row, ignoring_rows_of, operand_rows_of, sum_rows_of}, specs.Joins.Fits.{named_digits, row_fit_with, sum_fit_with}, proofs.OperationLaws.{is_shaped, is_found, is_operation-found, no_more, matched-letter, is_not, operation-none, operation-short}}
 
 both_ways : true ≡ false → ⊥
 both_ways e = cc

@@ -1,10 +1,7 @@
 -- The three tables in turn.
-use Rattle.std.proofs.Common.{◌≡◌, ℕ, true, List, ◌++◌, Option, Some, None, map, sym, ap, ◌∙◌}
-use Rattle.std.specs.Prelude.{is_some}
-use Rattle.definitions.specs.Pieces.{Piece}
+use Rattle.std.{proofs.Common.{◌≡◌, ℕ, true, List, ◌++◌, Option, Some, None, map, sym, ap, ◌∙◌}, specs.Prelude.is_some}
+use Rattle.definitions.specs.{Pieces.Piece, Matching.{Instruction, ignoring_fit, row_fit, sum_fit, sum_read, single, rows_for, sum_rows_for, first_fit, central_of}, declared.number_base.NumberBase.NumberBase}
 use Rattle.definitions.specs.CentralTable as table
-use Rattle.definitions.specs.Matching.{Instruction, ignoring_fit, row_fit, sum_fit, sum_read, single, rows_for, sum_rows_for, first_fit, central_of}
-use Rattle.definitions.specs.declared.number_base.NumberBase.{NumberBase}
 use Rattle.operations.proofs.RowLaws.{or_fit, first_fit-append}
 
 -- what the rows of each table make of an operand

@@ -1,7 +1,6 @@
 -- A text is no other one that is longer or shorter.
 use Rattle.std.proofs.Common.{◌≡◌, ℕ, List, false, length, sym, ap, inl, inr}
-use Rattle.definitions.specs.Characters.{same_text}
-use Rattle.definitions.proofs.TextLaws.{same_text_tells}
+use Rattle.definitions.{specs.Characters.same_text, proofs.TextLaws.same_text_tells}
 
 pub other_length : (text other : List ℕ) → (length text ≡ length other → ⊥) → false ≡ same_text text other
 other_length text other differ =

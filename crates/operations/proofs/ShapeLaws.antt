@@ -1,18 +1,9 @@
 -- Instructions that were found are those of the definitions.
-use Rattle.std.proofs.Common.{◌≡◌, ℕ, Bool, true, false, not, cond, List, [], ◌∷◌, Option, Some, map, codes, drop, refl, sym, ap, ◌∙◌, subst}
-use Rattle.std.specs.List.{list_all}
-use Rattle.std.proofs.lemmas.Bool.{and_parts, not-true}
-use Rattle.definitions.specs.Characters.{same_text}
-use Rattle.definitions.specs.Pieces.{Piece}
-use Rattle.definitions.specs.PeripheralTable.{PeripheralRow, peripheral_row, peripheral_rows, row_among}
+use Rattle.std.{proofs.Common.{◌≡◌, ℕ, Bool, true, false, not, cond, List, [], ◌∷◌, Option, Some, map, codes, drop, refl, sym, ap, ◌∙◌, subst}, specs.List.list_all, proofs.lemmas.Bool.{and_parts, not-true}}
+use Rattle.definitions.specs.{Characters.same_text, Pieces.Piece, PeripheralTable.{PeripheralRow, peripheral_row, peripheral_rows, row_among}, Operands.{plain_of, by_form, peripheral_operand}, declared.number_base.NumberBase.NumberBase}
 use Rattle.definitions.specs.Operands as operand
-use Rattle.definitions.specs.Operands.{plain_of, by_form, peripheral_operand}
-use Rattle.definitions.specs.declared.number_base.NumberBase.{NumberBase}
-use Rattle.expr_forms.specs.declared.shapes.Shape.{Shape}
-use Rattle.expr_forms.specs.Joins.Shapes.{HasForm}
-use Rattle.operations.specs.declared.peripheral.code.Code.{Code}
-use Rattle.operations.specs.Joins.PeripheralCodes.{row_as, form_as, found_row}
-use Rattle.operations.specs.Joins.PeripheralShapes.{IsFieldOf, IsFound, is_ignored, is_ignoring}
+use Rattle.expr_forms.specs.{declared.shapes.Shape.Shape, Joins.Shapes.HasForm}
+use Rattle.operations.specs.{declared.peripheral.code.Code.Code, Joins.PeripheralCodes.{row_as, form_as, found_row}, Joins.PeripheralShapes.{IsFieldOf, IsFound, is_ignored, is_ignoring}}
 
 -- the digits of a row, and its field
 is_found-operand : (shape : Shape) (row : PeripheralRow) (found : operand.Operand) → shape.digits ≡ row.code → shape.digit_count ≡ 2 →

@@ -1,13 +1,6 @@
 -- What a sorted table has of one name stands together, behind all that is less.
-use Rattle.std.proofs.Common.{◌≡◌, ℕ, zero, suc, ◌+◌, ◌<◌, ◌≤◌, ◌⊎◌, Bool, true, false, List, [], ◌∷◌, length, take, drop, get_or, filter, ltb, leb, cond, refl, sym, ap, ◌∙◌, inl, inr, arith}
-use Rattle.std.specs.List.{prefix_len, list_all}
-use Rattle.std.proofs.lemmas.Bool.{leb-true, le-leb, ltb-true, ltb-false, lt-ltb, le-ltb, ne_eqb, both_ways, and_parts}
-use Rattle.std.proofs.lemmas.Bool.Decides.{eqb_tells}
-use Rattle.std.proofs.lemmas.List.{take-take}
-use Rattle.std.proofs.lemmas.List.Folds.{length-prefix_len}
-use Rattle.std.proofs.lemmas.List.Sums.{prefix_len_passes}
-use Rattle.operations.specs.declared.row.Row.{Row}
-use Rattle.operations.specs.Joins.SortedNames.{name_number, has_number, is_below, is_sorted_from, has_at_most}
+use Rattle.std.{proofs.Common.{◌≡◌, ℕ, zero, suc, ◌+◌, ◌<◌, ◌≤◌, ◌⊎◌, Bool, true, false, List, [], ◌∷◌, length, take, drop, get_or, filter, ltb, leb, cond, refl, sym, ap, ◌∙◌, inl, inr, arith}, specs.List.{prefix_len, list_all}, proofs.lemmas.Bool.{leb-true, le-leb, ltb-true, ltb-false, lt-ltb, le-ltb, ne_eqb, both_ways, and_parts}, proofs.lemmas.Bool.Decides.eqb_tells, proofs.lemmas.List.take-take, proofs.lemmas.List.Folds.length-prefix_len, proofs.lemmas.List.Sums.prefix_len_passes}
+use Rattle.operations.specs.{declared.row.Row.Row, Joins.SortedNames.{name_number, has_number, is_below, is_sorted_from, has_at_most}}
 
 abbrev pub number_in : {F : Type 0} → Row F → ℕ
 number_in row = name_number row.name

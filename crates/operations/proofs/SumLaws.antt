@@ -1,25 +1,11 @@
 -- Sums against rows.
-use Rattle.std.proofs.Common.{◌≡◌, ℕ, ◌-◌, ◌<◌, ◌≤◌, Bool, true, false, cond, ◌&&◌, List, [], ◌∷◌, Option, Some, None, length, map, eqb, refl, sym, ap, ◌∙◌, arith}
-use Rattle.std.specs.Prelude.{nat_le}
-use Rattle.definitions.specs.Expressions.{Sign, Term, Expression, is_plain}
-use Rattle.definitions.specs.CentralTable.{SumRow}
-use Rattle.definitions.specs.Matching.{RegisterDigits, is_ijk, is_octal_digit, with_ijk, matched, OfK, Sum, instruction_of, sum_field, sum_code, sum_instruction, sum_fit, single, sum_rows_for, first_fit}
-use Rattle.definitions.specs.Pieces.{Piece}
+use Rattle.std.{proofs.Common.{◌≡◌, ℕ, ◌-◌, ◌<◌, ◌≤◌, Bool, true, false, cond, ◌&&◌, List, [], ◌∷◌, Option, Some, None, length, map, eqb, refl, sym, ap, ◌∙◌, arith}, specs.Prelude.nat_le}
+use Rattle.definitions.specs.{Expressions.{Sign, Term, Expression, is_plain}, CentralTable.SumRow, Matching.{RegisterDigits, is_ijk, is_octal_digit, with_ijk, matched, OfK, Sum, instruction_of, sum_field, sum_code, sum_instruction, sum_fit, single, sum_rows_for, first_fit}, Pieces.Piece, declared.number_base.NumberBase.NumberBase}
 use Rattle.definitions.specs.CentralTable as table
-use Rattle.definitions.specs.declared.number_base.NumberBase.{NumberBase}
-use Rattle.operations.specs.declared.row.Row.{Row}
-use Rattle.expr_forms.specs.Joins.Operands.{IsOperand}
-use Rattle.expr_forms.specs.declared.operands.Subfield.{Subfield}
+use Rattle.operations.{specs.declared.row.Row.Row, specs.declared.central.code.SumForm.SumForm, specs.Joins.CentralTables.{sum_row, sum_rows_of, is_some_of}, specs.Joins.Fits.{named_digits, form_fit}, proofs.RowLaws.sum-fits, specs.declared.central.patterns.SumPattern.SumPattern, specs.Joins.CodeTexts.registers_text, proofs.RegisterPieceLaws.cond_same}
+use Rattle.expr_forms.specs.{Joins.Operands.IsOperand, declared.operands.Subfield.Subfield}
 use Rattle.expr_forms.specs.declared.operands.Operand.TheVariants as operand
-use Rattle.operations.specs.declared.central.code.SumForm.{SumForm}
-use Rattle.operations.specs.Joins.CentralTables.{sum_row, sum_rows_of, is_some_of}
-use Rattle.operations.specs.Joins.Fits.{named_digits}
-use Rattle.operations.proofs.RowLaws.{sum-fits}
-use Rattle.operations.specs.declared.central.patterns.SumPattern.{SumPattern}
 use Rattle.operations.specs.declared.central.patterns.SumPattern.TheVariants as registers
-use Rattle.operations.specs.Joins.CodeTexts.{registers_text}
-use Rattle.operations.specs.Joins.Fits.{form_fit}
-use Rattle.operations.proofs.RegisterPieceLaws.{cond_same}
 
 -- a text that is longer than a pattern does not fit it
 too_long : (ps cs : List ℕ) (ijk : RegisterDigits) → length ps < length cs → matched ps cs ijk ≡ None

@@ -1,8 +1,5 @@
 -- Two tables have the same rows of each name, in the same order, if they have them of each name that is in either.
-use Rattle.std.proofs.Common.{◌≡◌, ◌≢◌, ℕ, ◌+◌, ◌*◌, ◌<◌, Bool, true, false, List, [], ◌∷◌, map, filter, eqb, eq-eqb, refl, sym, ap, ◌∙◌, inl, inr, cond, arith}
-use Rattle.std.specs.List.{list_all, list_any}
-use Rattle.std.proofs.lemmas.Bool.{and_parts}
-use Rattle.std.proofs.lemmas.Bool.Decides.{eqb_tells}
+use Rattle.std.{proofs.Common.{◌≡◌, ◌≢◌, ℕ, ◌+◌, ◌*◌, ◌<◌, Bool, true, false, List, [], ◌∷◌, map, filter, eqb, eq-eqb, refl, sym, ap, ◌∙◌, inl, inr, cond, arith}, specs.List.{list_all, list_any}, proofs.lemmas.Bool.and_parts, proofs.lemmas.Bool.Decides.eqb_tells}
 use Rattle.definitions.specs.Characters.{same_text}
 use Rattle.operations.specs.Joins.SortedNames.{name_number}
 

@@ -1,25 +1,8 @@
 -- Where a subfield spells no expression, or there are none or more than three, no row fits.
-use Rattle.std.proofs.Common.{◌≡◌, ℕ, ◌-◌, Bool, true, false, not, cond, ◌&&◌, ◌||◌, List, [], ◌∷◌, Option, Some, None, map, filter, eqb, codes, refl, sym, ap, ◌∙◌, inl, inr}
-use Rattle.std.specs.Prelude.{suc, zero, is_none, is_some}
-use Rattle.std.specs.List.{list_all, list_any, onto_first, slice_split}
-use Rattle.std.proofs.lemmas.Bool.{and_parts}
-use Rattle.std.proofs.lemmas.Bool.Decides.{eqb_tells}
-use Rattle.definitions.specs.Characters.{same_text}
-use Rattle.definitions.specs.CountedItems.{CountedItem, CountedSpan, counted_item_at}
-use Rattle.definitions.specs.Pieces.{Mark, Comma, Plus, Minus, Star, Slash, Equals, Spot, AtStart, AtEquals, Inside, Begun, ByMark, ByCountedItem, ByOther, Piece, IsMark, IsCountedItem, Plain, mark_of, begun_by, begun_by_counted_item, begun_at, spot_behind, left_of, onto_plain, onto_pieces, pieces_at, pieces_of, subfields_of}
-use Rattle.definitions.specs.Expressions.{Sign, NoSign, MinusSign, Add, Subtract, OperatorElement, with_sign, expression_of}
-use Rattle.definitions.specs.CentralTable.{Row, central_rows, ignoring_rows, sum_rows}
-use Rattle.definitions.specs.Matching.{RegisterDigits, no_ijk, is_octal_digit, with_ijk, matched, is_operation, OfK, OfN, Match, plain_text, plain_field, with_field, subfield_matched, subfields_matched, with_registers, matched_instruction, Instruction, ignoring_fit, row_fit, sum_fit, sum_read, single, sum_rows_for, first_fit, central_of}
-use Rattle.definitions.specs.declared.number_base.NumberBase.{NumberBase}
-use Rattle.definitions.proofs.GrammarLaws.{pairs_from}
+use Rattle.std.{proofs.Common.{◌≡◌, ℕ, ◌-◌, Bool, true, false, not, cond, ◌&&◌, ◌||◌, List, [], ◌∷◌, Option, Some, None, map, filter, eqb, codes, refl, sym, ap, ◌∙◌, inl, inr}, specs.Prelude.{suc, zero, is_none, is_some}, specs.List.{list_all, list_any, onto_first, slice_split}, proofs.lemmas.Bool.and_parts, proofs.lemmas.Bool.Decides.eqb_tells}
+use Rattle.definitions.{specs.Characters.same_text, specs.CountedItems.{CountedItem, CountedSpan, counted_item_at}, specs.Pieces.{Mark, Comma, Plus, Minus, Star, Slash, Equals, Spot, AtStart, AtEquals, Inside, Begun, ByMark, ByCountedItem, ByOther, Piece, IsMark, IsCountedItem, Plain, mark_of, begun_by, begun_by_counted_item, begun_at, spot_behind, left_of, onto_plain, onto_pieces, pieces_at, pieces_of, subfields_of}, specs.Expressions.{Sign, NoSign, MinusSign, Add, Subtract, OperatorElement, with_sign, expression_of}, specs.CentralTable.{Row, central_rows, ignoring_rows, sum_rows}, specs.Matching.{RegisterDigits, no_ijk, is_octal_digit, with_ijk, matched, is_operation, OfK, OfN, Match, plain_text, plain_field, with_field, subfield_matched, subfields_matched, with_registers, matched_instruction, Instruction, ignoring_fit, row_fit, sum_fit, sum_read, single, sum_rows_for, first_fit, central_of}, specs.declared.number_base.NumberBase.NumberBase, proofs.GrammarLaws.pairs_from}
 use Rattle.expr_forms.specs.Joins.Operands.{is_subfield, is_operand}
-use Rattle.operations.specs.Joins.RegisterPieces.{pieces_fit, is_of_run, begins_with_run, is_run, are_of_field, is_sum_of_registers, is_register_pattern, is_pattern_part}
-use Rattle.operations.specs.Joins.RegisterLinks.{read_links_fit}
-use Rattle.operations.proofs.OperationLaws.{is_not}
-use Rattle.operations.proofs.RegisterPieceLaws.{pattern_fits}
-use Rattle.operations.proofs.RegisterLinkLaws.{registers_fit-links, minus_fit-links}
-use Rattle.operations.proofs.RowLaws.{no_sum-fits}
-use Rattle.operations.proofs.SearchLaws.{by_central}
+use Rattle.operations.{specs.Joins.RegisterPieces.{pieces_fit, is_of_run, begins_with_run, is_run, are_of_field, is_sum_of_registers, is_register_pattern, is_pattern_part}, specs.Joins.RegisterLinks.read_links_fit, proofs.OperationLaws.is_not, proofs.RegisterPieceLaws.pattern_fits, proofs.RegisterLinkLaws.{registers_fit-links, minus_fit-links}, proofs.RowLaws.no_sum-fits, proofs.SearchLaws.by_central}
 
 both_ways : true ≡ false → ⊥
 both_ways e = cc

@@ -1,9 +1,5 @@
 -- Whether a text is a name and the digits behind it, by what it has behind the name.
-use Rattle.std.proofs.Common.{ℕ, ◌≡◌, ◌≢◌, ◌++◌, ◌∙◌, Bool, true, false, true≢false, List, sym, ap}
-use Rattle.std.specs.Prelude.{bytes_eq}
-use Rattle.std.specs.Bool.{one_answer}
-use Rattle.std.proofs.lemmas.Slice.Eq.{bytes_eq-Decides}
-use Rattle.std.proofs.lemmas.List.{append_cancel_left}
+use Rattle.std.{proofs.Common.{ℕ, ◌≡◌, ◌≢◌, ◌++◌, ◌∙◌, Bool, true, false, true≢false, List, sym, ap}, specs.Prelude.bytes_eq, specs.Bool.one_answer, proofs.lemmas.Slice.Eq.bytes_eq-Decides, proofs.lemmas.List.append_cancel_left}
 
 -- it begins with the name: the rest shows
 pub behind-name : (text name rest digits : List ℕ) (same : Bool) → text ≡ name ++ rest → same ≡ bytes_eq rest digits → same ≡ bytes_eq text (name ++ digits)

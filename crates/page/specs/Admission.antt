@@ -1,8 +1,6 @@
 -- Which requests come from a page of this service (ours): by the names that a browser sends, of which no page can choose any.
-use Rattle.std.specs.Prelude.{ℕ, Bool, false, ◌&&◌, ◌||◌, List, ◌++◌, Option, None, Some, codes, decimal, bytes_eq}
-use Rattle.std.specs.List.{list_all}
-use Rattle.http_header.specs.FieldValue.{FieldValue}
-use Rattle.http_header.specs.HeaderMap.{Entries, get, get_all}
+use Rattle.std.specs.{Prelude.{ℕ, Bool, false, ◌&&◌, ◌||◌, List, ◌++◌, Option, None, Some, codes, decimal, bytes_eq}, List.list_all}
+use Rattle.http_header.specs.{FieldValue.FieldValue, HeaderMap.{Entries, get, get_all}}
 
 -- the text is the name, and behind it the port in decimal
 abbrev pub is_named : List ℕ → ℕ → List ℕ → Bool

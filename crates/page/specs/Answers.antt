@@ -1,18 +1,9 @@
 -- What each request is answered (ours): status, fields and body, and who serves lines before and after.
 use Rattle.std.specs.Prelude.{ℕ, ◌≡◌, ◌⊎◌, ◌++◌, ◌∷◌, [], Bool, true, List, codes}
-use Rattle.http.specs.declared.request.Request.{Request}
-use Rattle.http.specs.Request.{head_of, body_of}
+use Rattle.http.specs.{declared.request.Request.Request, Request.{head_of, body_of}}
 use Rattle.http1.specs.Fields.{Header}
-use Rattle.http_server.specs.declared.response.Response.{Response}
-use Rattle.http_server.specs.Response.{IsResponse, fields_of}
-use Rattle.page.specs.declared.answers.TheConstants.{POLICY}
-use Rattle.page.specs.declared.page_style.TheConstants.{TOP}
-use Rattle.page.specs.declared.page_text.TheConstants.{BODY}
-use Rattle.page.specs.declared.page_script.TheConstants.{SCRIPT}
-use Rattle.page.specs.declared.page_edits.TheConstants.{EDITS}
-use Rattle.page.specs.declared.asked.Asked.{Asked}
-use Rattle.page.specs.declared.asked.Asked.TheVariants.{Page, Lines, Foreign, Nothing, OtherThanGet, OtherThanPost}
-use Rattle.page.specs.Requests.{asked_by}
+use Rattle.http_server.specs.{declared.response.Response.Response, Response.{IsResponse, fields_of}}
+use Rattle.page.specs.{declared.answers.TheConstants.POLICY, declared.page_style.TheConstants.TOP, declared.page_text.TheConstants.BODY, declared.page_script.TheConstants.SCRIPT, declared.page_edits.TheConstants.EDITS, declared.asked.Asked.Asked, declared.asked.Asked.TheVariants.{Page, Lines, Foreign, Nothing, OtherThanGet, OtherThanPost}, Requests.asked_by}
 
 abbrev pub plain : List ℕ
 plain = codes "text/plain; charset=utf-8"

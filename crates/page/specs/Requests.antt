@@ -3,9 +3,7 @@ use Rattle.std.specs.Prelude.{ℕ, Bool, ◌||◌, List, codes, bytes_eq, if◌t
 use Rattle.http.specs.declared.request.Parts.{Parts}
 use Rattle.http_header.specs.HeaderMap.{get}
 use Rattle.http_uri.specs.Uri.{uri_path}
-use Rattle.page.specs.declared.asked.Asked.{Asked}
-use Rattle.page.specs.declared.asked.Asked.TheVariants.{Page, Lines, Foreign, Nothing, OtherThanGet, OtherThanPost}
-use Rattle.page.specs.Admission.{comes_from_here}
+use Rattle.page.specs.{declared.asked.Asked.Asked, declared.asked.Asked.TheVariants.{Page, Lines, Foreign, Nothing, OtherThanGet, OtherThanPost}, Admission.comes_from_here}
 
 -- by its path, its method, and whether it names an origin: lines need one, since a browser sends it with all that is posted
 abbrev pub asked_at : List ℕ → List ℕ → Bool → Asked

@@ -1,31 +1,11 @@
 -- The line of each command reads back.
-use Rattle.std.proofs.Common.{ℕ, ◌≡◌, ◌≤◌, ◌&&◌, arith, Bool, true, false, List, [], ◌∷◌, ◌++◌, Option, Some, None, Result, Ok, Err, codes, length, refl, ap, ◌∙◌, ne_eqb, if◌then◌else◌}
-use Rattle.std.specs.Prelude.{nat_le, decimal, option_and_then}
-use Rattle.std.proofs.lemmas.Bool.{and_parts, le-leb, leb-true}
-use Rattle.definitions.specs.Cards.{CardRead, IsCard, card_of}
-use Rattle.definitions.specs.DeckInput.{is_deck_name}
-use Rattle.session_commands.specs.declared.verbs.EditKind.{EditKind}
+use Rattle.std.{proofs.Common.{ℕ, ◌≡◌, ◌≤◌, ◌&&◌, arith, Bool, true, false, List, [], ◌∷◌, ◌++◌, Option, Some, None, Result, Ok, Err, codes, length, refl, ap, ◌∙◌, ne_eqb, if◌then◌else◌}, specs.Prelude.{nat_le, decimal, option_and_then}, proofs.lemmas.Bool.{and_parts, le-leb, leb-true}}
+use Rattle.definitions.specs.{Cards.{CardRead, IsCard, card_of}, DeckInput.is_deck_name}
+use Rattle.session_commands.{specs.declared.verbs.EditKind.EditKind, specs.declared.commands.Command.Command, specs.declared.views.ErrorsView.TheVariants.{Every, Of}, specs.declared.commands.BatchHead.BatchHead, specs.declared.words.Seen.Seen, specs.declared.words.Seen.TheVariants.Exactly, specs.declared.refusals.Refusal.Refusal, specs.declared.views.CardsView.CardsView, specs.declared.views.CardsView.TheVariants.{All, From, With}, specs.declared.refusals.Refusal.TheVariants.BadName, specs.Sought.is_sought_size, specs.Words.{first_word, behind_word, number_in, first_number, first_seen, greatest_number}, specs.Edits.{needs, only_if, made_of, is_end, card_or_fault, fits_edit, edit_at, edit_in_batch}, specs.Commands.{name_in, only_name, save_over_in, save_in, view_from, view_in, at_in, cards_by, cards_in, sought_of, sought_in, find_in, errors_of, errors_in, named_version, of_version, edit_of, edit_in, head_in, batch_by, put_by, is_batch_size, is_put_size, command_of}, specs.Lines.{name_and_number, name_and_seen, seen_text, line_of_edit, line_in_batch, line_of_head, line_of_command, IsLawfulEdit, IsLawfulSeen, IsLawfulName, IsLawful}, proofs.ReadBack.{IsRest, IsWord, word-name, word-decimal, word-seen, first-word, behind-word, first-number, first-seen}}
 use Rattle.session_commands.specs.declared.verbs.EditKind.TheVariants as kind
-use Rattle.cards.specs.declared.edits.Edit.{Edit}
-use Rattle.cards.specs.declared.edits.Edit.TheVariants.{Insert, Replace, Remove}
-use Rattle.deck_files.specs.declared.deck_shelf.SaveOver.{SaveOver}
-use Rattle.deck_files.specs.declared.deck_shelf.SaveOver.TheVariants.{Known, Any}
-use Rattle.session_commands.specs.declared.commands.Command.{Command}
+use Rattle.cards.specs.declared.edits.Edit.{Edit, TheVariants.{Insert, Replace, Remove}}
+use Rattle.deck_files.specs.declared.deck_shelf.SaveOver.{SaveOver, TheVariants.{Known, Any}}
 use Rattle.session_commands.specs.declared.commands.Command.TheVariants as command
-use Rattle.session_commands.specs.declared.views.ErrorsView.TheVariants.{Every, Of}
-use Rattle.session_commands.specs.declared.commands.BatchHead.{BatchHead}
-use Rattle.session_commands.specs.declared.words.Seen.{Seen}
-use Rattle.session_commands.specs.declared.words.Seen.TheVariants.{Exactly}
-use Rattle.session_commands.specs.declared.refusals.Refusal.{Refusal}
-use Rattle.session_commands.specs.declared.views.CardsView.{CardsView}
-use Rattle.session_commands.specs.declared.views.CardsView.TheVariants.{All, From, With}
-use Rattle.session_commands.specs.declared.refusals.Refusal.TheVariants.{BadName}
-use Rattle.session_commands.specs.Sought.{is_sought_size}
-use Rattle.session_commands.specs.Words.{first_word, behind_word, number_in, first_number, first_seen, greatest_number}
-use Rattle.session_commands.specs.Edits.{needs, only_if, made_of, is_end, card_or_fault, fits_edit, edit_at, edit_in_batch}
-use Rattle.session_commands.specs.Commands.{name_in, only_name, save_over_in, save_in, view_from, view_in, at_in, cards_by, cards_in, sought_of, sought_in, find_in, errors_of, errors_in, named_version, of_version, edit_of, edit_in, head_in, batch_by, put_by, is_batch_size, is_put_size, command_of}
-use Rattle.session_commands.specs.Lines.{name_and_number, name_and_seen, seen_text, line_of_edit, line_in_batch, line_of_head, line_of_command, IsLawfulEdit, IsLawfulSeen, IsLawfulName, IsLawful}
-use Rattle.session_commands.proofs.ReadBack.{IsRest, IsWord, word-name, word-decimal, word-seen, first-word, behind-word, first-number, first-seen}
 
 -- a lawful name
 name-is : (name : List ℕ) → is_deck_name name ≡ true → name_in name ≡ Ok name

@@ -1,20 +1,7 @@
 -- The line of a command reads back: words and numbers first, then each form of line.
-use Rattle.std.proofs.Common.{ℕ, suc, ◌≡◌, ◌+◌, ◌*◌, ◌-◌, ◌/◌, ◌%◌, ◌<◌, ◌≤◌, ◌==◌, inl, inr, Bool, true, false, cond, not, ◌&&◌, List, [], ◌∷◌, ◌++◌, Some, None, length, length-append, take, drop, refl, ap, ◌∙◌, arith, ne_eqb, if◌then◌else◌}
-use Rattle.std.specs.Prelude.{nat_le, option_and_then, option_map, codes, decimal, ◌||◌}
-use Rattle.std.specs.List.{list_all, prefix_len}
-use Rattle.std.proofs.lemmas.Bool.{and_parts, and_from, le-leb, leb-true, or_cases}
-use Rattle.std.proofs.lemmas.Fmt.{decimal_by_steps, length-decimal-le, decimal_nonempty}
-use Rattle.std.proofs.lemmas.List.{take_at, drop_at}
-use Rattle.std.proofs.lemmas.List.Folds.{list_all-append}
-use Rattle.std.proofs.lemmas.List.Sums.{fold-append}
-use Rattle.definitions.specs.Characters.{blank, is_digit, is_letter, same_text}
-use Rattle.definitions.specs.Fields.{unbroken_front}
-use Rattle.definitions.specs.Numerals.{number_of}
-use Rattle.definitions.specs.DeckInput.{is_deck_name}
-use Rattle.session_commands.specs.Words.{some_word, first_word, behind_word, greatest_number, is_number, number_in, seen_in, first_seen, first_number}
-use Rattle.session_commands.specs.Lines.{seen_text, IsLawfulSeen}
-use Rattle.session_commands.specs.declared.words.Seen.{Seen}
-use Rattle.session_commands.specs.declared.words.Seen.TheVariants.{Exactly, Since}
+use Rattle.std.{proofs.Common.{ℕ, suc, ◌≡◌, ◌+◌, ◌*◌, ◌-◌, ◌/◌, ◌%◌, ◌<◌, ◌≤◌, ◌==◌, inl, inr, Bool, true, false, cond, not, ◌&&◌, List, [], ◌∷◌, ◌++◌, Some, None, length, length-append, take, drop, refl, ap, ◌∙◌, arith, ne_eqb, if◌then◌else◌}, specs.Prelude.{nat_le, option_and_then, option_map, codes, decimal, ◌||◌}, specs.List.{list_all, prefix_len}, proofs.lemmas.Bool.{and_parts, and_from, le-leb, leb-true, or_cases}, proofs.lemmas.Fmt.{decimal_by_steps, length-decimal-le, decimal_nonempty}, proofs.lemmas.List.{take_at, drop_at}, proofs.lemmas.List.Folds.list_all-append, proofs.lemmas.List.Sums.fold-append}
+use Rattle.definitions.specs.{Characters.{blank, is_digit, is_letter, same_text}, Fields.unbroken_front, Numerals.number_of, DeckInput.is_deck_name}
+use Rattle.session_commands.specs.{Words.{some_word, first_word, behind_word, greatest_number, is_number, number_in, seen_in, first_seen, first_number}, Lines.{seen_text, IsLawfulSeen}, declared.words.Seen.Seen, declared.words.Seen.TheVariants.{Exactly, Since}}
 
 -- a character that is no blank
 abbrev pub no_blank : ℕ → Bool

@@ -4,13 +4,7 @@ use Rattle.cards.specs.declared.card.CardFault.TheVariants as card
 use Rattle.cards.specs.declared.edits.Edit.TheVariants.{Insert, Replace, Remove}
 use Rattle.deck_files.specs.declared.deck_shelf.SaveOver.TheVariants.{Known, Any}
 use Rattle.session_commands.specs.declared.commands.Command.TheVariants as command
-use Rattle.session_commands.specs.declared.views.ErrorsView.TheVariants.{Every, Of}
-use Rattle.session_commands.specs.declared.views.CardsView.TheVariants.{All, From, With}
-use Rattle.session_commands.specs.declared.refusals.Refusal.TheVariants.{BadCommand, UnknownCommand, BadName, BadCard}
-use Rattle.session_commands.specs.declared.words.Seen.TheVariants.{Exactly, Since}
-use Rattle.session_commands.specs.UnknownWords.{told_word}
-use Rattle.session_commands.specs.Edits.{edit_in_batch}
-use Rattle.session_commands.specs.Commands.{command_of}
+use Rattle.session_commands.specs.{declared.views.ErrorsView.TheVariants.{Every, Of}, declared.views.CardsView.TheVariants.{All, From, With}, declared.refusals.Refusal.TheVariants.{BadCommand, UnknownCommand, BadName, BadCard}, declared.words.Seen.TheVariants.{Exactly, Since}, UnknownWords.told_word, Edits.edit_in_batch, Commands.command_of}
 
 -- each command
 pub add : command_of (codes "ADD M") ≡ Ok (command.Add (codes "M"))

@@ -1,30 +1,12 @@
 -- Which line of a session is which command, or why it is refused: a line that is none first, with its first word where no command begins with that, then the name, then the card (ours).
 use Rattle.std.specs.Prelude.{ℕ, List, Option, Some, None, Result, Ok, Err, Bool, ◌&&◌, codes, length, drop, nat_le, option_and_then, if◌then◌else◌}
-use Rattle.definitions.specs.Characters.{same_text}
-use Rattle.definitions.specs.Cards.{Card, CardRead, IsCard, TooWide, BadCharacter, card_of}
-use Rattle.definitions.specs.DeckInput.{is_deck_name}
-use Rattle.definitions.specs.Fields.{unbroken_front}
-use Rattle.session_commands.specs.declared.verbs.EditKind.{EditKind}
-use Rattle.session_commands.specs.declared.verbs.Verb.{Verb}
+use Rattle.definitions.specs.{Characters.same_text, Cards.{Card, CardRead, IsCard, TooWide, BadCharacter, card_of}, DeckInput.is_deck_name, Fields.unbroken_front}
+use Rattle.session_commands.specs.{declared.verbs.EditKind.EditKind, declared.verbs.Verb.Verb, declared.commands.Command.Command, declared.commands.BatchHead.BatchHead, declared.words.Seen.Seen, declared.words.Seen.TheVariants.{Exactly, Since}, declared.views.CardsView.CardsView, declared.views.CardsView.TheVariants.{All, From, With}, declared.views.ErrorsView.TheVariants.{Every, Of}, declared.refusals.Refusal.Refusal, declared.refusals.Refusal.TheVariants.{BadCommand, UnknownCommand, BadName}, Words.{from_blank, first_word, first_number, first_seen, behind_word}, UnknownWords.{can_be_told, told_word}, Verbs.verb_of, Sought.is_sought_size, Edits.{needs, only_if, made_of, is_end, fits_edit, edit_at}}
 use Rattle.session_commands.specs.declared.verbs.Verb.TheVariants as verb
 use Rattle.cards.specs.declared.edits.Edit.{Edit}
 use Rattle.deck_files.specs.declared.deck_shelf.SaveOver.{SaveOver}
 use Rattle.deck_files.specs.declared.deck_shelf.SaveOver.TheVariants as over
-use Rattle.session_commands.specs.declared.commands.Command.{Command}
-use Rattle.session_commands.specs.declared.commands.BatchHead.{BatchHead}
-use Rattle.session_commands.specs.declared.words.Seen.{Seen}
-use Rattle.session_commands.specs.declared.words.Seen.TheVariants.{Exactly, Since}
-use Rattle.session_commands.specs.declared.views.CardsView.{CardsView}
-use Rattle.session_commands.specs.declared.views.CardsView.TheVariants.{All, From, With}
 use Rattle.session_commands.specs.declared.commands.Command.TheVariants as command
-use Rattle.session_commands.specs.declared.views.ErrorsView.TheVariants.{Every, Of}
-use Rattle.session_commands.specs.declared.refusals.Refusal.{Refusal}
-use Rattle.session_commands.specs.declared.refusals.Refusal.TheVariants.{BadCommand, UnknownCommand, BadName}
-use Rattle.session_commands.specs.Words.{from_blank, first_word, first_number, first_seen, behind_word}
-use Rattle.session_commands.specs.UnknownWords.{can_be_told, told_word}
-use Rattle.session_commands.specs.Verbs.{verb_of}
-use Rattle.session_commands.specs.Sought.{is_sought_size}
-use Rattle.session_commands.specs.Edits.{needs, only_if, made_of, is_end, fits_edit, edit_at}
 
 -- the name that a word is
 abbrev pub name_in : List ℕ → Result (List ℕ) Refusal

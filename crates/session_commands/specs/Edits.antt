@@ -1,16 +1,10 @@
 -- Edits in a session's lines, the lines of a batch, and those of a deck that is put (ours).
 use Rattle.std.specs.Prelude.{ℕ, List, Option, Some, None, Result, Ok, Err, Bool, true, ◌==◌, length, drop, if◌then◌else◌}
-use Rattle.definitions.specs.Cards.{Card, CardRead, IsCard, TooWide, BadCharacter, card_of}
-use Rattle.definitions.specs.Fields.{unbroken_front}
+use Rattle.definitions.specs.{Cards.{Card, CardRead, IsCard, TooWide, BadCharacter, card_of}, Fields.unbroken_front}
 use Rattle.cards.specs.declared.card.CardFault.TheVariants as card
-use Rattle.session_commands.specs.declared.verbs.EditKind.{EditKind}
+use Rattle.session_commands.specs.{declared.verbs.EditKind.EditKind, declared.refusals.Refusal.Refusal, declared.refusals.Refusal.TheVariants.{BadCommand, BadCard, BadLine}, Words.{from_blank, first_number, behind_word}, Verbs.edit_kind_of}
 use Rattle.session_commands.specs.declared.verbs.EditKind.TheVariants as kind
-use Rattle.cards.specs.declared.edits.Edit.{Edit}
-use Rattle.cards.specs.declared.edits.Edit.TheVariants.{Insert, Replace, Remove}
-use Rattle.session_commands.specs.declared.refusals.Refusal.{Refusal}
-use Rattle.session_commands.specs.declared.refusals.Refusal.TheVariants.{BadCommand, BadCard, BadLine}
-use Rattle.session_commands.specs.Words.{from_blank, first_number, behind_word}
-use Rattle.session_commands.specs.Verbs.{edit_kind_of}
+use Rattle.cards.specs.declared.edits.Edit.{Edit, TheVariants.{Insert, Replace, Remove}}
 
 -- what is made of a part that a line needs; without it the line is no command
 abbrev pub needs : {A B : Type 0} → Option A → (A → Result B Refusal) → Result B Refusal

@@ -1,21 +1,10 @@
 -- The line that a client writes for a command (ours).
 use Rattle.std.specs.Prelude.{ℕ, ◌≡◌, ◌≤◌, ⊤, List, [], ◌++◌, Result, Ok, Err, IsTrue, codes, decimal, length}
-use Rattle.definitions.specs.Cards.{IsCard, card_of}
-use Rattle.definitions.specs.DeckInput.{is_deck_name}
-use Rattle.cards.specs.declared.edits.Edit.{Edit}
-use Rattle.cards.specs.declared.edits.Edit.TheVariants.{Insert, Replace, Remove}
+use Rattle.definitions.specs.{Cards.{IsCard, card_of}, DeckInput.is_deck_name}
+use Rattle.cards.specs.declared.edits.Edit.{Edit, TheVariants.{Insert, Replace, Remove}}
 use Rattle.deck_files.specs.declared.deck_shelf.SaveOver.TheVariants.{Known, Any}
-use Rattle.session_commands.specs.declared.commands.Command.{Command}
+use Rattle.session_commands.specs.{declared.commands.Command.Command, declared.views.ErrorsView.TheVariants.{Every, Of}, declared.refusals.Refusal.Refusal, declared.views.CardsView.CardsView, declared.views.CardsView.TheVariants.{All, From, With}, Words.greatest_number, declared.words.Seen.Seen, declared.words.Seen.TheVariants.{Exactly, Since}, Sought.is_sought_size, Commands.{is_batch_size, is_put_size}}
 use Rattle.session_commands.specs.declared.commands.Command.TheVariants as command
-use Rattle.session_commands.specs.declared.views.ErrorsView.TheVariants.{Every, Of}
-use Rattle.session_commands.specs.declared.refusals.Refusal.{Refusal}
-use Rattle.session_commands.specs.declared.views.CardsView.{CardsView}
-use Rattle.session_commands.specs.declared.views.CardsView.TheVariants.{All, From, With}
-use Rattle.session_commands.specs.Words.{greatest_number}
-use Rattle.session_commands.specs.declared.words.Seen.{Seen}
-use Rattle.session_commands.specs.declared.words.Seen.TheVariants.{Exactly, Since}
-use Rattle.session_commands.specs.Sought.{is_sought_size}
-use Rattle.session_commands.specs.Commands.{is_batch_size, is_put_size}
 
 -- a blank, and a text behind it
 abbrev pub behind_a_blank : List ℕ → List ℕ

@@ -1,11 +1,9 @@
 -- The texts of refusals (ours): the name, then the numbers in decimal, or the word, each after one blank.
 use Rattle.std.specs.Prelude.{ℕ, List, ◌++◌, codes, decimal}
-use Rattle.cards.specs.CardReads.{card_fault_text}
-use Rattle.cards.specs.declared.edits.EditFault.{EditFault}
+use Rattle.cards.specs.{CardReads.card_fault_text, declared.edits.EditFault.EditFault}
 use Rattle.cards.specs.declared.edits.EditFault.TheVariants as fault
-use Rattle.session_commands.specs.declared.refusals.Refusal.{Refusal}
+use Rattle.session_commands.specs.{declared.refusals.Refusal.Refusal, UnknownWords.text_of_word}
 use Rattle.session_commands.specs.declared.refusals.Refusal.TheVariants as refusal
-use Rattle.session_commands.specs.UnknownWords.{text_of_word}
 
 -- the text of an edit's fault
 abbrev pub edit_fault_text : EditFault → List ℕ

@@ -1,13 +1,7 @@
 -- Lines that are no commands, and which of them a client of HTTP sends (ours).
-use Rattle.std.specs.Prelude.{ℕ, Bool, true, false, ◌&&◌, not, List, Result, Ok, Err, codes, length, nat_le}
-use Rattle.std.specs.Char.{is_ascii_uppercase}
-use Rattle.std.specs.List.{list_all}
+use Rattle.std.specs.{Prelude.{ℕ, Bool, true, false, ◌&&◌, not, List, Result, Ok, Err, codes, length, nat_le}, Char.is_ascii_uppercase, List.list_all}
 use Rattle.definitions.specs.Fields.{unbroken_front}
-use Rattle.session_commands.specs.declared.commands.Command.{Command}
-use Rattle.session_commands.specs.declared.refusals.Refusal.{Refusal}
-use Rattle.session_commands.specs.declared.refusals.Refusal.TheVariants.{BadCommand, UnknownCommand}
-use Rattle.session_commands.specs.Commands.{command_of}
-use Rattle.session_commands.specs.Sought.{has_text}
+use Rattle.session_commands.specs.{declared.commands.Command.Command, declared.refusals.Refusal.Refusal, declared.refusals.Refusal.TheVariants.{BadCommand, UnknownCommand}, Commands.command_of, Sought.has_text}
 
 -- whether a line was read as a command; one whose name or card is refused is a command, too
 abbrev pub is_read : Result Command Refusal → Bool

@@ -1,6 +1,5 @@
 -- Words that begin no command, which of them can be written, and how a refusal has them (ours).
-use Rattle.std.specs.Prelude.{ℕ, ◌-◌, List, ◌++◌, Option, Some, None, Bool, ◌&&◌, nat_le, length, take, replicate, if◌then◌else◌}
-use Rattle.std.specs.List.{list_all}
+use Rattle.std.specs.{Prelude.{ℕ, ◌-◌, List, ◌++◌, Option, Some, None, Bool, ◌&&◌, nat_le, length, take, replicate, if◌then◌else◌}, List.list_all}
 use Rattle.session_commands.specs.declared.unknown_words.UnknownWord.{UnknownWord}
 
 -- how many characters a word has at most that is shown

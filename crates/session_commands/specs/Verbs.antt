@@ -1,9 +1,8 @@
 -- The words that begin a line of a session, or of a batch (ours).
 use Rattle.std.specs.Prelude.{ℕ, List, Option, Some, None, codes, if◌then◌else◌}
 use Rattle.definitions.specs.Characters.{same_text}
-use Rattle.session_commands.specs.declared.verbs.EditKind.{EditKind}
+use Rattle.session_commands.specs.declared.verbs.{EditKind.EditKind, Verb.Verb}
 use Rattle.session_commands.specs.declared.verbs.EditKind.TheVariants as kind
-use Rattle.session_commands.specs.declared.verbs.Verb.{Verb}
 use Rattle.session_commands.specs.declared.verbs.Verb.TheVariants as verb
 
 -- the edit that a word asks for

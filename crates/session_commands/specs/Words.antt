@@ -1,11 +1,7 @@
 -- Words of a session's line, between single blanks, and the numbers that they spell (ours). The rest of a line is nothing, or begins with the blank behind a word.
-use Rattle.std.specs.Prelude.{ℕ, ◌-◌, List, [], ◌∷◌, Option, Some, None, Bool, ◌&&◌, codes, nat_le, length, take, drop, option_and_then, option_map, if◌then◌else◌}
-use Rattle.std.specs.List.{list_all}
-use Rattle.definitions.specs.Characters.{is_digit, same_text}
-use Rattle.definitions.specs.Fields.{unbroken_front}
-use Rattle.definitions.specs.Numerals.{number_of}
-use Rattle.session_commands.specs.declared.words.Seen.{Seen}
-use Rattle.session_commands.specs.declared.words.Seen.TheVariants.{Exactly, Since}
+use Rattle.std.specs.{Prelude.{ℕ, ◌-◌, List, [], ◌∷◌, Option, Some, None, Bool, ◌&&◌, codes, nat_le, length, take, drop, option_and_then, option_map, if◌then◌else◌}, List.list_all}
+use Rattle.definitions.specs.{Characters.{is_digit, same_text}, Fields.unbroken_front, Numerals.number_of}
+use Rattle.session_commands.specs.declared.words.Seen.{Seen, TheVariants.{Exactly, Since}}
 
 -- a text from its first blank on
 abbrev pub from_blank : List ℕ → List ℕ

@@ -1,24 +1,12 @@
 -- The decks of a file added one by one.
-use Rattle.std.proofs.Common.{ℕ, suc, ◌≡◌, ◌+◌, ◌-◌, ◌<◌, List, [], ◌∷◌, ◌++◌, arith, drop, get_or, length, length-append, take, reverse, ◌⊎◌, ⊎_elim, inl, inr, Ok, Err, refl, sym, subst, ap, ◌∙◌}
-use Rattle.std.specs.Prelude.{Result}
-use Rattle.std.proofs.lemmas.List.{drop_more, length-drop, take_all, take_more}
-use Rattle.definitions.specs.Cards.{Card}
-use Rattle.definitions.specs.DeckInput.{Deck, Decks}
-use Rattle.deck_cuts.specs.Cuts.{input_of_cards, newest_first, TellsFaultOf}
-use Rattle.deck_cuts.specs.declared.cut_fault.CutFault.{CutFault}
+use Rattle.std.{proofs.Common.{ℕ, suc, ◌≡◌, ◌+◌, ◌-◌, ◌<◌, List, [], ◌∷◌, ◌++◌, arith, drop, get_or, length, length-append, take, reverse, ◌⊎◌, ⊎_elim, inl, inr, Ok, Err, refl, sym, subst, ap, ◌∙◌}, specs.Prelude.Result, proofs.lemmas.List.{drop_more, length-drop, take_all, take_more}}
+use Rattle.definitions.specs.{Cards.Card, DeckInput.{Deck, Decks}}
+use Rattle.deck_cuts.{specs.Cuts.{input_of_cards, newest_first, TellsFaultOf}, specs.declared.cut_fault.CutFault.CutFault, proofs.DeckLaws.in_input_order-newest_first}
 use Rattle.deck_cuts.specs.declared.cut_fault.CutFault.TheVariants as cutting
-use Rattle.deck_cuts.proofs.DeckLaws.{in_input_order-newest_first}
-use Rattle.desk_core.specs.declared.calls.Call.{Call}
-use Rattle.desk_core.specs.declared.replies.Reply.{Reply}
-use Rattle.session_line.specs.declared.told_decks.ToldDeck.{ToldDeck}
-use Rattle.session_line.specs.declared.answers.Answer.{Answer}
+use Rattle.desk_core.specs.declared.{calls.Call.Call, replies.Reply.Reply}
+use Rattle.session_line.specs.{declared.told_decks.ToldDeck.ToldDeck, declared.answers.Answer.Answer, Answers.uncalled, DeckCuts.{decks_in, decks_or_reason}, Reasons.cut_reason, LoadingAll.{AddsAll, AddsCut, AddsDeck, AddsDecks, AddsFile, cut, no_deck, next_deck, uncut}}
 use Rattle.session_line.specs.declared.answers.Told.TheVariants as told
-use Rattle.session_commands.specs.declared.refusals.Refusal.{Refusal}
-use Rattle.session_commands.specs.declared.refusals.Refusal.TheVariants.{OutOfMemory}
-use Rattle.session_line.specs.Answers.{uncalled}
-use Rattle.session_line.specs.DeckCuts.{decks_in, decks_or_reason}
-use Rattle.session_line.specs.Reasons.{cut_reason}
-use Rattle.session_line.specs.LoadingAll.{AddsAll, AddsCut, AddsDeck, AddsDecks, AddsFile, cut, no_deck, next_deck, uncut}
+use Rattle.session_commands.specs.declared.refusals.Refusal.{Refusal, TheVariants.OutOfMemory}
 
 -- a deck that is left
 left-some : (decks : List Deck) (n : ℕ) (deck : Deck) (behind : List Deck) → drop n decks ≡ deck ∷ behind → n < length decks

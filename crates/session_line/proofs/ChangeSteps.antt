@@ -1,14 +1,8 @@
 -- The changes of edits that are kept, change by change.
-use Rattle.std.proofs.Common.{ℕ, suc, ◌≡◌, ◌+◌, ◌<◌, ◌==◌, Bool, true, false, List, [], ◌∷◌, ◌++◌, length, take, drop, refl, sym, ap, ◌∙◌, arith, length-append, if◌then◌else◌}
-use Rattle.std.specs.Prelude.{cond, flat_map, map}
-use Rattle.std.proofs.lemmas.Bool.{eqb-true, false≢true}
-use Rattle.std.proofs.lemmas.Grind.{flat_map-append}
-use Rattle.std.proofs.lemmas.List.{length-map}
+use Rattle.std.{proofs.Common.{ℕ, suc, ◌≡◌, ◌+◌, ◌<◌, ◌==◌, Bool, true, false, List, [], ◌∷◌, ◌++◌, length, take, drop, refl, sym, ap, ◌∙◌, arith, length-append, if◌then◌else◌}, specs.Prelude.{cond, flat_map, map}, proofs.lemmas.Bool.{eqb-true, false≢true}, proofs.lemmas.Grind.flat_map-append, proofs.lemmas.List.length-map}
 use Rattle.desk_core.specs.declared.past.KeptEdit.{KeptEdit}
-use Rattle.session_line.specs.ChangeLines.{ShownChange, change_with, onto_change, changes_of, change_line, lines_of_change, change_lines}
-use Rattle.session_line.specs.Joins.ChangeWalks.{run_len, first_len, lines_of_one, edits_text}
+use Rattle.session_line.specs.{ChangeLines.{ShownChange, change_with, onto_change, changes_of, change_line, lines_of_change, change_lines}, Joins.ChangeWalks.{run_len, first_len, lines_of_one, edits_text}, Replies.{line_of, text_of_lines}}
 use Rattle.session_commands.specs.Lines.{line_in_batch}
-use Rattle.session_line.specs.Replies.{line_of, text_of_lines}
 
 -- changes that begin with so many edits behind a first one
 abbrev split_at : ℕ → KeptEdit → List KeptEdit → List ShownChange

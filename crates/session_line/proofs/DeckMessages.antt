@@ -1,16 +1,8 @@
 -- The lines of the messages of a deck.
-use Rattle.std.proofs.Common.{ℕ, ◌≡◌, List, [], ◌++◌, sym, ap, ap₂, subst, ◌∙◌}
-use Rattle.std.specs.Prelude.{flat_map}
-use Rattle.definitions.specs.Cards.{Card}
-use Rattle.definitions.specs.DeckInput.{Deck}
-use Rattle.definitions.specs.Objects.{object_of}
-use Rattle.deck_objects.specs.Joins.PartsOf.{ArePartsOf}
-use Rattle.deck_objects.specs.declared.lines.Line.{Line}
-use Rattle.deck_objects.specs.declared.object.ObjectParts.{ObjectParts}
-use Rattle.session_line.specs.Joins.FlagWalks.{flags_in}
-use Rattle.session_line.specs.Joins.MessageWalks.{AddsMessages}
-use Rattle.session_line.specs.Messages.{AreMessages, Lettered, deck_letters, letters_of}
-use Rattle.session_line.proofs.FlagSteps.{deck-flags}
+use Rattle.std.{proofs.Common.{ℕ, ◌≡◌, List, [], ◌++◌, sym, ap, ap₂, subst, ◌∙◌}, specs.Prelude.flat_map}
+use Rattle.definitions.specs.{Cards.Card, DeckInput.Deck, Objects.object_of}
+use Rattle.deck_objects.specs.{Joins.PartsOf.ArePartsOf, declared.lines.Line.Line, declared.object.ObjectParts.ObjectParts}
+use Rattle.session_line.{specs.Joins.FlagWalks.flags_in, specs.Joins.MessageWalks.AddsMessages, specs.Messages.{AreMessages, Lettered, deck_letters, letters_of}, proofs.FlagSteps.deck-flags}
 
 -- what is put behind nothing, of what a deck's parts have
 pub deck-messages : (deck : Deck) (parts : ObjectParts) (name : List ℕ) (cards : List Card) (lines : List Line) (old new : List ℕ) →

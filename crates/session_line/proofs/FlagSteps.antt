@@ -1,32 +1,11 @@
 -- The flagged statements of a deck, statement by statement.
-use Rattle.std.proofs.Common.{ℕ, ◌≡◌, ◌+◌, ◌<◌, ◌≤◌, Bool, true, false, List, [], ◌∷◌, ◌++◌, ◌⊎◌, inl, inr, ⊎_elim, length, take, drop, get_or, reverse, refl, sym, ap, ap₂, ◌∙◌, arith, append-nil, append_assoc, length-append, if◌then◌else◌}
-use Rattle.std.specs.Prelude.{All, ◌&&◌, codes, filter, flat_map, is_none, map}
-use Rattle.std.specs.List.{AllByRecursion, count_by}
-use Rattle.std.proofs.lemmas.Grind.{flat_map-append}
-use Rattle.std.proofs.lemmas.List.{drop_all, drop_more, reverse-append, take_all, take_more}
-use Rattle.std.proofs.lemmas.List.Elements.{All-from_recursion}
-use Rattle.std.proofs.lemmas.List.Sums.{count_by-le-length, length-filter}
+use Rattle.std.{proofs.Common.{ℕ, ◌≡◌, ◌+◌, ◌<◌, ◌≤◌, Bool, true, false, List, [], ◌∷◌, ◌++◌, ◌⊎◌, inl, inr, ⊎_elim, length, take, drop, get_or, reverse, refl, sym, ap, ap₂, ◌∙◌, arith, append-nil, append_assoc, length-append, if◌then◌else◌}, specs.Prelude.{All, ◌&&◌, codes, filter, flat_map, is_none, map}, specs.List.{AllByRecursion, count_by}, proofs.lemmas.Grind.flat_map-append, proofs.lemmas.List.{drop_all, drop_more, reverse-append, take_all, take_more}, proofs.lemmas.List.Elements.All-from_recursion, proofs.lemmas.List.Sums.{count_by-le-length, length-filter}}
 use Rattle.text_ports.proofs.SendSteps.{texts-more}
-use Rattle.definitions.specs.Cards.{Card}
-use Rattle.definitions.specs.Characters.{is_among}
-use Rattle.definitions.specs.DeckInput.{Deck}
-use Rattle.definitions.specs.DeckKinds.{behind_end, kind_of_statements, up_to_end}
-use Rattle.definitions.specs.Letters.{letters_of, texts}
-use Rattle.definitions.specs.Objects.{Shown, context_of, object_of, only_listed, shown_of}
-use Rattle.definitions.specs.Settled.{Settled}
-use Rattle.definitions.specs.Settling.{settled_all}
-use Rattle.definitions.specs.StatementItems.{Context}
-use Rattle.definitions.specs.Statements.{Statement, statements_of}
-use Rattle.deck_objects.specs.Joins.CodedLines.{AreShown}
-use Rattle.deck_objects.specs.Joins.PartsOf.{ArePartsOf}
-use Rattle.deck_objects.specs.declared.lines.Line.{Line}
-use Rattle.deck_objects.specs.declared.object.ObjectParts.{ObjectParts}
-use Rattle.deck_listing.proofs.BehindLaws.{behind-same}
-use Rattle.deck_listing.proofs.ListingLaws.{behind-cards, take-none}
+use Rattle.definitions.specs.{Cards.Card, Characters.is_among, DeckInput.Deck, DeckKinds.{behind_end, kind_of_statements, up_to_end}, Letters.{letters_of, texts}, Objects.{Shown, context_of, object_of, only_listed, shown_of}, Settled.Settled, Settling.settled_all, StatementItems.Context, Statements.{Statement, statements_of}}
+use Rattle.deck_objects.specs.{Joins.CodedLines.AreShown, Joins.PartsOf.ArePartsOf, declared.lines.Line.Line, declared.object.ObjectParts.ObjectParts}
+use Rattle.deck_listing.proofs.{BehindLaws.behind-same, ListingLaws.{behind-cards, take-none}}
 use Rattle.deck_cuts.specs.Cuts.{begins_deck}
-use Rattle.session_line.specs.Errors.{Begins, Flag, deck_errors, errors_where, flag_of, flags_of, flag_text, shown_flag, shows_deck}
-use Rattle.session_line.specs.Joins.FlagWalks.{flags_in, flags_text}
-use Rattle.session_line.specs.Replies.{line_of, text_of_lines}
+use Rattle.session_line.specs.{Errors.{Begins, Flag, deck_errors, errors_where, flag_of, flags_of, flag_text, shown_flag, shows_deck}, Joins.FlagWalks.{flags_in, flags_text}, Replies.{line_of, text_of_lines}}
 use Rattle.session_commands.specs.declared.views.ErrorsView.{ErrorsView}
 
 -- the lines of some, and of others behind them

@@ -1,14 +1,8 @@
 -- The numbers of the cards that have a text, card by card.
-use Rattle.std.proofs.Common.{ℕ, ◌≡◌, ◌+◌, ◌<◌, Bool, List, [], ◌∷◌, ◌++◌, Option, length, take, drop, get_or, refl, sym, ap, subst, ◌∙◌, arith, append-nil, append_assoc, length-append, length-take, take-append-drop}
-use Rattle.std.specs.Prelude.{decimal}
-use Rattle.std.specs.Io.KnownBytes.{Appends}
-use Rattle.std.proofs.KnownBytes.{Appends-trans}
-use Rattle.std.proofs.lemmas.Grind.{flat_map-append}
-use Rattle.std.proofs.lemmas.List.{take_more, drop_more}
+use Rattle.std.{proofs.Common.{ℕ, ◌≡◌, ◌+◌, ◌<◌, Bool, List, [], ◌∷◌, ◌++◌, Option, length, take, drop, get_or, refl, sym, ap, subst, ◌∙◌, arith, append-nil, append_assoc, length-append, length-take, take-append-drop}, specs.Prelude.decimal, specs.Io.KnownBytes.Appends, proofs.KnownBytes.Appends-trans, proofs.lemmas.Grind.flat_map-append, proofs.lemmas.List.{take_more, drop_more}}
 use Rattle.definitions.specs.Cards.{Card}
 use Rattle.text_ports.proofs.SendSteps.{IsPart, part-first, part-second}
-use Rattle.session_line.specs.Replies.{line_of, numbers_text}
-use Rattle.session_line.specs.Views.{number_where, numbers_from, numbers_of}
+use Rattle.session_line.specs.{Replies.{line_of, numbers_text}, Views.{number_where, numbers_from, numbers_of}}
 use Rattle.session_commands.specs.Sought.{has_text}
 
 -- cards, and others behind them

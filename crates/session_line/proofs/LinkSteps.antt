@@ -1,12 +1,7 @@
 -- The lines of a map, line by line.
-use Rattle.std.proofs.Common.{ℕ, suc, ◌≡◌, ◌+◌, ◌-◌, ◌<◌, ◌≤◌, ◌==◌, Bool, true, false, List, [], ◌∷◌, ◌++◌, length, take, drop, refl, sym, ap, ◌∙◌, arith, length-take, if◌then◌else◌}
-use Rattle.std.specs.Prelude.{filter, cond}
-use Rattle.std.proofs.lemmas.Bool.{false≢true}
-use Rattle.std.proofs.lemmas.List.{length-drop}
+use Rattle.std.{proofs.Common.{ℕ, suc, ◌≡◌, ◌+◌, ◌-◌, ◌<◌, ◌≤◌, ◌==◌, Bool, true, false, List, [], ◌∷◌, ◌++◌, length, take, drop, refl, sym, ap, ◌∙◌, arith, length-take, if◌then◌else◌}, specs.Prelude.{filter, cond}, proofs.lemmas.Bool.false≢true, proofs.lemmas.List.length-drop}
 use Rattle.definitions.specs.Characters.{line_feed}
-use Rattle.session_line.specs.Errors.{lines_in, onto_line, shows_line}
-use Rattle.session_line.specs.Joins.FlagWalks.{line_len, shown_text}
-use Rattle.session_line.specs.Replies.{line_of, text_of_lines}
+use Rattle.session_line.specs.{Errors.{lines_in, onto_line, shows_line}, Joins.FlagWalks.{line_len, shown_text}, Replies.{line_of, text_of_lines}}
 use Rattle.session_commands.specs.declared.views.ErrorsView.{ErrorsView}
 
 -- the first line of a text with a character more in front

@@ -1,17 +1,9 @@
 -- Lines of messages, letter by letter and statement by statement.
-use Rattle.std.proofs.Common.{ℕ, ◌≡◌, ◌+◌, ◌<◌, ◌≤◌, Bool, true, false, List, [], ◌∷◌, ◌++◌, length, take, drop, get_or, refl, sym, ap, ap₂, subst, ◌∙◌, arith, append-nil, append_assoc, if◌then◌else◌}
-use Rattle.std.specs.Prelude.{◌&&◌, flat_map, is_none}
-use Rattle.std.proofs.lemmas.Grind.{flat_map-append}
-use Rattle.std.proofs.lemmas.List.{drop_all, drop_more}
+use Rattle.std.{proofs.Common.{ℕ, ◌≡◌, ◌+◌, ◌<◌, ◌≤◌, Bool, true, false, List, [], ◌∷◌, ◌++◌, length, take, drop, get_or, refl, sym, ap, ap₂, subst, ◌∙◌, arith, append-nil, append_assoc, if◌then◌else◌}, specs.Prelude.{◌&&◌, flat_map, is_none}, proofs.lemmas.Grind.flat_map-append, proofs.lemmas.List.{drop_all, drop_more}}
 use Rattle.definitions.specs.Cards.{Card}
 use Rattle.deck_objects.specs.declared.lines.Line.{Line}
 use Rattle.deck_cuts.specs.Cuts.{begins_deck}
-use Rattle.session_line.specs.Errors.{Begins, flag_of}
-use Rattle.session_line.specs.Joins.FlagWalks.{flags_in}
-use Rattle.session_line.specs.Joins.MessageWalks.{AddsMessages, told_letters}
-use Rattle.session_line.specs.Messages.{AreMessages, IsMessage, Lettered, Message, letters_of, lettered, message_text}
-use Rattle.session_line.specs.Replies.{line_of}
-use Rattle.session_line.proofs.FlagSteps.{flags-next}
+use Rattle.session_line.{specs.Errors.{Begins, flag_of}, specs.Joins.FlagWalks.flags_in, specs.Joins.MessageWalks.{AddsMessages, told_letters}, specs.Messages.{AreMessages, IsMessage, Lettered, Message, letters_of, lettered, message_text}, specs.Replies.line_of, proofs.FlagSteps.flags-next}
 
 -- a text has lines of messages so far: with those of the letters that are left it has those of all
 abbrev pub IsSoFar : List ℕ → List Lettered → List Lettered → List ℕ → List ℕ → Type 0

@@ -1,44 +1,13 @@
 -- A command of a session that is refused changes nothing of a desk of which no refused call, no question, no wait and no greeting changes anything.
 use Rattle.std.proofs.Common.{ℕ, ◌≡◌, Bool, true, false, cond, inl, inr, List, Option, Result, Ok, Err, refl, sym, ap, subst, ◌∙◌}
-use Rattle.definitions.specs.Cards.{Card}
-use Rattle.definitions.specs.DeckInput.{Deck}
-use Rattle.deck_files.specs.declared.deck_shelf.ShelfLoadFault.{ShelfLoadFault}
-use Rattle.deck_files.specs.ShelfRelations.{ShelfRelations}
-use Rattle.desk_core.specs.declared.calls.Call.{Call}
-use Rattle.desk_core.specs.declared.calls.Call.TheVariants.{AddDeck, Cards, CardsAt, PutDeck, Show, Status}
-use Rattle.desk_core.specs.declared.replies.Reply.{Reply}
-use Rattle.desk_core.specs.declared.replies.Row.{Row}
-use Rattle.session_line.specs.declared.answers.Answer.{Answer}
-use Rattle.session_line.specs.declared.answers.Told.{Told}
+use Rattle.definitions.specs.{Cards.Card, DeckInput.Deck}
+use Rattle.deck_files.specs.{declared.deck_shelf.ShelfLoadFault.ShelfLoadFault, ShelfRelations.ShelfRelations}
+use Rattle.desk_core.specs.declared.{calls.Call.Call, calls.Call.TheVariants.{AddDeck, Cards, CardsAt, PutDeck, Show, Status}, replies.Reply.Reply, replies.Row.Row}
+use Rattle.session_line.specs.{declared.answers.Answer.Answer, declared.answers.Told.Told, declared.greetings.Greeting.Greeting, declared.told_decks.ToldDeck.ToldDeck, declared.tasks.Task.Task, declared.tasks.Task.TheVariants.{Ask, AwaitVersion, ShowCards, ShowCardsAt, ShowText, ShowPart, ShowErrors, ShowWords, ShowNames, ShowSymbols, LoadDeck, LoadAll, ReloadDeck, SaveDeck, SaveAll, ShowFiles, ShowFileStatus, Greet, ShowHelp, Leave, Refuse}, Answers.{WhereStatus, told_of_call, called}, Asking.Asks, Executing.{AddsLoaded, Executes}, Reloading.{PutsBy, PutsLoaded, version_told}, Rights.{allowed, changes}, Joins.Kinds.is_session_call, Taking.IsTaskFor, Tasks.{task_by, task_of, task_of_command, batch_named, batch_call, put_named, edit_call, edits_of, cards_of}, declared.rights.Rights.Rights, declared.rights.Rights.TheVariants.{Edits, Reads}, Refusing.{is_refusal, tells_refusal, RefusesCommand}, Serving.Sides, DeckCuts.decks_in, LoadingAll.{TellsAdds, added_all, not_added, no_memory, AddsTold, AddsCut, AddsFile, cut, uncut, AddsLoadedDecks}, SavingAll.{SavesRow, SavesRows, is_saved, unsaved, no_row, next_row, TellsSaves, told_all, lacking, SavesAllTold}, DeskRelations.DeskRelations}
 use Rattle.session_line.specs.declared.answers.Told.TheVariants as told
-use Rattle.session_line.specs.declared.greetings.Greeting.{Greeting}
-use Rattle.session_commands.specs.declared.refusals.Refusal.{Refusal}
-use Rattle.session_line.specs.declared.told_decks.ToldDeck.{ToldDeck}
-use Rattle.session_line.specs.declared.tasks.Task.{Task}
-use Rattle.session_line.specs.declared.tasks.Task.TheVariants.{Ask, AwaitVersion, ShowCards, ShowCardsAt, ShowText, ShowPart, ShowErrors, ShowWords, ShowNames, ShowSymbols, LoadDeck, LoadAll, ReloadDeck, SaveDeck, SaveAll, ShowFiles, ShowFileStatus, Greet, ShowHelp, Leave, Refuse}
-use Rattle.session_line.specs.Answers.{WhereStatus, told_of_call, called}
-use Rattle.session_line.specs.Asking.{Asks}
-use Rattle.session_line.specs.Executing.{AddsLoaded, Executes}
-use Rattle.session_line.specs.Reloading.{PutsBy, PutsLoaded, version_told}
-use Rattle.session_line.specs.Rights.{allowed, changes}
-use Rattle.session_line.specs.Joins.Kinds.{is_session_call}
-use Rattle.session_line.specs.Taking.{IsTaskFor}
-use Rattle.session_line.specs.Tasks.{task_by, task_of, task_of_command, batch_named, batch_call, put_named, edit_call, edits_of, cards_of}
-use Rattle.session_commands.specs.Commands.{command_of}
-use Rattle.session_commands.specs.declared.commands.Command.{Command}
+use Rattle.session_commands.specs.{declared.refusals.Refusal.Refusal, Commands.command_of, declared.commands.Command.Command, declared.refusals.Refusal.TheVariants.ReadOnly, declared.words.Seen.Seen, declared.words.Seen.TheVariants.{Exactly, Since}}
 use Rattle.session_commands.specs.declared.commands.Command.TheVariants as command
-use Rattle.session_line.specs.declared.rights.Rights.{Rights}
-use Rattle.session_line.specs.declared.rights.Rights.TheVariants.{Edits, Reads}
-use Rattle.session_commands.specs.declared.refusals.Refusal.TheVariants.{ReadOnly}
-use Rattle.session_commands.specs.declared.words.Seen.{Seen}
-use Rattle.session_commands.specs.declared.words.Seen.TheVariants.{Exactly, Since}
 use Rattle.cards.specs.declared.edits.Edit.{Edit}
-use Rattle.session_line.specs.Refusing.{is_refusal, tells_refusal, RefusesCommand}
-use Rattle.session_line.specs.Serving.{Sides}
-use Rattle.session_line.specs.DeckCuts.{decks_in}
-use Rattle.session_line.specs.LoadingAll.{TellsAdds, added_all, not_added, no_memory, AddsTold, AddsCut, AddsFile, cut, uncut, AddsLoadedDecks}
-use Rattle.session_line.specs.SavingAll.{SavesRow, SavesRows, is_saved, unsaved, no_row, next_row, TellsSaves, told_all, lacking, SavesAllTold}
-use Rattle.session_line.specs.DeskRelations.{DeskRelations}
 
 -- a question of a session
 abbrev pub is_question : Call → Bool

@@ -1,13 +1,8 @@
 -- The decks of a status one by one: whether the file of each has its cards, and what becomes of it.
-use Rattle.std.proofs.Common.{ℕ, ◌≡◌, ◌+◌, ◌<◌, ◌≤◌, Bool, List, [], ◌∷◌, ◌++◌, Option, Some, None, option_to_list, length, length-append, arith, take, get_or, sym, ap, subst, ◌∙◌}
-use Rattle.std.proofs.lemmas.List.{take_more}
-use Rattle.desk_core.specs.declared.replies.Row.{Row}
-use Rattle.session_line.specs.declared.marked_rows.MarkedRow.{MarkedRow}
-use Rattle.session_line.specs.FileStatus.{MarksRows, marked, no_row, next_row}
+use Rattle.std.proofs.{Common.{ℕ, ◌≡◌, ◌+◌, ◌<◌, ◌≤◌, Bool, List, [], ◌∷◌, ◌++◌, Option, Some, None, option_to_list, length, length-append, arith, take, get_or, sym, ap, subst, ◌∙◌}, lemmas.List.take_more}
+use Rattle.desk_core.specs.declared.{replies.Row.Row, calls.Call.Call, replies.Reply.Reply}
+use Rattle.session_line.specs.{declared.marked_rows.MarkedRow.MarkedRow, FileStatus.{MarksRows, marked, no_row, next_row}, declared.told_decks.ToldDeck.ToldDeck}
 use Rattle.deck_files.specs.ShelfRelations.{ShelfRelations}
-use Rattle.desk_core.specs.declared.calls.Call.{Call}
-use Rattle.desk_core.specs.declared.replies.Reply.{Reply}
-use Rattle.session_line.specs.declared.told_decks.ToldDeck.{ToldDeck}
 use Rattle.session_line.specs.SavingAll.{SavesRow, SavesRows, no_row as nothing_saved, next_row as row_saved}
 
 -- the first decks, with one more

@@ -1,7 +1,5 @@
 -- A text that goes out piece by piece: what is gone, and what is left of it.
-use Rattle.std.proofs.Common.{ℕ, ◌≡◌, ◌+◌, List, [], ◌++◌, Option, length, refl, sym, ap, subst, ◌∙◌, append-nil, append_assoc, length-append}
-use Rattle.std.specs.Io.KnownBytes.{Appends}
-use Rattle.std.proofs.KnownBytes.{Appends-nil, Appends-trans}
+use Rattle.std.{proofs.Common.{ℕ, ◌≡◌, ◌+◌, List, [], ◌++◌, Option, length, refl, sym, ap, subst, ◌∙◌, append-nil, append_assoc, length-append}, specs.Io.KnownBytes.Appends, proofs.KnownBytes.{Appends-nil, Appends-trans}}
 use Rattle.text_ports.proofs.SendSteps.{IsPart, part-first, part-second}
 
 -- so many bytes are gone; they and the rest are all

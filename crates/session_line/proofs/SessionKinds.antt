@@ -1,23 +1,8 @@
 -- The replies of a desk to the calls of sessions, call by call.
 use Rattle.std.proofs.Common.{ℕ, List, [], ◌∷◌, ◌≡◌, true, Result, Ok, Err, Option, None, Some, inl, inr, refl, ap, ◌∙◌}
-use Rattle.desk_core.specs.Desks.{Desk, DeskDeck, Publication, deck_named}
-use Rattle.desk_core.specs.Answers.{Answer, answers, unless}
-use Rattle.desk_core.specs.Changing.{accepted, against_add, against_put, against_drop, against_edit, against_batch}
-use Rattle.desk_core.specs.Reading.{cards_reply, show_reply}
-use Rattle.desk_core.specs.declared.past.KeptEdit.{KeptEdit}
-use Rattle.desk_core.specs.Past.{backs_of}
-use Rattle.desk_core.specs.Carrying.{carried_since, accept_carried, edit_since_of, batch_since_of}
-use Rattle.desk_core.specs.Undoing.{backs_at, against_change, undo_where}
+use Rattle.desk_core.specs.{Desks.{Desk, DeskDeck, Publication, deck_named}, Answers.{Answer, answers, unless}, Changing.{accepted, against_add, against_put, against_drop, against_edit, against_batch}, Reading.{cards_reply, show_reply}, declared.past.KeptEdit.KeptEdit, Past.backs_of, Carrying.{carried_since, accept_carried, edit_since_of, batch_since_of}, Undoing.{backs_at, against_change, undo_where}, Earlier.{against_since, edits_behind, changes_of, cards_at_of}, Joins.Edits.Edit, Joins.Language.Card, Steps.{Steps, answer}, declared.calls.Call.Call, declared.replies.Reply.Reply, declared.replies.Reply.TheVariants.{ChangesAre, CardsBefore, Refused}, declared.replies.Refusal.Refusal}
 use Rattle.cards.specs.declared.carrying.Touched.{Touched}
-use Rattle.desk_core.specs.Earlier.{against_since, edits_behind, changes_of, cards_at_of}
-use Rattle.desk_core.specs.Joins.Edits.{Edit}
-use Rattle.desk_core.specs.Joins.Language.{Card}
-use Rattle.desk_core.specs.Steps.{Steps, answer}
-use Rattle.desk_core.specs.declared.calls.Call.{Call}
 use Rattle.desk_core.specs.declared.calls.Call.TheVariants as call
-use Rattle.desk_core.specs.declared.replies.Reply.{Reply}
-use Rattle.desk_core.specs.declared.replies.Reply.TheVariants.{ChangesAre, CardsBefore, Refused}
-use Rattle.desk_core.specs.declared.replies.Refusal.{Refusal}
 use Rattle.session_line.specs.Joins.Kinds.{is_session_call, is_change, is_carried, is_changes, is_cards, is_cards_before, is_publication, fits_call}
 
 -- a change is accepted or refused

@@ -1,21 +1,10 @@
 -- The steps of reading a command: lines, the items that they show, and where the reader breaks off.
-use Rattle.std.proofs.Common.{ℕ, suc, ◌≡◌, ◌+◌, ◌<◌, List, [], ◌∷◌, ◌++◌, Option, Result, Ok, Err, length, map, refl, sym, ap, subst, ◌∙◌, arith, append_assoc, length-append}
-use Rattle.std.specs.Prelude.{IfErr, IfOk}
-use Rattle.std.proofs.lemmas.List.{map-append}
-use Rattle.std.proofs.KnownBytes.{Consumes-nil, Consumes-trans}
+use Rattle.std.{proofs.Common.{ℕ, suc, ◌≡◌, ◌+◌, ◌<◌, List, [], ◌∷◌, ◌++◌, Option, Result, Ok, Err, length, map, refl, sym, ap, subst, ◌∙◌, arith, append_assoc, length-append}, specs.Prelude.{IfErr, IfOk}, proofs.lemmas.List.map-append, proofs.KnownBytes.{Consumes-nil, Consumes-trans}}
 use Rattle.definitions.specs.InputLines.{InputLine, Line, lines_of}
-use Rattle.text_ports.specs.Lines.{ReadsLine}
+use Rattle.text_ports.{specs.Lines.ReadsLine, proofs.LineLaws.lines_of-taken}
 use Rattle.text_ports.specs.declared.lines.LineIs.TheVariants as is
-use Rattle.text_ports.proofs.LineLaws.{lines_of-taken}
-use Rattle.session_commands.specs.Commands.{command_of}
-use Rattle.session_commands.specs.declared.commands.Command.{Command}
-use Rattle.session_commands.specs.declared.refusals.Refusal.{Refusal}
-use Rattle.session_line.specs.declared.line_items.ItemsRead.{ItemsRead}
-use Rattle.session_line.specs.declared.reading.Stop.{Stop}
-use Rattle.session_line.specs.declared.tasks.Task.{Task}
-use Rattle.session_line.specs.Tasks.{item_in_front, items_from, lines_due, task_by}
-use Rattle.session_line.specs.Taking.{TakesLines, BreaksOff, Stops, StopsWithin, IsTaskFor, TakesBehind, TakesTask}
-use Rattle.session_line.specs.Joins.LineItems.{IsRead, item_behind, TakesItems}
+use Rattle.session_commands.specs.{Commands.command_of, declared.commands.Command.Command, declared.refusals.Refusal.Refusal}
+use Rattle.session_line.specs.{declared.line_items.ItemsRead.ItemsRead, declared.reading.Stop.Stop, declared.tasks.Task.Task, Tasks.{item_in_front, items_from, lines_due, task_by}, Taking.{TakesLines, BreaksOff, Stops, StopsWithin, IsTaskFor, TakesBehind, TakesTask}, Joins.LineItems.{IsRead, item_behind, TakesItems}}
 
 -- nothing is taken
 pub TakesLines-none : (a : Option (List ℕ)) → TakesLines a a []

@@ -1,6 +1,5 @@
 -- Worked replies, computed.
-use Rattle.std.proofs.Common.{◌≡◌, true, false, [], ◌∷◌, None, Some, codes, refl}
-use Rattle.std.specs.Fmt.{digits}
+use Rattle.std.{proofs.Common.{◌≡◌, true, false, [], ◌∷◌, None, Some, codes, refl}, specs.Fmt.digits}
 use Rattle.cards.specs.declared.card.CardFault.TheVariants as card
 use Rattle.cards.specs.declared.edits.EditFault.TheVariants as fault
 use Rattle.session_commands.specs.declared.refusals.Refusal.TheVariants as refusal
@@ -8,12 +7,7 @@ use Rattle.session_line.specs.declared.told_decks.DeckOutcome.TheVariants as out
 use Rattle.session_line.specs.declared.replies.Reply.TheVariants as reply
 use Rattle.desk_core.specs.declared.replies.State.TheVariants.{Behind, Ready}
 use Rattle.session_commands.specs.UnknownWords.{told_word}
-use Rattle.session_line.specs.PublishedTexts.{line_count}
-use Rattle.session_line.specs.Replies.{text_of_reply, marked_text, status_text, told_deck_text, published_text, counted_text, numbers_text}
-use Rattle.session_line.specs.FileLines.{file_line}
-use Rattle.session_line.specs.declared.rights.Rights.TheVariants.{Edits, Reads}
-use Rattle.session_line.specs.Greetings.{connected_text, service_text}
-use Rattle.session_line.specs.Views.{numbers_from}
+use Rattle.session_line.specs.{PublishedTexts.line_count, Replies.{text_of_reply, marked_text, status_text, told_deck_text, published_text, counted_text, numbers_text}, FileLines.file_line, declared.rights.Rights.TheVariants.{Edits, Reads}, Greetings.{connected_text, service_text}, Views.numbers_from}
 
 -- a version; names with their numbers
 pub done : text_of_reply (reply.Done 12) ≡ codes "OK 12\n"

@@ -1,6 +1,5 @@
 -- Worked commands with the lines that belong to them, and worked texts, computed.
-use Rattle.std.proofs.Common.{ℕ, ◌≡◌, true, false, List, [], ◌∷◌, ◌++◌, None, Some, Ok, Err, codes, refl}
-use Rattle.std.specs.Fmt.{digits}
+use Rattle.std.{proofs.Common.{ℕ, ◌≡◌, true, false, List, [], ◌∷◌, ◌++◌, None, Some, Ok, Err, codes, refl}, specs.Fmt.digits}
 use Rattle.cards.specs.declared.card.CardFault.TheVariants as card
 use Rattle.cards.specs.declared.edits.Edit.TheVariants.{Insert, Replace, Remove}
 use Rattle.cards.specs.declared.edits.EditFault.TheVariants as fault
@@ -9,25 +8,11 @@ use Rattle.desk_core.specs.declared.replies.Reply.TheVariants as reply
 use Rattle.desk_core.specs.declared.replies.State.TheVariants.{Behind}
 use Rattle.desk_core.specs.declared.replies.Refusal.TheVariants as desk
 use Rattle.deck_files.specs.declared.deck_shelf.SaveOver.TheVariants.{Known}
-use Rattle.session_commands.specs.declared.refusals.Refusal.TheVariants.{BadCommand, UnknownCommand, BadName, BadCard, BadLine, FileExists, NameTaken, ReadOnly}
-use Rattle.definitions.specs.Cards.{Card}
-use Rattle.definitions.specs.DeckInput.{Deck}
-use Rattle.session_commands.specs.UnknownWords.{told_word}
-use Rattle.session_commands.specs.Commands.{command_of}
-use Rattle.session_commands.specs.declared.views.ErrorsView.TheVariants.{Every, Of}
-use Rattle.session_commands.specs.declared.views.CardsView.TheVariants.{All, From, With}
+use Rattle.session_commands.specs.{declared.refusals.Refusal.TheVariants.{BadCommand, UnknownCommand, BadName, BadCard, BadLine, FileExists, NameTaken, ReadOnly}, UnknownWords.told_word, Commands.command_of, declared.views.ErrorsView.TheVariants.{Every, Of}, declared.views.CardsView.TheVariants.{All, From, With}}
+use Rattle.definitions.specs.{Cards.Card, DeckInput.Deck}
 use Rattle.session_line.specs.declared.published_texts.DeckText.TheVariants as part
-use Rattle.session_line.specs.declared.published_texts.PublishedText.TheVariants.{Image, Listing, Map}
-use Rattle.session_line.specs.declared.tasks.Task.TheVariants.{Ask, AwaitVersion, ShowCards, ShowCardsAt, ShowText, ShowPart, ShowErrors, ShowWords, LoadDeck, LoadAll, ReloadDeck, SaveDeck, SaveAll, ShowFiles, ShowFileStatus, Greet, ShowHelp, Leave, Refuse}
-use Rattle.session_line.specs.Tasks.{lines_due, nobody, task_of}
-use Rattle.session_line.specs.Answers.{told_of_call, told_of_wait, told_of_greeting, told_of_cards, told_of_cards_at, told_of_publication, told_of_part, told_of_errors, told_text}
-use Rattle.session_line.specs.FileStatus.{marked}
-use Rattle.session_line.specs.ToldDecks.{told_deck}
-use Rattle.session_line.specs.DeckCuts.{decks_in}
+use Rattle.session_line.specs.{declared.published_texts.PublishedText.TheVariants.{Image, Listing, Map}, declared.tasks.Task.TheVariants.{Ask, AwaitVersion, ShowCards, ShowCardsAt, ShowText, ShowPart, ShowErrors, ShowWords, LoadDeck, LoadAll, ReloadDeck, SaveDeck, SaveAll, ShowFiles, ShowFileStatus, Greet, ShowHelp, Leave, Refuse}, Tasks.{lines_due, nobody, task_of}, Answers.{told_of_call, told_of_wait, told_of_greeting, told_of_cards, told_of_cards_at, told_of_publication, told_of_part, told_of_errors, told_text}, FileStatus.marked, ToldDecks.told_deck, DeckCuts.decks_in, Greetings.met, Rights.allowed, declared.rights.Rights.TheVariants.{Edits, Reads}}
 use Rattle.session_line.specs.declared.answers.Told.TheVariants as told
-use Rattle.session_line.specs.Greetings.{met}
-use Rattle.session_line.specs.Rights.{allowed}
-use Rattle.session_line.specs.declared.rights.Rights.TheVariants.{Edits, Reads}
 
 -- which call of the desk a line is
 pub add : task_of (codes "ADD M") [] ≡ Ask (call.AddDeck (record { name = codes "M"; cards = [] }))

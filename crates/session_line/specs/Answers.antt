@@ -1,40 +1,14 @@
 -- What a command is answered, and the text of that (ours).
 use Rattle.std.specs.Prelude.{ℕ, ◌≡◌, ◌+◌, ◌≤◌, ◌⊎◌, ⊤, IsTrue, Bool, true, false, nat_le, List, [], ◌++◌, Option, Some, None, Result, Ok, Err, length, codes, if◌then◌else◌}
-use Rattle.definitions.specs.Cards.{Card}
-use Rattle.definitions.specs.DeckInput.{Deck}
+use Rattle.definitions.specs.{Cards.Card, DeckInput.Deck}
 use Rattle.deck_linker.specs.Publishing.{map_of}
-use Rattle.desk_core.specs.Desks.{Publication}
-use Rattle.desk_core.specs.declared.replies.Reply.{Reply}
-use Rattle.desk_core.specs.declared.replies.Row.{Row}
-use Rattle.desk_core.specs.declared.replies.Reply.TheVariants.{Changed, Carried, Unkept, CardsAre, ChangesAre, CardsBefore, StatusIs, Refused}
-use Rattle.deck_files.specs.DeckFiles.{file_of}
-use Rattle.deck_files.specs.FileRows.{most_files}
-use Rattle.session_commands.specs.declared.refusals.Refusal.{Refusal}
+use Rattle.desk_core.specs.{Desks.Publication, declared.replies.Reply.Reply, declared.replies.Row.Row, declared.replies.Reply.TheVariants.{Changed, Carried, Unkept, CardsAre, ChangesAre, CardsBefore, StatusIs, Refused}}
+use Rattle.deck_files.specs.{DeckFiles.file_of, FileRows.most_files}
+use Rattle.session_commands.specs.{declared.refusals.Refusal.Refusal, Refusals.refusal_text, declared.views.CardsView.CardsView, declared.views.CardsView.TheVariants.{All, From, With}, declared.views.ErrorsView.ErrorsView}
 use Rattle.session_commands.specs.declared.refusals.Refusal.TheVariants as refusal
-use Rattle.session_commands.specs.Refusals.{refusal_text}
-use Rattle.session_line.specs.Replies.{line_of, ok_text, unkept_text, counted_text, published_text, rows_text, marks_text, told_decks_text, sessions_text, numbers_text, text_of_lines}
-use Rattle.session_line.specs.FileLines.{files_text}
-use Rattle.session_line.specs.Reasons.{desk_reason}
-use Rattle.session_line.specs.Replied.{shown_in, status_in}
-use Rattle.session_line.specs.declared.replied.Status.{Status}
-use Rattle.session_line.specs.Greetings.{service_text}
-use Rattle.session_line.specs.Help.{help_text}
-use Rattle.session_line.specs.declared.greetings.Connected.{Connected}
-use Rattle.session_line.specs.declared.greetings.Greeting.{Greeting}
-use Rattle.session_commands.specs.declared.views.CardsView.{CardsView}
-use Rattle.session_commands.specs.declared.views.CardsView.TheVariants.{All, From, With}
-use Rattle.session_line.specs.Views.{cards_from, numbers_of}
-use Rattle.session_line.specs.ChangeLines.{change_lines}
-use Rattle.cards.specs.declared.edits.Edit.{Edit}
-use Rattle.cards.specs.Edits.{first_fault, edited_by}
-use Rattle.session_commands.specs.declared.views.ErrorsView.{ErrorsView}
-use Rattle.session_line.specs.Errors.{error_lines, shows_any}
-use Rattle.session_line.specs.PublishedTexts.{line_count, shown_part, shown_text}
-use Rattle.session_line.specs.declared.published_texts.DeckText.{DeckText}
-use Rattle.session_line.specs.declared.published_texts.PublishedText.{PublishedText}
-use Rattle.session_line.specs.declared.answers.Told.{Told}
+use Rattle.session_line.specs.{Replies.{line_of, ok_text, unkept_text, counted_text, published_text, rows_text, marks_text, told_decks_text, sessions_text, numbers_text, text_of_lines}, FileLines.files_text, Reasons.desk_reason, Replied.{shown_in, status_in}, declared.replied.Status.Status, Greetings.service_text, Help.help_text, declared.greetings.Connected.Connected, declared.greetings.Greeting.Greeting, Views.{cards_from, numbers_of}, ChangeLines.change_lines, Errors.{error_lines, shows_any}, PublishedTexts.{line_count, shown_part, shown_text}, declared.published_texts.DeckText.DeckText, declared.published_texts.PublishedText.PublishedText, declared.answers.Told.Told, declared.answers.Answer.Answer}
+use Rattle.cards.specs.{declared.edits.Edit.Edit, Edits.{first_fault, edited_by}}
 use Rattle.session_line.specs.declared.answers.Told.TheVariants as told
-use Rattle.session_line.specs.declared.answers.Answer.{Answer}
 
 -- how many cards a deck has at most
 abbrev pub most_cards : ℕ

@@ -1,14 +1,10 @@
 -- What several commands do of the desk and the shelf (ours): one call with what is shown of its reply, one load, and the version that the shelf notes.
 use Rattle.std.specs.Prelude.{ℕ, ◌≡◌, List, Result, Ok, Err}
 use Rattle.definitions.specs.Cards.{Card}
-use Rattle.deck_files.specs.declared.deck_shelf.ShelfLoadFault.{ShelfLoadFault}
-use Rattle.deck_files.specs.ShelfRelations.{ShelfRelations}
-use Rattle.desk_core.specs.declared.calls.Call.{Call}
-use Rattle.desk_core.specs.declared.replies.Reply.{Reply}
-use Rattle.session_line.specs.declared.answers.Told.{Told}
+use Rattle.deck_files.specs.{declared.deck_shelf.ShelfLoadFault.ShelfLoadFault, ShelfRelations.ShelfRelations}
+use Rattle.desk_core.specs.declared.{calls.Call.Call, replies.Reply.Reply}
+use Rattle.session_line.specs.{declared.answers.Told.Told, declared.answers.Answer.Answer, Answers.called}
 use Rattle.session_line.specs.declared.answers.Told.TheVariants as told
-use Rattle.session_line.specs.declared.answers.Answer.{Answer}
-use Rattle.session_line.specs.Answers.{called}
 
 module _ {C : Type 0} (makes : C → Call → Reply → C → Type 0) where
   -- one call of the desk, and what is shown of its reply

@@ -1,7 +1,6 @@
 -- The decks of a file's cards (ours): they are cut as those of an input are.
 use Rattle.std.specs.Prelude.{List, Result, Ok, Err, reverse}
-use Rattle.definitions.specs.Cards.{Card}
-use Rattle.definitions.specs.DeckInput.{Deck, Input, Decks, Faulty, InputFault, BadLineTooWide, BadLineBadCharacter, LastLineCut, BadName, NameTaken, TooManyDecks, DeckFull, in_input_order}
+use Rattle.definitions.specs.{Cards.Card, DeckInput.{Deck, Input, Decks, Faulty, InputFault, BadLineTooWide, BadLineBadCharacter, LastLineCut, BadName, NameTaken, TooManyDecks, DeckFull, in_input_order}}
 use Rattle.cards.specs.declared.card.CardFault.TheVariants as card
 use Rattle.deck_cuts.specs.Cuts.{input_of_cards}
 use Rattle.session_commands.specs.declared.refusals.Refusal.{Refusal}

@@ -1,14 +1,8 @@
 -- What the calls of whoever answers for a desk make of it (ours): each relation has who answers before, what is asked, what is answered, and who answers after.
 use Rattle.std.specs.Prelude.{ℕ, ◌≡◌, List}
-use Rattle.turn_office.specs.Histories.{Answers}
-use Rattle.turn_office.specs.Seats.{OfficeFacts, SeatFacts}
-use Rattle.desk_core.specs.Desks.{Desk}
-use Rattle.desk_core.specs.Steps.{Steps}
-use Rattle.desk_core.specs.declared.calls.Call.{Call}
-use Rattle.desk_core.specs.declared.calls.Call.TheVariants.{Status}
-use Rattle.desk_core.specs.declared.replies.Reply.{Reply}
-use Rattle.session_line.specs.declared.greetings.Greeting.{Greeting}
-use Rattle.session_line.specs.Greetings.{MeetsAlone}
+use Rattle.turn_office.specs.{Histories.Answers, Seats.{OfficeFacts, SeatFacts}}
+use Rattle.desk_core.specs.{Desks.Desk, Steps.Steps, declared.calls.Call.Call, declared.calls.Call.TheVariants.Status, declared.replies.Reply.Reply}
+use Rattle.session_line.specs.{declared.greetings.Greeting.Greeting, Greetings.MeetsAlone}
 
 pub record DeskRelations (C : Type 0) : Type 1 where
   -- one call, and the reply

@@ -1,15 +1,8 @@
 -- What ERRORS shows of a publication: the flagged statements of its decks, with those behind END that begin another deck, and the LINK lines of its map (ours).
 use Rattle.std.specs.Prelude.{ℕ, ◌+◌, ◌==◌, Bool, true, false, ◌&&◌, ◌||◌, is_none, Option, None, Some, List, [], ◌∷◌, ◌++◌, codes, decimal, drop, filter, flat_map, map, reverse, if◌then◌else◌}
-use Rattle.definitions.specs.Characters.{line_feed, same_text}
-use Rattle.definitions.specs.Cards.{Card}
-use Rattle.definitions.specs.DeckInput.{Deck}
-use Rattle.definitions.specs.Fields.{unbroken_front}
-use Rattle.definitions.specs.Objects.{Shown, object_of}
+use Rattle.definitions.specs.{Characters.{line_feed, same_text}, Cards.Card, DeckInput.Deck, Fields.unbroken_front, Objects.{Shown, object_of}}
 use Rattle.deck_cuts.specs.Cuts.{begins_deck}
-use Rattle.session_commands.specs.Sought.{begins_with}
-use Rattle.session_commands.specs.Words.{from_blank, behind_word}
-use Rattle.session_commands.specs.declared.views.ErrorsView.{ErrorsView}
-use Rattle.session_commands.specs.declared.views.ErrorsView.TheVariants.{Every, Of}
+use Rattle.session_commands.specs.{Sought.begins_with, Words.{from_blank, behind_word}, declared.views.ErrorsView.ErrorsView, declared.views.ErrorsView.TheVariants.{Every, Of}}
 
 -- what is shown of a statement: it is flagged, with the number of its first card in the deck, its letters, and that card; or it stands behind END and begins another deck, with the number of its first card, and that card
 pub data Flag : Type 0 where

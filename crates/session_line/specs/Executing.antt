@@ -1,28 +1,10 @@
 -- What one command makes of the desk and the shelf, and its answer (ours). The relations are those that the desk and the shelf name for one call.
 use Rattle.std.specs.Prelude.{ℕ, ◌≡◌, List, Result, Ok, Err}
 use Rattle.definitions.specs.Cards.{Card}
-use Rattle.deck_files.specs.declared.deck_shelf.ShelfLoadFault.{ShelfLoadFault}
-use Rattle.deck_files.specs.ShelfRelations.{ShelfRelations}
-use Rattle.desk_core.specs.declared.calls.Call.{Call}
-use Rattle.desk_core.specs.declared.replies.Reply.{Reply}
-use Rattle.desk_core.specs.declared.calls.Call.TheVariants.{AddDeck, Cards, CardsAt, Show, Status}
-use Rattle.session_line.specs.declared.tasks.Task.{Task}
-use Rattle.session_line.specs.declared.tasks.Task.TheVariants.{Ask, AwaitVersion, ShowCards, ShowCardsAt, ShowText, ShowPart, ShowErrors, ShowWords, ShowNames, ShowSymbols, LoadDeck, LoadAll, ReloadDeck, SaveDeck, SaveAll, ShowFiles, ShowFileStatus, Greet, ShowHelp, Leave, Refuse}
-use Rattle.session_line.specs.declared.answers.Told.{Told}
+use Rattle.deck_files.specs.{declared.deck_shelf.ShelfLoadFault.ShelfLoadFault, ShelfRelations.ShelfRelations}
+use Rattle.desk_core.specs.declared.{calls.Call.Call, replies.Reply.Reply, calls.Call.TheVariants.{AddDeck, Cards, CardsAt, Show, Status}}
+use Rattle.session_line.specs.{declared.tasks.Task.Task, declared.tasks.Task.TheVariants.{Ask, AwaitVersion, ShowCards, ShowCardsAt, ShowText, ShowPart, ShowErrors, ShowWords, ShowNames, ShowSymbols, LoadDeck, LoadAll, ReloadDeck, SaveDeck, SaveAll, ShowFiles, ShowFileStatus, Greet, ShowHelp, Leave, Refuse}, declared.answers.Told.Told, declared.answers.Answer.Answer, Reasons.load_reason, declared.greetings.Greeting.Greeting, FileTasks.ShowsFiles, Messages.{IsToldNames, IsToldSymbols, IsToldWords}, FileStatus.ShowsFileStatus, SavingDecks.SavesDeck, SavingAll.SavesAll, LoadingAll.LoadsAll, Asking.{Asks, NotesTold, ShelfLoads}, Reloading.ReloadsDeck, Answers.{told_of_call, told_of_wait, told_of_greeting, told_of_help, told_of_cards, told_of_publication, told_of_part, told_of_errors, IsToldAt, called, uncalled}, DeskRelations.DeskRelations}
 use Rattle.session_line.specs.declared.answers.Told.TheVariants as told
-use Rattle.session_line.specs.declared.answers.Answer.{Answer}
-use Rattle.session_line.specs.Reasons.{load_reason}
-use Rattle.session_line.specs.declared.greetings.Greeting.{Greeting}
-use Rattle.session_line.specs.FileTasks.{ShowsFiles}
-use Rattle.session_line.specs.Messages.{IsToldNames, IsToldSymbols, IsToldWords}
-use Rattle.session_line.specs.FileStatus.{ShowsFileStatus}
-use Rattle.session_line.specs.SavingDecks.{SavesDeck}
-use Rattle.session_line.specs.SavingAll.{SavesAll}
-use Rattle.session_line.specs.LoadingAll.{LoadsAll}
-use Rattle.session_line.specs.Asking.{Asks, NotesTold, ShelfLoads}
-use Rattle.session_line.specs.Reloading.{ReloadsDeck}
-use Rattle.session_line.specs.Answers.{told_of_call, told_of_wait, told_of_greeting, told_of_help, told_of_cards, told_of_publication, told_of_part, told_of_errors, IsToldAt, called, uncalled}
-use Rattle.session_line.specs.DeskRelations.{DeskRelations}
 
 module _ {C : Type 0} (makes : C → Call → Reply → C → Type 0) where
   -- CARDS AT: one call of the desk for the cards of now and the changes since, and what is shown of that

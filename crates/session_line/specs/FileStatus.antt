@@ -1,15 +1,9 @@
 -- STATUS FILES (ours): the desk is asked for its status, and then the shelf, deck by deck, whether its file has its cards.
 use Rattle.std.specs.Prelude.{ℕ, ◌≡◌, Bool, List, [], ◌∷◌, ◌++◌, Option}
-use Rattle.desk_core.specs.declared.calls.Call.{Call}
-use Rattle.desk_core.specs.declared.calls.Call.TheVariants.{Status}
-use Rattle.desk_core.specs.declared.replies.Reply.{Reply}
-use Rattle.desk_core.specs.declared.replies.Row.{Row}
-use Rattle.session_line.specs.declared.marked_rows.MarkedRow.{MarkedRow}
+use Rattle.desk_core.specs.declared.{calls.Call.Call, calls.Call.TheVariants.Status, replies.Reply.Reply, replies.Row.Row}
+use Rattle.session_line.specs.{declared.marked_rows.MarkedRow.MarkedRow, declared.answers.Told.Told, declared.answers.Answer.Answer, Answers.{WhereStatus, told_of_call, called}}
 use Rattle.session_commands.specs.declared.refusals.Refusal.TheVariants.{OutOfMemory}
-use Rattle.session_line.specs.declared.answers.Told.{Told}
 use Rattle.session_line.specs.declared.answers.Told.TheVariants as told
-use Rattle.session_line.specs.declared.answers.Answer.{Answer}
-use Rattle.session_line.specs.Answers.{WhereStatus, told_of_call, called}
 use Rattle.deck_files.specs.ShelfRelations.{ShelfRelations}
 
 -- the row of a deck, marked so

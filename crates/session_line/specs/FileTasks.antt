@@ -1,16 +1,9 @@
 -- FILES (ours): the desk is asked for its version, and then the shelf for its files.
 use Rattle.std.specs.Prelude.{ℕ, ◌≡◌, List, Result, Ok, Err}
-use Rattle.deck_files.specs.declared.deck_shelf.ShelfLoadFault.{ShelfLoadFault}
-use Rattle.deck_files.specs.declared.file_rows.FileRow.{FileRow}
-use Rattle.deck_files.specs.ShelfRelations.{ShelfRelations}
-use Rattle.desk_core.specs.declared.calls.Call.{Call}
-use Rattle.desk_core.specs.declared.calls.Call.TheVariants.{Status}
-use Rattle.desk_core.specs.declared.replies.Reply.{Reply}
-use Rattle.session_line.specs.declared.answers.Told.{Told}
+use Rattle.deck_files.specs.{declared.deck_shelf.ShelfLoadFault.ShelfLoadFault, declared.file_rows.FileRow.FileRow, ShelfRelations.ShelfRelations}
+use Rattle.desk_core.specs.declared.{calls.Call.Call, calls.Call.TheVariants.Status, replies.Reply.Reply}
+use Rattle.session_line.specs.{declared.answers.Told.Told, declared.answers.Answer.Answer, Reasons.load_reason, Answers.{told_of_wait, called}}
 use Rattle.session_line.specs.declared.answers.Told.TheVariants as told
-use Rattle.session_line.specs.declared.answers.Answer.{Answer}
-use Rattle.session_line.specs.Reasons.{load_reason}
-use Rattle.session_line.specs.Answers.{told_of_wait, called}
 
 -- what is shown of the files of the shelf, or why there are none
 abbrev pub told_of_files : ℕ → Result (List FileRow) ShelfLoadFault → Told

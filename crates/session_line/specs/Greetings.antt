@@ -1,13 +1,7 @@
 -- Who greets, and the lines that it is shown (ours): the service and its version, and who is connected.
 use Rattle.std.specs.Prelude.{ℕ, ◌≡◌, Bool, true, false, List, [], ◌++◌, codes, decimal}
-use Rattle.desk_core.specs.declared.calls.Call.{Call}
-use Rattle.desk_core.specs.declared.calls.Call.TheVariants.{Status}
-use Rattle.desk_core.specs.declared.replies.Reply.{Reply}
-use Rattle.desk_core.specs.declared.replies.Reply.TheVariants.{StatusIs}
-use Rattle.session_line.specs.declared.greetings.Connected.{Connected}
-use Rattle.session_line.specs.declared.greetings.Greeting.{Greeting}
-use Rattle.session_line.specs.declared.rights.Rights.{Rights}
-use Rattle.session_line.specs.declared.rights.Rights.TheVariants.{Edits, Reads}
+use Rattle.desk_core.specs.declared.{calls.Call.Call, calls.Call.TheVariants.Status, replies.Reply.Reply, replies.Reply.TheVariants.StatusIs}
+use Rattle.session_line.specs.declared.{greetings.Connected.Connected, greetings.Greeting.Greeting, rights.Rights.Rights, rights.Rights.TheVariants.{Edits, Reads}}
 
 -- the version of the program
 abbrev pub service_version : List ℕ

@@ -1,25 +1,11 @@
 -- LOADALL (ours): the shelf's file is cut into decks; then the desk is asked for its status, and where it has none of their names and room for all, each is added as ADD does, one after the other.
-use Rattle.std.specs.Prelude.{ℕ, ◌≡◌, ◌+◌, Bool, List, [], ◌∷◌, ◌++◌, Option, Some, None, Result, Ok, Err, length, nat_lt, if◌then◌else◌}
-use Rattle.std.specs.List.{list_any}
-use Rattle.definitions.specs.Cards.{Card}
-use Rattle.definitions.specs.DeckInput.{Deck, is_taken}
-use Rattle.deck_files.specs.declared.deck_shelf.ShelfLoadFault.{ShelfLoadFault}
-use Rattle.deck_files.specs.ShelfRelations.{ShelfRelations}
-use Rattle.desk_core.specs.declared.calls.Call.{Call}
-use Rattle.desk_core.specs.declared.calls.Call.TheVariants.{AddDeck, Status}
-use Rattle.desk_core.specs.declared.replies.Reply.{Reply}
-use Rattle.desk_core.specs.declared.replies.Row.{Row}
-use Rattle.session_commands.specs.declared.refusals.Refusal.{Refusal}
-use Rattle.session_commands.specs.declared.refusals.Refusal.TheVariants.{NameTaken, TooManyDecks, OutOfMemory}
-use Rattle.session_line.specs.declared.told_decks.ToldDeck.{ToldDeck}
-use Rattle.session_line.specs.declared.answers.Told.{Told}
+use Rattle.std.specs.{Prelude.{ℕ, ◌≡◌, ◌+◌, Bool, List, [], ◌∷◌, ◌++◌, Option, Some, None, Result, Ok, Err, length, nat_lt, if◌then◌else◌}, List.list_any}
+use Rattle.definitions.specs.{Cards.Card, DeckInput.{Deck, is_taken}}
+use Rattle.deck_files.specs.{declared.deck_shelf.ShelfLoadFault.ShelfLoadFault, ShelfRelations.ShelfRelations}
+use Rattle.desk_core.specs.declared.{calls.Call.Call, calls.Call.TheVariants.{AddDeck, Status}, replies.Reply.Reply, replies.Row.Row}
+use Rattle.session_commands.specs.declared.refusals.Refusal.{Refusal, TheVariants.{NameTaken, TooManyDecks, OutOfMemory}}
+use Rattle.session_line.specs.{declared.told_decks.ToldDeck.ToldDeck, declared.answers.Told.Told, declared.answers.Answer.Answer, Answers.{WhereStatus, called, most_decks, told_of_call, uncalled}, Asking.ShelfLoads, DeckCuts.decks_in, Reasons.load_reason, ToldDecks.told_deck}
 use Rattle.session_line.specs.declared.answers.Told.TheVariants as told
-use Rattle.session_line.specs.declared.answers.Answer.{Answer}
-use Rattle.session_line.specs.Answers.{WhereStatus, called, most_decks, told_of_call, uncalled}
-use Rattle.session_line.specs.Asking.{ShelfLoads}
-use Rattle.session_line.specs.DeckCuts.{decks_in}
-use Rattle.session_line.specs.Reasons.{load_reason}
-use Rattle.session_line.specs.ToldDecks.{told_deck}
 
 -- whether a desk with these decks has the name of one of others
 abbrev pub is_any_there : List Row → List Deck → Bool

@@ -1,13 +1,8 @@
 -- What is shown of a publication that no definition fixes whole (ours): what is said of the flagged statements of a deck, and symbols. Of a flagged statement there is a line for each letter. Which of the statement's cards it is about, in which column, and the words are those of `card_messages`; no definition fixes them.
 use Rattle.std.specs.Prelude.{ℕ, ◌≡◌, ◌+◌, ◌≤◌, ◌&&◌, ◌⊎◌, List, [], ◌∷◌, ◌++◌, Option, Some, None, Result, Ok, Err, codes, decimal, flat_map, map, nat_le, if◌then◌else◌}
-use Rattle.definitions.specs.Characters.{line_feed}
-use Rattle.definitions.specs.DeckInput.{Deck}
-use Rattle.desk_core.specs.Desks.{Publication}
-use Rattle.desk_core.specs.declared.replies.Reply.{Reply}
-use Rattle.session_line.specs.Errors.{Flag, Flagged, Begins, deck_named, flags_of}
-use Rattle.session_line.specs.Replied.{shown_in}
-use Rattle.session_line.specs.Replies.{line_of}
-use Rattle.session_line.specs.declared.answers.Told.{Told}
+use Rattle.definitions.specs.{Characters.line_feed, DeckInput.Deck}
+use Rattle.desk_core.specs.{Desks.Publication, declared.replies.Reply.Reply}
+use Rattle.session_line.specs.{Errors.{Flag, Flagged, Begins, deck_named, flags_of}, Replied.shown_in, Replies.line_of, declared.answers.Told.Told}
 use Rattle.session_line.specs.declared.answers.Told.TheVariants as told
 use Rattle.session_commands.specs.declared.refusals.Refusal.{Refusal}
 use Rattle.session_commands.specs.declared.refusals.Refusal.TheVariants as refusal

@@ -1,13 +1,9 @@
 -- The texts of a publication that a session is shown (ours).
 use Rattle.std.specs.Prelude.{ℕ, ◌==◌, List, Option, filter, length}
-use Rattle.definitions.specs.Build.{image_of, listing_of}
-use Rattle.definitions.specs.Characters.{line_feed}
-use Rattle.definitions.specs.DeckInput.{Deck}
+use Rattle.definitions.specs.{Build.{image_of, listing_of}, Characters.line_feed, DeckInput.Deck}
 use Rattle.deck_linker.specs.Publishing.{listing_named, map_of, section_named}
-use Rattle.session_line.specs.declared.published_texts.DeckText.{DeckText}
+use Rattle.session_line.specs.declared.published_texts.{DeckText.DeckText, PublishedText.PublishedText, PublishedText.TheVariants.{Image, Listing, Map}}
 use Rattle.session_line.specs.declared.published_texts.DeckText.TheVariants as part
-use Rattle.session_line.specs.declared.published_texts.PublishedText.{PublishedText}
-use Rattle.session_line.specs.declared.published_texts.PublishedText.TheVariants.{Image, Listing, Map}
 
 -- how many lines a text has
 abbrev pub line_count : List ℕ → ℕ

@@ -3,11 +3,9 @@ use Rattle.desk_core.specs.declared.replies.Refusal.{Refusal as DeskRefusal}
 use Rattle.desk_core.specs.declared.replies.Refusal.TheVariants as desk
 use Rattle.deck_cuts.specs.declared.cut_fault.CutFault.{CutFault}
 use Rattle.deck_cuts.specs.declared.cut_fault.CutFault.TheVariants as cut
-use Rattle.deck_files.specs.declared.load_fault.LoadFault.{LoadFault}
+use Rattle.deck_files.specs.declared.{load_fault.LoadFault.LoadFault, deck_shelf.ShelfLoadFault.ShelfLoadFault, deck_shelf.ShelfSaveFault.ShelfSaveFault}
 use Rattle.deck_files.specs.declared.load_fault.LoadFault.TheVariants as load
-use Rattle.deck_files.specs.declared.deck_shelf.ShelfLoadFault.{ShelfLoadFault}
 use Rattle.deck_files.specs.declared.deck_shelf.ShelfLoadFault.TheVariants as shelf_load
-use Rattle.deck_files.specs.declared.deck_shelf.ShelfSaveFault.{ShelfSaveFault}
 use Rattle.deck_files.specs.declared.deck_shelf.ShelfSaveFault.TheVariants as shelf_save
 use Rattle.session_commands.specs.declared.refusals.Refusal.{Refusal}
 use Rattle.session_commands.specs.declared.refusals.Refusal.TheVariants as refusal

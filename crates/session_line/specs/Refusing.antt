@@ -2,18 +2,8 @@
 use Rattle.std.specs.Prelude.{ℕ, ◌≡◌, Bool, true, false, List}
 use Rattle.deck_files.specs.ShelfRelations.{ShelfRelations}
 use Rattle.desk_core.specs.declared.replies.Reply.{Reply}
-use Rattle.session_line.specs.declared.tasks.Task.{Task}
-use Rattle.session_line.specs.declared.answers.Answer.{Answer}
-use Rattle.session_line.specs.declared.answers.Told.{Told}
+use Rattle.session_line.specs.{declared.tasks.Task.Task, declared.answers.Answer.Answer, declared.answers.Told.Told, declared.rights.Rights.Rights, Answers.told_of_call, Executing.Executes, Rights.allowed, Serving.Sides, Taking.IsTaskFor, Tasks.task_of, DeskRelations.DeskRelations}
 use Rattle.session_line.specs.declared.answers.Told.TheVariants as told
-use Rattle.session_line.specs.declared.rights.Rights.{Rights}
-use Rattle.session_line.specs.Answers.{told_of_call}
-use Rattle.session_line.specs.Executing.{Executes}
-use Rattle.session_line.specs.Rights.{allowed}
-use Rattle.session_line.specs.Serving.{Sides}
-use Rattle.session_line.specs.Taking.{IsTaskFor}
-use Rattle.session_line.specs.Tasks.{task_of}
-use Rattle.session_line.specs.DeskRelations.{DeskRelations}
 
 -- whether a refusal is shown
 abbrev pub is_refusal : Told → Bool

@@ -1,23 +1,11 @@
 -- RELOAD (ours): the shelf's file is loaded; then the desk is asked for its status, and the cards are put in the place of those of the deck of that name, by the version that it has there.
-use Rattle.std.specs.Prelude.{ℕ, ◌≡◌, List, Option, Some, None, Result, Ok, Err}
-use Rattle.std.specs.List.{find}
-use Rattle.definitions.specs.Cards.{Card}
-use Rattle.definitions.specs.Characters.{same_text}
-use Rattle.definitions.specs.DeckInput.{Deck}
-use Rattle.deck_files.specs.declared.deck_shelf.ShelfLoadFault.{ShelfLoadFault}
-use Rattle.deck_files.specs.ShelfRelations.{ShelfRelations}
-use Rattle.desk_core.specs.declared.calls.Call.{Call}
-use Rattle.desk_core.specs.declared.calls.Call.TheVariants.{PutDeck, Status}
-use Rattle.desk_core.specs.declared.replies.Reply.{Reply}
-use Rattle.desk_core.specs.declared.replies.Row.{Row}
-use Rattle.session_commands.specs.declared.refusals.Refusal.{Refusal}
-use Rattle.session_commands.specs.declared.refusals.Refusal.TheVariants.{NoDeck}
+use Rattle.std.specs.{Prelude.{ℕ, ◌≡◌, List, Option, Some, None, Result, Ok, Err}, List.find}
+use Rattle.definitions.specs.{Cards.Card, Characters.same_text, DeckInput.Deck}
+use Rattle.deck_files.specs.{declared.deck_shelf.ShelfLoadFault.ShelfLoadFault, ShelfRelations.ShelfRelations}
+use Rattle.desk_core.specs.declared.{calls.Call.Call, calls.Call.TheVariants.{PutDeck, Status}, replies.Reply.Reply, replies.Row.Row}
+use Rattle.session_commands.specs.declared.refusals.Refusal.{Refusal, TheVariants.NoDeck}
 use Rattle.session_line.specs.declared.answers.Told.TheVariants as told
-use Rattle.session_line.specs.declared.answers.Answer.{Answer}
-use Rattle.session_line.specs.Answers.{called, told_of_call, uncalled}
-use Rattle.session_line.specs.Asking.{Asks, NotesTold, ShelfLoads}
-use Rattle.session_line.specs.Reasons.{load_reason}
-use Rattle.session_line.specs.Replied.{status_in}
+use Rattle.session_line.specs.{declared.answers.Answer.Answer, Answers.{called, told_of_call, uncalled}, Asking.{Asks, NotesTold, ShelfLoads}, Reasons.load_reason, Replied.status_in}
 
 -- the version of a deck, if there is one
 abbrev pub version_of_row : Option Row → Result ℕ Refusal

@@ -1,12 +1,8 @@
 -- What the desk's reply to a question gives, or why it gives nothing (ours): the desk's reason where it refuses, and Foreign where no desk replies so.
 use Rattle.std.specs.Prelude.{Result, Ok, Err}
-use Rattle.desk_core.specs.Desks.{Publication}
-use Rattle.desk_core.specs.declared.replies.Reply.{Reply}
-use Rattle.desk_core.specs.declared.replies.Reply.TheVariants.{Shown, StatusIs, Refused}
-use Rattle.session_commands.specs.declared.refusals.Refusal.{Refusal}
-use Rattle.session_commands.specs.declared.refusals.Refusal.TheVariants.{Foreign}
-use Rattle.session_line.specs.declared.replied.Status.{Status}
-use Rattle.session_line.specs.Reasons.{desk_reason}
+use Rattle.desk_core.specs.{Desks.Publication, declared.replies.Reply.Reply, declared.replies.Reply.TheVariants.{Shown, StatusIs, Refused}}
+use Rattle.session_commands.specs.declared.refusals.Refusal.{Refusal, TheVariants.Foreign}
+use Rattle.session_line.specs.{declared.replied.Status.Status, Reasons.desk_reason}
 
 -- the publication that is shown
 abbrev pub shown_in : Reply → Result Publication Refusal

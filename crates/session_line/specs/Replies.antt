@@ -1,24 +1,10 @@
 -- The texts of replies (ours): a first line, and for some commands as many lines more as it shows.
 use Rattle.std.specs.Prelude.{ℕ, ◌+◌, ◌≤◌, ⊤, Bool, true, false, List, [], ◌∷◌, ◌++◌, Option, Some, None, length, flat_map, codes, decimal, nat_lt, if◌then◌else◌}
 use Rattle.definitions.specs.Characters.{line_feed}
-use Rattle.deck_files.specs.DeckFiles.{file_of}
-use Rattle.deck_files.specs.FileRows.{most_files}
-use Rattle.session_line.specs.PublishedTexts.{line_count, shown_text}
+use Rattle.deck_files.specs.{DeckFiles.file_of, FileRows.most_files}
+use Rattle.session_line.specs.{PublishedTexts.{line_count, shown_text}, FileLines.files_text, Greetings.{service_text, connected_text}, declared.greetings.Connected.Connected, declared.marked_rows.MarkedRow.MarkedRow, declared.told_decks.ToldDeck.ToldDeck, declared.told_decks.DeckOutcome.DeckOutcome, declared.told_decks.DeckOutcome.TheVariants.{Done, Unkept, Refused}, Errors.error_lines, Views.numbers_of, ChangeLines.change_lines, declared.replies.Reply.Reply}
 use Rattle.session_commands.specs.Refusals.{refusal_text}
-use Rattle.session_line.specs.FileLines.{files_text}
-use Rattle.session_line.specs.Greetings.{service_text, connected_text}
-use Rattle.session_line.specs.declared.greetings.Connected.{Connected}
-use Rattle.session_line.specs.declared.marked_rows.MarkedRow.{MarkedRow}
-use Rattle.session_line.specs.declared.told_decks.ToldDeck.{ToldDeck}
-use Rattle.session_line.specs.declared.told_decks.DeckOutcome.{DeckOutcome}
-use Rattle.session_line.specs.declared.told_decks.DeckOutcome.TheVariants.{Done, Unkept, Refused}
-use Rattle.session_line.specs.Errors.{error_lines}
-use Rattle.session_line.specs.Views.{numbers_of}
-use Rattle.session_line.specs.ChangeLines.{change_lines}
-use Rattle.desk_core.specs.declared.replies.Row.{Row}
-use Rattle.desk_core.specs.declared.replies.State.{State}
-use Rattle.desk_core.specs.declared.replies.State.TheVariants.{Out, Behind, Ready}
-use Rattle.session_line.specs.declared.replies.Reply.{Reply}
+use Rattle.desk_core.specs.declared.replies.{Row.Row, State.State, State.TheVariants.{Out, Behind, Ready}}
 use Rattle.session_line.specs.declared.replies.Reply.TheVariants as reply
 
 -- a text and its line feed

@@ -3,10 +3,7 @@ use Rattle.std.specs.Prelude.{Bool, true, false, if◌then◌else◌}
 use Rattle.desk_core.specs.declared.calls.Call.{Call}
 use Rattle.desk_core.specs.declared.calls.Call.TheVariants as call
 use Rattle.session_commands.specs.declared.refusals.Refusal.TheVariants.{ReadOnly}
-use Rattle.session_line.specs.declared.rights.Rights.{Rights}
-use Rattle.session_line.specs.declared.rights.Rights.TheVariants.{Edits, Reads}
-use Rattle.session_line.specs.declared.tasks.Task.{Task}
-use Rattle.session_line.specs.declared.tasks.Task.TheVariants.{Ask, LoadDeck, LoadAll, ReloadDeck, SaveDeck, SaveAll, Refuse}
+use Rattle.session_line.specs.declared.{rights.Rights.Rights, rights.Rights.TheVariants.{Edits, Reads}, tasks.Task.Task, tasks.Task.TheVariants.{Ask, LoadDeck, LoadAll, ReloadDeck, SaveDeck, SaveAll, Refuse}}
 
 -- whether a call changes decks
 abbrev pub makes_change : Call → Bool

@@ -1,19 +1,10 @@
 -- SAVEALL (ours): the desk is asked for its status, and then, deck by deck, the shelf whether its file has its cards; where it has not, the deck is saved as SAVE does.
 use Rattle.std.specs.Prelude.{ℕ, ◌≡◌, true, false, List, [], ◌∷◌, ◌++◌, Option, Some, None, option_to_list}
-use Rattle.deck_files.specs.declared.deck_shelf.SaveOver.TheVariants.{Known}
-use Rattle.deck_files.specs.ShelfRelations.{ShelfRelations}
-use Rattle.desk_core.specs.declared.calls.Call.{Call}
-use Rattle.desk_core.specs.declared.calls.Call.TheVariants.{Status}
-use Rattle.desk_core.specs.declared.replies.Reply.{Reply}
-use Rattle.desk_core.specs.declared.replies.Row.{Row}
-use Rattle.session_line.specs.declared.told_decks.ToldDeck.{ToldDeck}
+use Rattle.deck_files.specs.{declared.deck_shelf.SaveOver.TheVariants.Known, ShelfRelations.ShelfRelations}
+use Rattle.desk_core.specs.declared.{calls.Call.Call, calls.Call.TheVariants.Status, replies.Reply.Reply, replies.Row.Row}
+use Rattle.session_line.specs.{declared.told_decks.ToldDeck.ToldDeck, declared.answers.Told.Told, declared.answers.Answer.Answer, Answers.{WhereStatus, told_of_call, called}, SavingDecks.SavesDeck, ToldDecks.told_deck}
 use Rattle.session_commands.specs.declared.refusals.Refusal.TheVariants.{OutOfMemory}
-use Rattle.session_line.specs.declared.answers.Told.{Told}
 use Rattle.session_line.specs.declared.answers.Told.TheVariants as told
-use Rattle.session_line.specs.declared.answers.Answer.{Answer}
-use Rattle.session_line.specs.Answers.{WhereStatus, told_of_call, called}
-use Rattle.session_line.specs.SavingDecks.{SavesDeck}
-use Rattle.session_line.specs.ToldDecks.{told_deck}
 
 module _ {C S : Type 0} (makes : C → Call → Reply → C → Type 0) (files : ShelfRelations S) where
   -- nothing is done where the deck's file has its cards; else what SAVE does, and that is shown

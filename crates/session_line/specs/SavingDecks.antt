@@ -1,19 +1,11 @@
 -- What SAVE makes of the desk and the shelf, and its answer (ours).
 use Rattle.std.specs.Prelude.{ℕ, ◌≡◌, List}
 use Rattle.definitions.specs.Cards.{Card}
-use Rattle.deck_files.specs.declared.deck_shelf.ShelfSaveFault.{ShelfSaveFault}
-use Rattle.deck_files.specs.declared.deck_shelf.SaveOver.{SaveOver}
-use Rattle.deck_files.specs.Savings.{saving}
-use Rattle.deck_files.specs.ShelfRelations.{ShelfRelations}
-use Rattle.desk_core.specs.declared.calls.Call.{Call}
-use Rattle.desk_core.specs.declared.calls.Call.TheVariants.{Cards}
-use Rattle.desk_core.specs.declared.replies.Reply.{Reply}
+use Rattle.deck_files.specs.{declared.deck_shelf.ShelfSaveFault.ShelfSaveFault, declared.deck_shelf.SaveOver.SaveOver, Savings.saving, ShelfRelations.ShelfRelations}
+use Rattle.desk_core.specs.declared.{calls.Call.Call, calls.Call.TheVariants.Cards, replies.Reply.Reply}
 use Rattle.session_commands.specs.declared.views.CardsView.TheVariants.{All}
-use Rattle.session_line.specs.declared.answers.Told.{Told}
+use Rattle.session_line.specs.{declared.answers.Told.Told, declared.answers.Answer.Answer, Reasons.save_reason, Answers.{told_of_cards, called}}
 use Rattle.session_line.specs.declared.answers.Told.TheVariants as told
-use Rattle.session_line.specs.declared.answers.Answer.{Answer}
-use Rattle.session_line.specs.Reasons.{save_reason}
-use Rattle.session_line.specs.Answers.{told_of_cards, called}
 
 module _ {S : Type 0} (files : ShelfRelations S) where
   -- one save on the shelf of the version that the desk replied with: it is shown, or the fault

@@ -1,22 +1,9 @@
 -- One line of a session is served (ours): what its bytes in, its call of the desk with that of the shelf, and its bytes out have to do with each other.
-use Rattle.std.specs.Prelude.{ℕ, ◌≡◌, ◌<◌, ◌⊎◌, true, false, List, Option, length, take}
-use Rattle.std.specs.Io.KnownBytes.{Appends}
+use Rattle.std.specs.{Prelude.{ℕ, ◌≡◌, ◌<◌, ◌⊎◌, true, false, List, Option, length, take}, Io.KnownBytes.Appends}
 use Rattle.text_ports.specs.Faults.{count_up}
 use Rattle.deck_files.specs.ShelfRelations.{ShelfRelations}
-use Rattle.session_line.specs.declared.tasks.Task.{Task}
-use Rattle.session_line.specs.declared.reading.Stop.{Stop}
-use Rattle.session_line.specs.declared.reading.Stop.TheVariants.{InputEnded, InputFailed}
-use Rattle.session_line.specs.declared.answers.Answer.{Answer}
-use Rattle.session_line.specs.declared.serving.Outcome.{Outcome}
-use Rattle.session_line.specs.declared.serving.Outcome.TheVariants.{Served, Ended, ReadFault, WriteFault}
-use Rattle.session_line.specs.Answers.{told_text, is_bye}
+use Rattle.session_line.specs.{declared.tasks.Task.Task, declared.reading.Stop.Stop, declared.reading.Stop.TheVariants.{InputEnded, InputFailed}, declared.answers.Answer.Answer, declared.serving.Outcome.Outcome, declared.serving.Outcome.TheVariants.{Served, Ended, ReadFault, WriteFault}, Answers.{told_text, is_bye}, Tasks.lines_due, Taking.{TakesTask, TakesBehind, Stops, StopsWithin}, Executing.Executes, Rights.allowed, declared.rights.Rights.Rights, DeskRelations.DeskRelations}
 use Rattle.session_commands.specs.Commands.{command_of}
-use Rattle.session_line.specs.Tasks.{lines_due}
-use Rattle.session_line.specs.Taking.{TakesTask, TakesBehind, Stops, StopsWithin}
-use Rattle.session_line.specs.Executing.{Executes}
-use Rattle.session_line.specs.Rights.{allowed}
-use Rattle.session_line.specs.declared.rights.Rights.{Rights}
-use Rattle.session_line.specs.DeskRelations.{DeskRelations}
 
 -- what a session stands between: the bytes that its reader has left and that its writer took, where they are known; the desk and the shelf
 pub record Sides (C S : Type 0) : Type 0 where

@@ -1,19 +1,11 @@
 -- What one command takes from a session's reader: all its lines, or the beginning of them (ours).
-use Rattle.std.specs.Prelude.{ℕ, ◌≡◌, ◌⊎◌, ⊤, ◌<◌, Bool, true, false, IsTrue, List, [], ◌∷◌, ◌++◌, Option, Some, None, Result, Ok, Err, length, map}
-use Rattle.std.specs.Io.KnownBytes.{Consumes}
+use Rattle.std.specs.{Prelude.{ℕ, ◌≡◌, ◌⊎◌, ⊤, ◌<◌, Bool, true, false, IsTrue, List, [], ◌∷◌, ◌++◌, Option, Some, None, Result, Ok, Err, length, map}, Io.KnownBytes.Consumes}
 use Rattle.definitions.specs.InputLines.{Line, lines_of}
-use Rattle.text_ports.specs.Lines.{ReadsLine}
-use Rattle.text_ports.specs.Faults.{count_up}
-use Rattle.text_ports.specs.declared.lines.LineIs.{LineIs}
+use Rattle.text_ports.specs.{Lines.ReadsLine, Faults.count_up, declared.lines.LineIs.LineIs}
 use Rattle.text_ports.specs.declared.lines.LineIs.TheVariants as line
 use Rattle.desk_core.specs.declared.calls.Call.TheVariants.{Batch, BatchSince, PutDeck}
-use Rattle.session_commands.specs.Commands.{command_of}
-use Rattle.session_commands.specs.declared.refusals.Refusal.TheVariants.{OutOfMemory}
-use Rattle.session_line.specs.declared.tasks.Task.{Task}
-use Rattle.session_line.specs.declared.tasks.Task.TheVariants.{Ask, Refuse}
-use Rattle.session_line.specs.declared.reading.Stop.{Stop}
-use Rattle.session_line.specs.declared.reading.Stop.TheVariants.{InputEnded, InputFailed}
-use Rattle.session_line.specs.Tasks.{lines_due, task_of}
+use Rattle.session_commands.specs.{Commands.command_of, declared.refusals.Refusal.TheVariants.OutOfMemory}
+use Rattle.session_line.specs.{declared.tasks.Task.Task, declared.tasks.Task.TheVariants.{Ask, Refuse}, declared.reading.Stop.Stop, declared.reading.Stop.TheVariants.{InputEnded, InputFailed}, Tasks.{lines_due, task_of}}
 
 -- the reader lost exactly these whole lines, whatever follows them
 pub record TakesLines (old new : Option (List ℕ)) (lines : List (List ℕ)) : Type 0 where

@@ -1,10 +1,7 @@
 -- Decks that were to be saved, or to be added, and what became of each (ours).
 use Rattle.std.specs.Prelude.{ℕ, List}
-use Rattle.session_line.specs.declared.told_decks.DeckOutcome.{DeckOutcome}
-use Rattle.session_line.specs.declared.told_decks.DeckOutcome.TheVariants.{Done, Unkept, Refused}
-use Rattle.session_line.specs.declared.told_decks.ToldDeck.{ToldDeck}
+use Rattle.session_line.specs.declared.{told_decks.DeckOutcome.DeckOutcome, told_decks.DeckOutcome.TheVariants.{Done, Unkept, Refused}, told_decks.ToldDeck.ToldDeck, answers.Told.Told}
 use Rattle.session_commands.specs.declared.refusals.Refusal.TheVariants.{Foreign}
-use Rattle.session_line.specs.declared.answers.Told.{Told}
 use Rattle.session_line.specs.declared.answers.Told.TheVariants as told
 
 -- the outcome that is shown of a deck

@@ -1,11 +1,6 @@
 -- The fields of a VFD, one after the other.
-use Rattle.std.proofs.Common.{◌≡◌, ◌∙◌, ℕ, ◌+◌, ◌%◌, ◌-◌, List, [], ◌∷◌, ◌++◌, map, ap, sym, arith, append_assoc}
-use Rattle.std.proofs.Math.Nat.{mod-add-mod}
-use Rattle.definitions.specs.Kinds.{word_bits}
-use Rattle.definitions.specs.Operands.{BitField}
-use Rattle.definitions.specs.Settled.{Settled}
-use Rattle.definitions.specs.Sizes.{bits_of}
-use Rattle.definitions.specs.StatementItems.{Item, Context, known, vfd_value, zeros_to_word}
+use Rattle.std.proofs.{Common.{◌≡◌, ◌∙◌, ℕ, ◌+◌, ◌%◌, ◌-◌, List, [], ◌∷◌, ◌++◌, map, ap, sym, arith, append_assoc}, Math.Nat.mod-add-mod}
+use Rattle.definitions.specs.{Kinds.word_bits, Operands.BitField, Settled.Settled, Sizes.bits_of, StatementItems.{Item, Context, known, vfd_value, zeros_to_word}}
 
 -- these fields behind so many bits, and the zeros behind them
 abbrev pub bits_behind : Context → Settled → ℕ → List BitField → List Item

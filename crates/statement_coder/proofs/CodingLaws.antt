@@ -1,28 +1,11 @@
 -- A statement that is read again is the settled one, and sees the names of its deck.
 use Rattle.std.proofs.Common.{◌≡◌, ◌∙◌, Result, ap, ap₂, sym, subst}
-use Rattle.definitions.specs.Expressions.{Literal}
-use Rattle.definitions.specs.Fields.{fields_of}
-use Rattle.definitions.specs.Forms.{Form}
-use Rattle.definitions.specs.Literals.{literal_form}
-use Rattle.definitions.specs.Operands.{Operand, operand_of}
-use Rattle.definitions.specs.Settled.{ReadStatement, Settled, defined, read_of}
-use Rattle.definitions.specs.Settling.{View}
-use Rattle.definitions.specs.StatementItems.{Context}
-use Rattle.definitions.specs.Statements.{Statement}
-use Rattle.definitions.specs.declared.deck_kind.DeckKind.{DeckKind}
-use Rattle.definitions.specs.declared.letter.Letter.{Letter}
-use Rattle.statement_coder.specs.Joins.Items.{AreSeen}
+use Rattle.definitions.specs.{Expressions.Literal, Fields.fields_of, Forms.Form, Literals.literal_form, Operands.{Operand, operand_of}, Settled.{ReadStatement, Settled, defined, read_of}, Settling.View, StatementItems.Context, Statements.Statement, declared.deck_kind.DeckKind.DeckKind, declared.letter.Letter.Letter}
+use Rattle.statement_coder.{specs.Joins.Items.AreSeen, specs.Joins.ReadOperands.IsReadOperand, specs.Joins.Readings.{IsReading, IsWhole}, specs.Joins.Sizings.IsCodable, specs.Joins.StatementsRead.IsRead, specs.declared.readings.Reading.Reading, specs.declared.sizing.Sizing.Sizing, proofs.OperandLaws.FillsWords}
 use Rattle.operations.specs.Joins.OperationsAs.{operation_as}
-use Rattle.statement_coder.specs.Joins.ReadOperands.{IsReadOperand}
-use Rattle.statement_coder.specs.Joins.Readings.{IsReading, IsWhole}
-use Rattle.statement_coder.specs.Joins.Sizings.{IsCodable}
-use Rattle.statement_coder.specs.Joins.StatementsRead.{IsRead}
 use Rattle.statement_coder.specs.declared.read_operands.ReadOperand as operands
-use Rattle.statement_coder.specs.declared.readings.Reading.{Reading}
 use Rattle.statement_coder.specs.declared.readings.Reading.TheVariants as reading
-use Rattle.statement_coder.specs.declared.sizing.Sizing.{Sizing}
 use Rattle.statement_coder.specs.declared.statement.Statement as statements
-use Rattle.statement_coder.proofs.OperandLaws.{FillsWords}
 
 -- the names of a deck and the counters of a statement are what it sees
 pub are_seen : (symbol : View) (literal : Literal → Result Form Letter) (location origin : Form) (context : Context) (settled : Settled) →

@@ -1,23 +1,8 @@
 -- The words of a subfield of DATA or CON.
 use Rattle.std.proofs.Common.{◌≡◌, ◌∙◌, ℕ, ◌*◌, ◌/◌, ◌^◌, ◌≤◌, ◌<◌, List, [], ◌∷◌, ◌++◌, length, map, flat_map, ap, sym, arith, append_assoc, append-nil}
-use Rattle.definitions.specs.CountedItems.{CountedItem}
-use Rattle.definitions.specs.Symbols.{Number}
-use Rattle.definitions.specs.Expressions.{Sign, Expression}
-use Rattle.definitions.specs.Forms.{characters_number}
-use Rattle.definitions.specs.Coding.{counted_item_bits, words_needed}
-use Rattle.definitions.specs.Kinds.{word_bits}
-use Rattle.definitions.specs.Operands.{Datum}
-use Rattle.definitions.specs.Settled.{Settled}
-use Rattle.definitions.specs.StatementItems.{Item, Context, known, number_item, expression_item, datum_item}
-use Rattle.definitions.specs.Words.{cut}
-use Rattle.definitions.specs.declared.deck_kind.DeckKind.{DeckKind}
-use Rattle.definitions.specs.declared.deck_kind.DeckKind.TheVariants.{Rel, Abs, Periph}
-use Rattle.definitions.proofs.LiteralLaws.{characters_number-below}
-use Rattle.expr_forms.specs.Joins.CodedItems.{in_places}
-use Rattle.expr_forms.proofs.CodedLaws.{counted_item_bits-whole, length-in_places, word_bits-characters, words_needed-room}
-use Rattle.statement_coder.specs.Joins.WordItems.{known_words, in_words}
-use Rattle.statement_coder.proofs.WidthLaws.{width-number_item, width-expression_item}
-use Rattle.statement_coder.proofs.WordItemLaws.{in_words-narrow, in_words-known}
+use Rattle.definitions.{specs.CountedItems.CountedItem, specs.Symbols.Number, specs.Expressions.{Sign, Expression}, specs.Forms.characters_number, specs.Coding.{counted_item_bits, words_needed}, specs.Kinds.word_bits, specs.Operands.Datum, specs.Settled.Settled, specs.StatementItems.{Item, Context, known, number_item, expression_item, datum_item}, specs.Words.cut, specs.declared.deck_kind.DeckKind.DeckKind, specs.declared.deck_kind.DeckKind.TheVariants.{Rel, Abs, Periph}, proofs.LiteralLaws.characters_number-below}
+use Rattle.expr_forms.{specs.Joins.CodedItems.in_places, proofs.CodedLaws.{counted_item_bits-whole, length-in_places, word_bits-characters, words_needed-room}}
+use Rattle.statement_coder.{specs.Joins.WordItems.{known_words, in_words}, proofs.WidthLaws.{width-number_item, width-expression_item}, proofs.WordItemLaws.{in_words-narrow, in_words-known}}
 
 pub word_bits-some : (kind : DeckKind) → 0 < word_bits kind
 word_bits-some Rel = omega arith

@@ -1,12 +1,6 @@
 -- The letters of an EXT hang on two facts: whether one of its names is unlawful, and whether one is not new.
-use Rattle.std.proofs.Common.{◌≡◌, ℕ, List, [], ◌∷◌, ◌++◌, Bool, true, false, ◌||◌, cond, eqb, filter, Option, Some, None, refl, sym, ap, ap₂, ◌∙◌}
-use Rattle.std.specs.Prelude.{codes, is_some, if◌then◌else◌}
-use Rattle.definitions.specs.Characters.{is_among, same_text}
-use Rattle.definitions.specs.Forms.{Form}
-use Rattle.definitions.specs.Letters.{texts, in_order}
-use Rattle.definitions.specs.Settled.{Definition, defined_in}
-use Rattle.definitions.specs.Settling.{View, external, is_known, letter_where, external_letters}
-use Rattle.definitions.specs.declared.letter.Letter.{Letter}
+use Rattle.std.{proofs.Common.{◌≡◌, ℕ, List, [], ◌∷◌, ◌++◌, Bool, true, false, ◌||◌, cond, eqb, filter, Option, Some, None, refl, sym, ap, ap₂, ◌∙◌}, specs.Prelude.{codes, is_some, if◌then◌else◌}}
+use Rattle.definitions.specs.{Characters.{is_among, same_text}, Forms.Form, Letters.{texts, in_order}, Settled.{Definition, defined_in}, Settling.{View, external, is_known, letter_where, external_letters}, declared.letter.Letter.Letter}
 use Rattle.definitions.specs.declared.letter.Letter.TheVariants as letter
 use Rattle.statement_coder.specs.Joins.Externals.{has_unlawful, is_listed, has_known}
 

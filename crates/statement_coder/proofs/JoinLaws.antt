@@ -1,18 +1,8 @@
 -- Fields listed word by word have the width of the fields, and join to the same bits.
-use Rattle.std.proofs.Common.{◌≡◌, ◌∙◌, ℕ, zero, suc, ◌+◌, ◌*◌, ◌/◌, ◌%◌, ◌^◌, ◌<◌, Bool, true, false, ◌&&◌, List, [], ◌∷◌, ◌++◌, length, flat_map, refl, ap, ap₂, sym, arith, if◌then◌else◌}
-use Rattle.std.specs.Prelude.{nat_lt, nat_eq}
-use Rattle.std.proofs.lemmas.Bool.{and_parts, ltb-true, eqb-true}
-use Rattle.std.proofs.lemmas.List.{map-append}
-use Rattle.std.proofs.lemmas.Nat.{pow-add, shr_below, shr_split, div-add-mod'}
-use Rattle.definitions.specs.Kinds.{word_bits}
+use Rattle.std.{proofs.Common.{◌≡◌, ◌∙◌, ℕ, zero, suc, ◌+◌, ◌*◌, ◌/◌, ◌%◌, ◌^◌, ◌<◌, Bool, true, false, ◌&&◌, List, [], ◌∷◌, ◌++◌, length, flat_map, refl, ap, ap₂, sym, arith, if◌then◌else◌}, specs.Prelude.{nat_lt, nat_eq}, proofs.lemmas.Bool.{and_parts, ltb-true, eqb-true}, proofs.lemmas.List.map-append, proofs.lemmas.Nat.{pow-add, shr_below, shr_split, div-add-mod'}}
+use Rattle.definitions.specs.{Kinds.word_bits, Operands.{Operand, WordsOperand, TextOperand}, StatementItems.{Item, Content, Known, Linked, known}, Words.{Linking, content_bits, width_of, joined, cut}, declared.deck_kind.DeckKind.DeckKind, declared.letter.Letter.Letter}
 use Rattle.definitions.specs.Operands as operands
-use Rattle.definitions.specs.Operands.{Operand, WordsOperand, TextOperand}
-use Rattle.definitions.specs.StatementItems.{Item, Content, Known, Linked, known}
-use Rattle.definitions.specs.Words.{Linking, content_bits, width_of, joined, cut}
-use Rattle.definitions.specs.declared.deck_kind.DeckKind.{DeckKind}
-use Rattle.definitions.specs.declared.letter.Letter.{Letter}
-use Rattle.statement_coder.specs.Joins.WordItems.{is_several, known_words, words_of, in_words, listed_fields}
-use Rattle.statement_coder.proofs.ListLaws.{length-cut}
+use Rattle.statement_coder.{specs.Joins.WordItems.{is_several, known_words, words_of, in_words, listed_fields}, proofs.ListLaws.length-cut}
 
 pub width-append : (xs ys : List Item) → width_of (xs ++ ys) ≡ width_of xs + width_of ys
 width-append [] ys = omega arith

@@ -1,13 +1,6 @@
 -- What is read in DATA has no literals, and what is read in ENTRY and EXT are lawful names.
-use Rattle.std.proofs.Common.{◌≡◌, Bool, true, false, List, [], ◌∷◌, ◌++◌, Option, Some, None, refl, sym, ap, ap₂, ◌∙◌, if◌then◌else◌}
-use Rattle.std.specs.Prelude.{flat_map, map}
-use Rattle.std.specs.List.{AllByRecursion}
-use Rattle.definitions.specs.Expressions.{Literal, Sign, NoSign, PlusSign, MinusSign}
-use Rattle.definitions.specs.Literals.{datum_literals}
-use Rattle.definitions.specs.Operands.{Datum, data_word, number_word, all_words, onto_all, linked_name}
-use Rattle.definitions.specs.Pieces.{Piece, Plain, IsMark, IsCountedItem, Plus, Minus}
-use Rattle.definitions.specs.Symbols.{Number, number_read, is_linked_name}
-use Rattle.definitions.specs.declared.number_base.NumberBase.{NumberBase}
+use Rattle.std.{proofs.Common.{◌≡◌, Bool, true, false, List, [], ◌∷◌, ◌++◌, Option, Some, None, refl, sym, ap, ap₂, ◌∙◌, if◌then◌else◌}, specs.Prelude.{flat_map, map}, specs.List.AllByRecursion}
+use Rattle.definitions.specs.{Expressions.{Literal, Sign, NoSign, PlusSign, MinusSign}, Literals.datum_literals, Operands.{Datum, data_word, number_word, all_words, onto_all, linked_name}, Pieces.{Piece, Plain, IsMark, IsCountedItem, Plus, Minus}, Symbols.{Number, number_read, is_linked_name}, declared.number_base.NumberBase.NumberBase}
 use Rattle.statement_coder.specs.Joins.Readings.{IsLawfulName}
 
 -- the literals of what may be there

@@ -1,10 +1,7 @@
 -- Lists of fields: what is put behind their old end, one after the other.
-use Rattle.std.proofs.Common.{◌≡◌, ℕ, zero, suc, ◌+◌, ◌/◌, ◌%◌, ◌^◌, ◌<◌, ◌≤◌, List, [], ◌∷◌, ◌++◌, length, take, get_or, sym, ap, ◌∙◌, refl, arith, append_assoc, length-append}
-use Rattle.std.proofs.lemmas.List.{take_all, take-take, length-take, map_more}
-use Rattle.definitions.specs.StatementItems.{Item, known}
-use Rattle.definitions.specs.Words.{cut}
-use Rattle.statement_coder.specs.Joins.WordItems.{known_words}
-use Rattle.statement_coder.specs.Joins.CodedItems.{IsKept}
+use Rattle.std.proofs.{Common.{◌≡◌, ℕ, zero, suc, ◌+◌, ◌/◌, ◌%◌, ◌^◌, ◌<◌, ◌≤◌, List, [], ◌∷◌, ◌++◌, length, take, get_or, sym, ap, ◌∙◌, refl, arith, append_assoc, length-append}, lemmas.List.{take_all, take-take, length-take, map_more}}
+use Rattle.definitions.specs.{StatementItems.{Item, known}, Words.cut}
+use Rattle.statement_coder.specs.Joins.{WordItems.known_words, CodedItems.IsKept}
 use Rattle.statement_coder.specs.declared.items.Item as code
 
 -- a list keeps itself

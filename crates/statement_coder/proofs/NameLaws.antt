@@ -1,7 +1,6 @@
 -- Letters that are gathered one after the other.
 use Rattle.std.proofs.Common.{◌≡◌, ◌∙◌, ℕ, List, [], ◌++◌, Option, Some, None, refl, ap, sym, append_assoc, append-nil}
-use Rattle.definitions.specs.Letters.{in_order}
-use Rattle.definitions.specs.declared.letter.Letter.{Letter}
+use Rattle.definitions.specs.{Letters.in_order, declared.letter.Letter.Letter}
 use Rattle.statement_coder.specs.Joins.Items as fields
 use Rattle.statement_coder.specs.Joins.LettersAs as told
 

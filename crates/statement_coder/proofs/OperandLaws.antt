@@ -1,22 +1,7 @@
 -- The text of a DIS fills its words.
-use Rattle.std.proofs.Common.{◌≡◌, ℕ, ◌+◌, ◌*◌, ◌/◌, Bool, true, false, List, [], ◌∷◌, ◌++◌, Option, Some, None, length, take, drop, map, replicate, arith, length-append, if◌then◌else◌}
-use Rattle.std.specs.Prelude.{nat_le, codes, take_while, not, nat_eq}
-use Rattle.std.proofs.lemmas.List.{length-take-le, length-replicate}
-use Rattle.definitions.specs.Characters.{blank}
-use Rattle.definitions.specs.Expressions.{Expression}
-use Rattle.definitions.specs.Kinds.{word_bits}
-use Rattle.definitions.specs.Matching.{Instruction, central_of}
-use Rattle.definitions.specs.Operands.{Operand, TextOperand, UseName, UseBefore, UseRefused, BadOperand, Unread, Datum, BitField, word_characters, count_read, text_operand, dis_operand, value_operand, plain_of, one_value, words_operand, all_words, data_word, con_word, bits_operand, all_fields, vfd_field, base_operand, common_operand, is_common_name, use_operand, central_operand, one_or_two, just_one, by_form, peripheral_operand, instruction_operand, operand_of}
+use Rattle.std.{proofs.Common.{◌≡◌, ℕ, ◌+◌, ◌*◌, ◌/◌, Bool, true, false, List, [], ◌∷◌, ◌++◌, Option, Some, None, length, take, drop, map, replicate, arith, length-append, if◌then◌else◌}, specs.Prelude.{nat_le, codes, take_while, not, nat_eq}, proofs.lemmas.List.{length-take-le, length-replicate}}
+use Rattle.definitions.specs.{Characters.{blank, is_among, same_text, slash, comma}, Expressions.Expression, Kinds.{word_bits, allows_literals}, Matching.{Instruction, central_of}, Operands.{Operand, TextOperand, UseName, UseBefore, UseRefused, BadOperand, Unread, Datum, BitField, word_characters, count_read, text_operand, dis_operand, value_operand, plain_of, one_value, words_operand, all_words, data_word, con_word, bits_operand, all_fields, vfd_field, base_operand, common_operand, is_common_name, use_operand, central_operand, one_or_two, just_one, by_form, peripheral_operand, instruction_operand, operand_of}, Operations.Operation, PeripheralTable.{PeripheralForm, Ignored, Short, ShortJump, Shift, Wide, Long, PeripheralRow, peripheral_row}, Pieces.{Piece, pieces_of, subfields_of}, Symbols.{number_read, is_block_name}, declared.number_base.NumberBase.NumberBase, declared.deck_kind.DeckKind.TheVariants.{Rel, Abs, Periph}, declared.deck_kind.DeckKind.DeckKind}
 use Rattle.definitions.specs.Operations as op
-use Rattle.definitions.specs.Operations.{Operation}
-use Rattle.definitions.specs.PeripheralTable.{PeripheralForm, Ignored, Short, ShortJump, Shift, Wide, Long, PeripheralRow, peripheral_row}
-use Rattle.definitions.specs.Pieces.{Piece, pieces_of, subfields_of}
-use Rattle.definitions.specs.Kinds.{allows_literals}
-use Rattle.definitions.specs.Characters.{is_among, same_text, slash, comma}
-use Rattle.definitions.specs.Symbols.{number_read, is_block_name}
-use Rattle.definitions.specs.declared.number_base.NumberBase.{NumberBase}
-use Rattle.definitions.specs.declared.deck_kind.DeckKind.TheVariants.{Rel, Abs, Periph}
-use Rattle.definitions.specs.declared.deck_kind.DeckKind.{DeckKind}
 
 -- as many characters as the words have, if the operand is a text
 abbrev pub FillsWords : DeckKind → Operand → Type 0

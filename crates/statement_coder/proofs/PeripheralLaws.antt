@@ -1,11 +1,6 @@
 -- An operand that is not one to three lawful subfields is none of a peripheral instruction that reads it.
-use Rattle.std.proofs.Common.{◌≡◌, Bool, true, false, ◌&&◌, List, [], ◌∷◌, Option, Some, None, refl, map, if◌then◌else◌}
-use Rattle.std.specs.Prelude.{is_some}
-use Rattle.definitions.specs.Pieces.{Piece}
-use Rattle.definitions.specs.Expressions.{Expression, expression_of, is_plain}
-use Rattle.definitions.specs.PeripheralTable.{PeripheralForm, Ignored, Short, ShortJump, Shift, Wide, Long, PeripheralRow}
-use Rattle.definitions.specs.Operands.{BadOperand, plain_expression, plain_of, one_or_two, just_one, by_form, peripheral_operand}
-use Rattle.definitions.specs.declared.number_base.NumberBase.{NumberBase}
+use Rattle.std.{proofs.Common.{◌≡◌, Bool, true, false, ◌&&◌, List, [], ◌∷◌, Option, Some, None, refl, map, if◌then◌else◌}, specs.Prelude.is_some}
+use Rattle.definitions.specs.{Pieces.Piece, Expressions.{Expression, expression_of, is_plain}, PeripheralTable.{PeripheralForm, Ignored, Short, ShortJump, Shift, Wide, Long, PeripheralRow}, Operands.{BadOperand, plain_expression, plain_of, one_or_two, just_one, by_form, peripheral_operand}, declared.number_base.NumberBase.NumberBase}
 use Rattle.expr_forms.specs.Joins.Operands.{is_operand}
 use Rattle.operations.specs.Joins.PeripheralShapes.{is_ignored, is_ignoring}
 

@@ -1,18 +1,9 @@
 -- A statement that was read is that of the definitions.
 use Rattle.std.proofs.Common.{◌≡◌, ◌∙◌, ap, ap₂, sym, subst}
-use Rattle.definitions.specs.Statements.{Statement}
-use Rattle.definitions.specs.Fields.{Fields, fields_of}
-use Rattle.definitions.specs.Operations.{Operation, operation_of}
-use Rattle.definitions.specs.Operands.{operand_of}
-use Rattle.definitions.specs.Settled.{ReadStatement, read_of}
-use Rattle.definitions.specs.Settling.{View, Seen, settled_from}
-use Rattle.definitions.specs.declared.deck_kind.DeckKind.{DeckKind}
-use Rattle.definitions.specs.declared.number_base.NumberBase.{NumberBase}
+use Rattle.definitions.specs.{Statements.Statement, Fields.{Fields, fields_of}, Operations.{Operation, operation_of}, Operands.operand_of, Settled.{ReadStatement, read_of}, Settling.{View, Seen, settled_from}, declared.deck_kind.DeckKind.DeckKind, declared.number_base.NumberBase.NumberBase}
 use Rattle.operations.specs.Joins.OperationsAs.{operation_as}
-use Rattle.statement_coder.specs.Joins.Sizings.{read_as, settled_read, IsSizing}
-use Rattle.statement_coder.specs.Joins.StatementsRead.{IsRead}
+use Rattle.statement_coder.specs.{Joins.Sizings.{read_as, settled_read, IsSizing}, Joins.StatementsRead.IsRead, declared.sizing.Sizing.Sizing}
 use Rattle.statement_coder.specs.declared.statement.Statement as statements
-use Rattle.statement_coder.specs.declared.sizing.Sizing.{Sizing}
 
 -- a statement read from fields and an operation
 abbrev read_with : DeckKind → NumberBase → Statement → Fields → Operation → ReadStatement

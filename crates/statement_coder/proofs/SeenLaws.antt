@@ -1,10 +1,6 @@
 -- Names of an EXT that were seen before.
-use Rattle.std.proofs.Common.{◌≡◌, ℕ, List, [], ◌∷◌, ◌++◌, Bool, true, false, ◌||◌, Option, Some, None, refl, ap, ap₂, ◌∙◌}
-use Rattle.std.specs.Prelude.{is_some}
-use Rattle.std.proofs.lemmas.List.Folds.{list_any-append}
-use Rattle.definitions.specs.Blocks.{is_named}
-use Rattle.definitions.specs.Characters.{same_text}
-use Rattle.definitions.specs.Settling.{View}
+use Rattle.std.{proofs.Common.{◌≡◌, ℕ, List, [], ◌∷◌, ◌++◌, Bool, true, false, ◌||◌, Option, Some, None, refl, ap, ap₂, ◌∙◌}, specs.Prelude.is_some, proofs.lemmas.List.Folds.list_any-append}
+use Rattle.definitions.specs.{Blocks.is_named, Characters.same_text, Settling.View}
 use Rattle.statement_coder.specs.Joins.Externals.{has_known, is_listed}
 
 -- whether one of these names was seen before

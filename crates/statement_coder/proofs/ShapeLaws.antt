@@ -1,15 +1,8 @@
 -- The fields of an instruction of either table are those of its operand.
-use Rattle.std.proofs.Common.{◌≡◌, ℕ, ◌*◌, List, ◌∷◌, Option, Some, None, sym, ap, ap₂}
-use Rattle.std.specs.Prelude.{unwrap_or}
-use Rattle.definitions.specs.Expressions.{Expression}
+use Rattle.std.{proofs.Common.{◌≡◌, ℕ, ◌*◌, List, ◌∷◌, Option, Some, None, sym, ap, ap₂}, specs.Prelude.unwrap_or}
+use Rattle.definitions.specs.{Expressions.Expression, Matching.Instruction, PeripheralTable.{PeripheralForm, PeripheralRow}, Operands.{CentralOperand, PeripheralOperand}, Settled.Settled, StatementItems.{Item, Context, known, peripheral_items, operand_items}}
 use Rattle.definitions.specs.Matching as matching
-use Rattle.definitions.specs.Matching.{Instruction}
-use Rattle.definitions.specs.PeripheralTable.{PeripheralForm, PeripheralRow}
-use Rattle.definitions.specs.Operands.{CentralOperand, PeripheralOperand}
-use Rattle.definitions.specs.Settled.{Settled}
-use Rattle.definitions.specs.StatementItems.{Item, Context, known, peripheral_items, operand_items}
-use Rattle.expr_forms.specs.Joins.Shapes.{field_as, instruction_with, HasForm}
-use Rattle.expr_forms.specs.declared.shapes.Field.{Field}
+use Rattle.expr_forms.specs.{Joins.Shapes.{field_as, instruction_with, HasForm}, declared.shapes.Field.Field}
 use Rattle.expr_forms.specs.declared.shapes.Field.TheVariants as field
 use Rattle.statement_coder.specs.Joins.FieldItems.{items_behind}
 

@@ -1,16 +1,7 @@
 -- Items and displacements in 6 bits.
-use Rattle.std.proofs.Common.{◌≡◌, ℕ, ◌*◌, ◌^◌, ◌<◌, ◌≤◌, ◌&&◌, Bool, true, false, Option, Some, None, Result, Ok, length, refl, sym, ap, ◌∙◌, subst, arith, if◌then◌else◌}
-use Rattle.std.specs.Prelude.{unwrap_or, nat_le, ◌-ℤ◌}
-use Rattle.definitions.specs.CountedItems.{CountedItem, bits_needed}
-use Rattle.definitions.specs.Forms.{Form, is_absolute, characters_number}
-use Rattle.definitions.specs.Coding.{coded, counted_item_in, counted_item_bits}
-use Rattle.definitions.specs.Settled.{Settled}
-use Rattle.definitions.specs.StatementItems.{Context, known, is_short, short_item, number_in, displacement_of}
-use Rattle.definitions.specs.declared.letter.Letter.{Letter}
-use Rattle.definitions.proofs.LiteralLaws.{characters_number-below}
-use Rattle.std.proofs.Common.{leb-true}
-use Rattle.expr_forms.specs.Joins.CodedItems.{in_places, is_at_end}
-use Rattle.expr_forms.proofs.CodedLaws.{length-in_places, counted_item_bits-at_end, counted_item_bits-in_front}
+use Rattle.std.{proofs.Common.{◌≡◌, ℕ, ◌*◌, ◌^◌, ◌<◌, ◌≤◌, ◌&&◌, Bool, true, false, Option, Some, None, Result, Ok, length, refl, sym, ap, ◌∙◌, subst, arith, if◌then◌else◌, leb-true}, specs.Prelude.{unwrap_or, nat_le, ◌-ℤ◌}}
+use Rattle.definitions.{specs.CountedItems.{CountedItem, bits_needed}, specs.Forms.{Form, is_absolute, characters_number}, specs.Coding.{coded, counted_item_in, counted_item_bits}, specs.Settled.Settled, specs.StatementItems.{Context, known, is_short, short_item, number_in, displacement_of}, specs.declared.letter.Letter.Letter, proofs.LiteralLaws.characters_number-below}
+use Rattle.expr_forms.{specs.Joins.CodedItems.{in_places, is_at_end}, proofs.CodedLaws.{length-in_places, counted_item_bits-at_end, counted_item_bits-in_front}}
 
 -- the bits of an item of one character
 one-character : (item : CountedItem) (at_end : Bool) → length item.characters ≤ 1 → is_at_end item.letter ≡ at_end → counted_item_bits 6 item < 2 ^ 6

@@ -1,10 +1,6 @@
 -- The text of a DIS: it fills its words, and each word is the number of its characters.
-use Rattle.std.proofs.Common.{◌≡◌, ◌∙◌, ℕ, suc, ◌+◌, ◌-◌, ◌*◌, ◌/◌, ◌≤◌, ◌<◌, List, length, take, drop, get_or, ap, sym, arith, mul-le-mul}
-use Rattle.std.proofs.Math.Nat.{mul-le-mul_right}
-use Rattle.definitions.specs.Forms.{characters_number}
-use Rattle.definitions.specs.Kinds.{word_bits}
-use Rattle.definitions.specs.Words.{cut}
-use Rattle.definitions.specs.declared.deck_kind.DeckKind.{DeckKind}
+use Rattle.std.proofs.{Common.{◌≡◌, ◌∙◌, ℕ, suc, ◌+◌, ◌-◌, ◌*◌, ◌/◌, ◌≤◌, ◌<◌, List, length, take, drop, get_or, ap, sym, arith, mul-le-mul}, Math.Nat.mul-le-mul_right}
+use Rattle.definitions.specs.{Forms.characters_number, Kinds.word_bits, Words.cut, declared.deck_kind.DeckKind.DeckKind}
 use Rattle.expr_forms.proofs.CodedLaws.{get_or-cut, word_bits-characters}
 
 -- at most 100 words of at most 10 characters

@@ -1,29 +1,11 @@
 -- What is listed of fields: behind the old end of a list stand the fields of an operand, and their letters.
-use Rattle.std.proofs.Common.{◌≡◌, ◌∙◌, ℕ, ◌-◌, ◌*◌, ◌/◌, ◌^◌, ◌<◌, ◌≤◌, Bool, true, false, List, [], ◌∷◌, ◌++◌, length, map, flat_map, drop, refl, ap, ap₂, sym, subst, arith, append-nil, if◌then◌else◌}
-use Rattle.std.proofs.lemmas.List.{drop-map, drop_at, length-map}
-use Rattle.std.proofs.lemmas.List.Concat.{flat_map-append}
-use Rattle.definitions.specs.Forms.{characters_number}
-use Rattle.definitions.specs.Kinds.{word_bits}
-use Rattle.definitions.specs.Letters.{in_order}
+use Rattle.std.proofs.{Common.{◌≡◌, ◌∙◌, ℕ, ◌-◌, ◌*◌, ◌/◌, ◌^◌, ◌<◌, ◌≤◌, Bool, true, false, List, [], ◌∷◌, ◌++◌, length, map, flat_map, drop, refl, ap, ap₂, sym, subst, arith, append-nil, if◌then◌else◌}, lemmas.List.{drop-map, drop_at, length-map}, lemmas.List.Concat.flat_map-append}
+use Rattle.definitions.{specs.Forms.characters_number, specs.Kinds.word_bits, specs.Letters.in_order, specs.Operands.{Operand, WordsOperand, TextOperand}, specs.StatementItems.{Item, Content, Known, Linked, known}, specs.Words.cut, specs.declared.deck_kind.DeckKind.DeckKind, specs.declared.letter.Letter.Letter, proofs.LiteralLaws.characters_number-below}
 use Rattle.definitions.specs.Operands as operands
-use Rattle.definitions.specs.Operands.{Operand, WordsOperand, TextOperand}
-use Rattle.definitions.specs.StatementItems.{Item, Content, Known, Linked, known}
-use Rattle.definitions.specs.Words.{cut}
-use Rattle.definitions.specs.declared.deck_kind.DeckKind.{DeckKind}
-use Rattle.definitions.specs.declared.letter.Letter.{Letter}
-use Rattle.definitions.proofs.LiteralLaws.{characters_number-below}
 use Rattle.expr_forms.proofs.CodedLaws.{word_bits-characters}
-use Rattle.statement_coder.specs.Joins.Items.{item_as}
+use Rattle.statement_coder.{specs.Joins.Items.item_as, specs.Joins.CodedItems.{IsKept, AreListed, AreTold}, specs.Joins.FieldLetters.field_letters, specs.Joins.WordItems.{is_several, known_words, words_of, in_words, listed_fields}, specs.declared.coded.CodedItems.CodedItems, specs.declared.sizing.Sizing.Sizing, proofs.ListLaws.kept-length, proofs.DatumLaws.word_bits-some, proofs.WordItemLaws.in_words-known}
 use Rattle.statement_coder.specs.declared.items.Item as code
-use Rattle.statement_coder.specs.Joins.CodedItems.{IsKept, AreListed, AreTold}
-use Rattle.statement_coder.specs.Joins.FieldLetters.{field_letters}
-use Rattle.statement_coder.specs.Joins.WordItems.{is_several, known_words, words_of, in_words, listed_fields}
-use Rattle.statement_coder.specs.declared.coded.CodedItems.{CodedItems}
 use Rattle.statement_coder.specs.declared.coded.CodedItems.TheVariants as items
-use Rattle.statement_coder.specs.declared.sizing.Sizing.{Sizing}
-use Rattle.statement_coder.proofs.ListLaws.{kept-length}
-use Rattle.statement_coder.proofs.DatumLaws.{word_bits-some}
-use Rattle.statement_coder.proofs.WordItemLaws.{in_words-known}
 
 -- what was put behind a list
 pub listed_told : (kind : DeckKind) (operand : Operand) (sizing : Sizing) (told : CodedItems) (size : ℕ) (before after : List code.Item) (fields : List Item) →

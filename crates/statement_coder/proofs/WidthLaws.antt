@@ -1,18 +1,6 @@
 -- How wide fields are.
-use Rattle.std.proofs.Common.{◌≡◌, ℕ, Bool, true, false, [], Option, Some, None, Result, Ok, Err, refl, if◌then◌else◌}
-use Rattle.std.specs.Prelude.{nat_le}
-use Rattle.definitions.specs.CountedItems.{CountedItem}
-use Rattle.definitions.specs.Symbols.{Number, Value, TooGreat}
-use Rattle.definitions.specs.Expressions.{Sign, Expression}
-use Rattle.definitions.specs.Forms.{Form, is_absolute, value_of}
-use Rattle.definitions.specs.Coding.{coded_in, counted_item_in}
-use Rattle.definitions.specs.Kinds.{address_bits}
-use Rattle.definitions.specs.Literals.{signed_number}
-use Rattle.definitions.specs.Settled.{Settled}
-use Rattle.definitions.specs.StatementItems.{Item, Linked, Context, faulty, known_if, linked_item, form_item, value_item, whole_counted_item, counted_item_or_value, expression_item, number_item, final_names, number_in, vfd_value}
-use Rattle.definitions.specs.declared.deck_kind.DeckKind.{DeckKind}
-use Rattle.definitions.specs.declared.deck_kind.DeckKind.TheVariants.{Rel, Abs, Periph}
-use Rattle.definitions.specs.declared.letter.Letter.{Letter}
+use Rattle.std.{proofs.Common.{◌≡◌, ℕ, Bool, true, false, [], Option, Some, None, Result, Ok, Err, refl, if◌then◌else◌}, specs.Prelude.nat_le}
+use Rattle.definitions.specs.{CountedItems.CountedItem, Symbols.{Number, Value, TooGreat}, Expressions.{Sign, Expression}, Forms.{Form, is_absolute, value_of}, Coding.{coded_in, counted_item_in}, Kinds.address_bits, Literals.signed_number, Settled.Settled, StatementItems.{Item, Linked, Context, faulty, known_if, linked_item, form_item, value_item, whole_counted_item, counted_item_or_value, expression_item, number_item, final_names, number_in, vfd_value}, declared.deck_kind.DeckKind.DeckKind, declared.deck_kind.DeckKind.TheVariants.{Rel, Abs, Periph}, declared.letter.Letter.Letter}
 use Rattle.definitions.specs.declared.letter.Letter.TheVariants as letter
 
 -- both fields of a choice have this width

@@ -1,12 +1,6 @@
 -- Fields as a list has them: narrow ones stay as they are, and known bits of whole words become their words.
-use Rattle.std.proofs.Common.{◌≡◌, ◌∙◌, ℕ, zero, suc, ◌+◌, ◌*◌, ◌/◌, ◌%◌, ◌^◌, ◌≤◌, ◌<◌, Bool, true, false, ◌&&◌, List, [], ◌∷◌, refl, ap, ap₂, sym, arith, if◌then◌else◌}
-use Rattle.std.specs.Prelude.{nat_lt, nat_eq}
-use Rattle.std.proofs.lemmas.Bool.{lt-ltb, le-ltb, eq-eqb}
-use Rattle.std.proofs.lemmas.Nat.{div-mul-add, mod-mul-add}
-use Rattle.std.proofs.Math.Nat.{mod-eq_of_lt}
-use Rattle.definitions.specs.StatementItems.{Item, Content, Known, Linked, known}
-use Rattle.definitions.specs.Words.{cut}
-use Rattle.definitions.specs.declared.letter.Letter.{Letter}
+use Rattle.std.{proofs.Common.{◌≡◌, ◌∙◌, ℕ, zero, suc, ◌+◌, ◌*◌, ◌/◌, ◌%◌, ◌^◌, ◌≤◌, ◌<◌, Bool, true, false, ◌&&◌, List, [], ◌∷◌, refl, ap, ap₂, sym, arith, if◌then◌else◌}, specs.Prelude.{nat_lt, nat_eq}, proofs.lemmas.Bool.{lt-ltb, le-ltb, eq-eqb}, proofs.lemmas.Nat.{div-mul-add, mod-mul-add}, proofs.Math.Nat.mod-eq_of_lt}
+use Rattle.definitions.specs.{StatementItems.{Item, Content, Known, Linked, known}, Words.cut, declared.letter.Letter.Letter}
 use Rattle.statement_coder.specs.Joins.WordItems.{is_several, known_words, words_of, in_words}
 
 -- bits that fill no more than a word are not several words

@@ -1,7 +1,5 @@
 -- A number in decimal: the definitions' digits are those of std.
-use Rattle.std.proofs.Common.{◌≡◌, ℕ, ◌/◌, ◌%◌, ◌+◌, ◌<◌, ◌^◌, true, false, [], ◌∷◌, ◌++◌, ap, arith, lt-ltb, le-ltb}
-use Rattle.std.specs.Prelude.{decimal}
-use Rattle.std.proofs.lemmas.Fmt.{AppendsLastDigit, decimal_from_appends_wide, length-decimal-le}
+use Rattle.std.{proofs.Common.{◌≡◌, ℕ, ◌/◌, ◌%◌, ◌+◌, ◌<◌, ◌^◌, true, false, [], ◌∷◌, ◌++◌, ap, arith, lt-ltb, le-ltb}, specs.Prelude.decimal, proofs.lemmas.Fmt.{AppendsLastDigit, decimal_from_appends_wide, length-decimal-le}}
 use Rattle.definitions.specs.Numerals.{decimal_of, decimal_in}
 
 decimal_in-appends : AppendsLastDigit decimal_in

@@ -1,7 +1,5 @@
 -- The steps of writing digits from the last one on.
-use Rattle.std.proofs.Common.{◌≡◌, ℕ, ◌+◌, ◌-◌, ◌*◌, ◌/◌, ◌%◌, ◌^◌, ◌<◌, ◌≤◌, zero, suc, List, [], ◌∷◌, ◌++◌, true, false, nat_lt, le-ltb, lt-ltb, length, drop, slice_set, sym, ap, ◌∙◌, arith, append_assoc, append-nil}
-use Rattle.std.proofs.Math.Nat.{pow-succ'}
-use Rattle.std.proofs.lemmas.List.{drop-set}
+use Rattle.std.proofs.{Common.{◌≡◌, ℕ, ◌+◌, ◌-◌, ◌*◌, ◌/◌, ◌%◌, ◌^◌, ◌<◌, ◌≤◌, zero, suc, List, [], ◌∷◌, ◌++◌, true, false, nat_lt, le-ltb, lt-ltb, length, drop, slice_set, sym, ap, ◌∙◌, arith, append_assoc, append-nil}, Math.Nat.pow-succ', lemmas.List.drop-set}
 use Rattle.definitions.specs.Numerals.{digits_of, decimal_in}
 
 -- one digit more is set

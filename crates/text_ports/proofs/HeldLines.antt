@@ -1,8 +1,5 @@
 -- Lines at the front of what a reader holds.
-use Rattle.std.proofs.Common.{ℕ, ◌≡◌, ◌≢◌, ◌<◌, ◌≤◌, ◌==◌, List, [], ◌∷◌, ◌++◌, Option, None, Some, IfSome, length, take, true, false, get_or, get_or-take, sym, ap, ◌∙◌, arith, length-take-le, eq-eqb, eqb-true}
-use Rattle.std.proofs.lemmas.List.{take_more}
-use Rattle.std.proofs.lemmas.List.Elements.{All-from_get_or}
-use Rattle.std.proofs.lemmas.Bool.{false_from_ne_true}
+use Rattle.std.proofs.{Common.{ℕ, ◌≡◌, ◌≢◌, ◌<◌, ◌≤◌, ◌==◌, List, [], ◌∷◌, ◌++◌, Option, None, Some, IfSome, length, take, true, false, get_or, get_or-take, sym, ap, ◌∙◌, arith, length-take-le, eq-eqb, eqb-true}, lemmas.List.take_more, lemmas.List.Elements.All-from_get_or, lemmas.Bool.false_from_ne_true}
 use Rattle.memchr.specs.Find.{IsFirstByte, is_byte}
 use Rattle.text_ports.specs.Lines.{line_feed, IsUnbroken, IsFrontLine}
 

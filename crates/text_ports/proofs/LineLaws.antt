@@ -1,9 +1,5 @@
 -- The lines of bytes that begin with a line, or with one that is too long, or that no line feed ends.
-use Rattle.std.proofs.Common.{ℕ, ◌≡◌, ◌≢◌, ◌<◌, ◌≤◌, ◌==◌, List, [], ◌∷◌, ◌++◌, Bool, false, if◌then◌else◌, All, length, refl, sym, ap, ◌∙◌, arith, length-append, append_assoc, le-ltb, lt-ltb}
-use Rattle.std.specs.List.{slice_split, onto_first}
-use Rattle.std.proofs.lemmas.Bool.{ne_eqb}
-use Rattle.std.proofs.lemmas.List.Elements.{All-weaker, All-head, All-tail}
-use Rattle.std.proofs.lemmas.List.Splits.{slice_split_none, slice_split_at, slice_split-cons_no, length-slice_split}
+use Rattle.std.{proofs.Common.{ℕ, ◌≡◌, ◌≢◌, ◌<◌, ◌≤◌, ◌==◌, List, [], ◌∷◌, ◌++◌, Bool, false, if◌then◌else◌, All, length, refl, sym, ap, ◌∙◌, arith, length-append, append_assoc, le-ltb, lt-ltb}, specs.List.{slice_split, onto_first}, proofs.lemmas.Bool.ne_eqb, proofs.lemmas.List.Elements.{All-weaker, All-head, All-tail}, proofs.lemmas.List.Splits.{slice_split_none, slice_split_at, slice_split-cons_no, length-slice_split}}
 use Rattle.definitions.specs.InputLines.{InputLine, Line, TooLong, Cut, without_cr, line_of, last_of, lines_of_pieces, lines_of}
 use Rattle.text_ports.specs.Lines.{line_feed, IsUnbroken, IsTakenAs}
 use Rattle.text_ports.specs.declared.lines.LineIs.TheVariants as is

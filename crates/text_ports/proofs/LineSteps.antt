@@ -1,10 +1,6 @@
 -- The steps of reading a line.
-use Rattle.std.proofs.Common.{◌≡◌, ◌≢◌, ℕ, ◌+◌, ◌≤◌, List, [], ◌∷◌, ◌++◌, length, refl, arith, length-append, Option}
-use Rattle.std.specs.Io.KnownBytes.{Consumes}
-use Rattle.std.proofs.KnownBytes.{Consumes-trans}
-use Rattle.std.proofs.lemmas.List.Elements.{All-push}
-use Rattle.text_ports.specs.Lines.{line_feed, IsUnbroken, ReadsWholeLine}
-use Rattle.text_ports.specs.declared.lines.LineIs.TheVariants.{Line, TooLong}
+use Rattle.std.{proofs.Common.{◌≡◌, ◌≢◌, ℕ, ◌+◌, ◌≤◌, List, [], ◌∷◌, ◌++◌, length, refl, arith, length-append, Option}, specs.Io.KnownBytes.Consumes, proofs.KnownBytes.Consumes-trans, proofs.lemmas.List.Elements.All-push}
+use Rattle.text_ports.specs.{Lines.{line_feed, IsUnbroken, ReadsWholeLine}, declared.lines.LineIs.TheVariants.{Line, TooLong}}
 
 -- the line has all the bytes that the reader lost, `count` bytes, and none is a line feed
 pub record IsHeld (old new : Option (List ℕ)) (line : List ℕ) (count : ℕ) : Type 0 where

@@ -1,8 +1,5 @@
 -- The steps of writing bytes piece by piece.
-use Rattle.std.proofs.Common.{ℕ, ◌+◌, List, take, drop, subst, sym, Option}
-use Rattle.std.proofs.Math.Seq.{take-add}
-use Rattle.std.specs.Io.KnownBytes.{Appends}
-use Rattle.std.proofs.KnownBytes.{Appends-trans}
+use Rattle.std.{proofs.Common.{ℕ, ◌+◌, List, take, drop, subst, sym, Option}, proofs.Math.Seq.take-add, specs.Io.KnownBytes.Appends, proofs.KnownBytes.Appends-trans}
 
 -- the first bytes went out, and then the first of the rest
 pub Appends-more : (old new next : Option (List ℕ)) (bytes : List ℕ) (sent more : ℕ) → Appends old new (take sent bytes) → Appends new next (take more (drop sent bytes)) → Appends old next (take (sent + more) bytes)

@@ -1,12 +1,8 @@
 -- Ports that count their faults (ours).
-use Rattle.std.specs.Prelude.{ℕ, ◌+◌, ◌-◌, ◌^◌, ◌<◌, ◌≤◌, min, List, [], ◌∷◌, ◌++◌, Bool, true, false, Option, None, Some, length, take}
-use Rattle.std.specs.Io.KnownBytes.{Appends, Consumes, IsAtEnd, Keeps}
-use Rattle.text_ports.specs.declared.counted.ByteIs.{ByteIs}
+use Rattle.std.specs.{Prelude.{ℕ, ◌+◌, ◌-◌, ◌^◌, ◌<◌, ◌≤◌, min, List, [], ◌∷◌, ◌++◌, Bool, true, false, Option, None, Some, length, take}, Io.KnownBytes.{Appends, Consumes, IsAtEnd, Keeps}}
+use Rattle.text_ports.specs.{declared.counted.ByteIs.ByteIs, Lines.{line_feed, IsUnbroken}, declared.held_lines.HeldIs.HeldIs, declared.lines.LineIs.LineIs}
 use Rattle.text_ports.specs.declared.counted.ByteIs.TheVariants as byte
-use Rattle.text_ports.specs.Lines.{line_feed, IsUnbroken}
-use Rattle.text_ports.specs.declared.held_lines.HeldIs.{HeldIs}
 use Rattle.text_ports.specs.declared.held_lines.HeldIs.TheVariants as held
-use Rattle.text_ports.specs.declared.lines.LineIs.{LineIs}
 use Rattle.text_ports.specs.declared.lines.LineIs.TheVariants as line
 
 -- one fault more; the count stays at its greatest value

@@ -1,9 +1,7 @@
 -- What reading a line takes from a port, and leaves in the buffer (ours).
-use Rattle.std.specs.Prelude.{ℕ, ◌≡◌, ◌≢◌, ◌+◌, ◌<◌, ◌≤◌, List, [], ◌∷◌, ◌++◌, Option, length, take, All, ⊤}
-use Rattle.std.specs.Io.KnownBytes.{Consumes, IsAtEnd}
+use Rattle.std.specs.{Prelude.{ℕ, ◌≡◌, ◌≢◌, ◌+◌, ◌<◌, ◌≤◌, List, [], ◌∷◌, ◌++◌, Option, length, take, All, ⊤}, Io.KnownBytes.{Consumes, IsAtEnd}}
 use Rattle.definitions.specs.InputLines.{without_cr}
-use Rattle.text_ports.specs.declared.lines.LineIs.{LineIs}
-use Rattle.text_ports.specs.declared.lines.LineIs.TheVariants.{Line, End, Cut, TooLong, Fault}
+use Rattle.text_ports.specs.declared.lines.LineIs.{LineIs, TheVariants.{Line, End, Cut, TooLong, Fault}}
 
 abbrev pub line_feed : ℕ
 line_feed = 10

@@ -1,20 +1,9 @@
 -- The numbers of a new office, and how they are dealt.
-use Rattle.std.proofs.Common.{◌≡◌, ℕ, zero, suc, ◌+◌, ◌-◌, ◌<◌, ◌≤◌, ◌==◌, List, [], ◌∷◌, ◌++◌, map, sym, refl, ap, ◌∙◌, arith, Option, cond, count_by, eq-eqb, ne_eqb}
-use Rattle.std.proofs.lemmas.List.Sums.{sum_by-cons}
-use Rattle.std.proofs.lemmas.List.Elements.{All-map}
-use Rattle.std.proofs.lemmas.List.FromFn.{map-range_with_len_more}
-use Rattle.std.specs.List.{AllByRecursion, range_with_len}
+use Rattle.std.{proofs.Common.{◌≡◌, ℕ, zero, suc, ◌+◌, ◌-◌, ◌<◌, ◌≤◌, ◌==◌, List, [], ◌∷◌, ◌++◌, map, sym, refl, ap, ◌∙◌, arith, Option, cond, count_by, eq-eqb, ne_eqb}, proofs.lemmas.List.Sums.sum_by-cons, proofs.lemmas.List.Elements.All-map, proofs.lemmas.List.FromFn.map-range_with_len_more, specs.List.{AllByRecursion, range_with_len}}
 use mathlib.Core.Logic.{dite}
 use native.Mathlib.Decide.{ℕ_discrete}
-use Rattle.atomic_table.specs.Seated.{TableId}
-use Rattle.atomic_table.specs.declared.shared.Seat.{Seat}
-use Rattle.turn_office.specs.declared.views.Chair.{Chair}
-use Rattle.turn_office.specs.declared.views.View.{View}
-use Rattle.turn_office.specs.declared.views.Stage.TheVariants.{Idle}
-use Rattle.turn_office.specs.Boards.{seat_facts}
-use Rattle.turn_office.specs.Histories.{Continues}
-use Rattle.turn_office.specs.Rule.{Standing, view, chair, at_rest, rest_of, first_of, seen_of}
-use Rattle.turn_office.specs.Seats.{SeatFacts, AreOf, new_seats}
+use Rattle.atomic_table.specs.{Seated.TableId, declared.shared.Seat.Seat}
+use Rattle.turn_office.specs.{declared.views.Chair.Chair, declared.views.View.View, declared.views.Stage.TheVariants.Idle, Boards.seat_facts, Histories.Continues, Rule.{Standing, view, chair, at_rest, rest_of, first_of, seen_of}, Seats.{SeatFacts, AreOf, new_seats}}
 
 -- a row of numbers is its first with those after it
 range_first : (a b : ℕ) → a < b → range_with_len a (b - a) ≡ a ∷ range_with_len (a + 1) (b - (a + 1))

@@ -1,17 +1,7 @@
 -- The keeper takes in the numbers of a list of seats, from the last to the first, and stands for all of them at the end.
-use Rattle.std.proofs.Common.{◌≡◌, ℕ, List, [], ◌∷◌, ◌++◌, map, sym, ap, ◌∙◌, subst, Option, Some, append_assoc}
-use Rattle.std.proofs.lemmas.List.{map-append}
-use Rattle.std.proofs.lemmas.List.Elements.{All-pop, All-from_recursion}
-use Rattle.std.specs.List.{AllByRecursion}
-use Rattle.atomic_table.specs.Seated.{TableId}
-use Rattle.atomic_table.specs.declared.shared.Seat.{Seat}
-use Rattle.turn_office.specs.declared.views.Chair.{Chair}
-use Rattle.turn_office.specs.declared.views.View.{View}
-use Rattle.turn_office.specs.declared.views.Stage.TheVariants.{Idle}
-use Rattle.turn_office.specs.Histories.{Continues}
-use Rattle.turn_office.specs.Rule.{Standing, Ends, view, both_of}
-use Rattle.turn_office.specs.Boards.{seat_facts, chair_of, IsSeated}
-use Rattle.turn_office.specs.Seats.{SeatFacts, AreOf, Closes}
+use Rattle.std.{proofs.Common.{◌≡◌, ℕ, List, [], ◌∷◌, ◌++◌, map, sym, ap, ◌∙◌, subst, Option, Some, append_assoc}, proofs.lemmas.List.map-append, proofs.lemmas.List.Elements.{All-pop, All-from_recursion}, specs.List.AllByRecursion}
+use Rattle.atomic_table.specs.{Seated.TableId, declared.shared.Seat.Seat}
+use Rattle.turn_office.specs.{declared.views.Chair.Chair, declared.views.View.View, declared.views.Stage.TheVariants.Idle, Histories.Continues, Rule.{Standing, Ends, view, both_of}, Boards.{seat_facts, chair_of, IsSeated}, Seats.{SeatFacts, AreOf, Closes}}
 
 -- the keeper is idle, and its numbers are all but those of the list
 pub record Gathers {T C R : Type 0} (all : List (Chair C R)) (list : List (SeatFacts C R)) (keeper : Standing T C R) : Type 0 where

@@ -1,9 +1,6 @@
 -- A history that goes on: by one entry, and past what seats have seen.
-use Rattle.std.proofs.Common.{◌≡◌, ◌≢◌, ℕ, ◌<◌, ◌==◌, Bool, cond, List, [], ◌∷◌, ◌++◌, length, sym, refl, ap, ◌∙◌, subst, arith, ne_eqb, length-append}
-use Rattle.std.proofs.lemmas.List.{append-nil, append_assoc}
-use Rattle.std.proofs.lemmas.List.Elements.{All-push, filter-append}
-use Rattle.turn_office.specs.declared.history.Entry.{Entry}
-use Rattle.turn_office.specs.Histories.{entry, entries_by, IsOfSeats, Continues, Leads}
+use Rattle.std.proofs.{Common.{◌≡◌, ◌≢◌, ℕ, ◌<◌, ◌==◌, Bool, cond, List, [], ◌∷◌, ◌++◌, length, sym, refl, ap, ◌∙◌, subst, arith, ne_eqb, length-append}, lemmas.List.{append-nil, append_assoc}, lemmas.List.Elements.{All-push, filter-append}}
+use Rattle.turn_office.specs.{declared.history.Entry.Entry, Histories.{entry, entries_by, IsOfSeats, Continues, Leads}}
 
 -- what is added behind a list that stays as it is, is nothing
 pub nothing_more : {X : Type 0} (xs ys : List X) → xs ++ ys ≡ xs → ys ≡ []

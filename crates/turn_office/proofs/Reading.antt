@@ -1,7 +1,6 @@
 -- For whoever calls an office: what a call made true, and no step makes false, is true at each later call of the history.
 use Rattle.std.proofs.Common.{List, [], ◌∷◌, ◌++◌, refl, subst}
-use Rattle.turn_office.specs.declared.history.Entry.{Entry}
-use Rattle.turn_office.specs.Histories.{Leads}
+use Rattle.turn_office.specs.{declared.history.Entry.Entry, Histories.Leads}
 
 module _ {T C R : Type 0} (allowed : T → C → R → T → Type 0) where
   -- a history is cut anywhere, and some state is between

@@ -1,23 +1,10 @@
 -- The rule is kept where seats share their numbers out and take them in; a new office keeps it, and where all numbers are back, the object is.
-use Rattle.std.proofs.Common.{◌≡◌, ℕ, zero, suc, ◌+◌, ◌<◌, ◌≤◌, List, [], ◌∷◌, ◌++◌, length, replicate, set, sym, refl, ap, ◌∙◌, subst, ⊎_elim, arith, Option, sum_by, Some, length-append, append-nil}
-use Rattle.std.proofs.lemmas.List.Sums.{sum_by-append}
-use Rattle.std.proofs.lemmas.List.Elements.{All-nil}
-use Rattle.std.proofs.lemmas.List.FromFn.{length-map-range_with_len}
-use Rattle.std.specs.List.{AllByRecursion}
-use mathlib.Core.Logic.{dite}
-use mathlib.Core.Option.{some, some-injective, some-ne-none}
+use Rattle.std.{proofs.Common.{◌≡◌, ℕ, zero, suc, ◌+◌, ◌<◌, ◌≤◌, List, [], ◌∷◌, ◌++◌, length, replicate, set, sym, refl, ap, ◌∙◌, subst, ⊎_elim, arith, Option, sum_by, Some, length-append, append-nil}, proofs.lemmas.List.Sums.sum_by-append, proofs.lemmas.List.Elements.All-nil, proofs.lemmas.List.FromFn.length-map-range_with_len, specs.List.AllByRecursion}
+use mathlib.Core.{Logic.dite, Option.{some, some-injective, some-ne-none}}
 use native.Mathlib.Decide.{ℕ_discrete}
 use lib.ListN.{get_elem?}
-use Rattle.atomic_table.specs.Table.{State, Splits, Joins, Final, Seen, opening}
-use Rattle.atomic_table.proofs.Lists.{at_snoc, at_longer, set_else}
-use Rattle.turn_office.specs.declared.history.Entry.{Entry}
-use Rattle.turn_office.specs.declared.views.View.{View}
-use Rattle.turn_office.specs.declared.views.Stage.TheVariants.{Idle}
-use Rattle.turn_office.specs.Histories.{Continues}
-use Rattle.turn_office.specs.Rule.{Kept, Fits, IsStage, NobodyServes, view, chair, nobody, rest_of, first_of, both_of, tickets_of, times, undealt, Ends}
-use Rattle.turn_office.proofs.Dealing.{once, new_fit}
-use Rattle.turn_office.proofs.Stages.{nobody_before, no_ticket}
-use Rattle.turn_office.proofs.Sums.{sum_set, sum_two, each_set, each_more}
+use Rattle.atomic_table.{specs.Table.{State, Splits, Joins, Final, Seen, opening}, proofs.Lists.{at_snoc, at_longer, set_else}}
+use Rattle.turn_office.{specs.declared.history.Entry.Entry, specs.declared.views.View.View, specs.declared.views.Stage.TheVariants.Idle, specs.Histories.Continues, specs.Rule.{Kept, Fits, IsStage, NobodyServes, view, chair, nobody, rest_of, first_of, both_of, tickets_of, times, undealt, Ends}, proofs.Dealing.{once, new_fit}, proofs.Stages.{nobody_before, no_ticket}, proofs.Sums.{sum_set, sum_two, each_set, each_more}}
 
 module _ {X : Type 0} where
   -- what holds of each element of two lists holds of each element of their join

@@ -1,15 +1,10 @@
 -- Where seats stand in their turns.
 use Rattle.std.proofs.Common.{◌≡◌, ◌≢◌, ℕ, ◌==◌, Bool, MatchBool, List, set, sym, ap, ◌∙◌, subst, arith, eq-eqb, ne_eqb}
-use mathlib.Core.Logic.{dite}
-use mathlib.Core.Option.{some, some-injective}
+use mathlib.Core.{Logic.dite, Option.{some, some-injective}}
 use native.Mathlib.Decide.{ℕ_discrete}
 use lib.ListN.{get_elem?}
 use Rattle.atomic_table.proofs.Lists.{set_here, set_else}
-use Rattle.turn_office.specs.declared.views.View.{View}
-use Rattle.turn_office.specs.declared.views.Stage.{Stage}
-use Rattle.turn_office.specs.declared.views.Stage.TheVariants.{Idle, Waits, Serves}
-use Rattle.turn_office.specs.Rule.{NobodyServes, view, tickets_of}
-use Rattle.turn_office.proofs.Sums.{found_inside}
+use Rattle.turn_office.{specs.declared.views.View.View, specs.declared.views.Stage.Stage, specs.declared.views.Stage.TheVariants.{Idle, Waits, Serves}, specs.Rule.{NobodyServes, view, tickets_of}, proofs.Sums.found_inside}
 
 module _ {T : Type 0} where
   -- 1 at a stage that serves

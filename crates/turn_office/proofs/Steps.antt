@@ -1,27 +1,11 @@
 -- Each step of a turn keeps the rule of the table, and shows what it promises.
-use Rattle.std.proofs.Common.{◌≡◌, ◌≢◌, ℕ, zero, suc, ◌+◌, ◌-◌, ◌%◌, ◌^◌, ◌<◌, ◌≤◌, ◌==◌, if◌then◌else◌, Bool, cond, List, [], ◌∷◌, ◌++◌, map, length, get_or, set, sym, refl, ap, ◌∙◌, subst, arith, Option, Some, length-set, length-append, count_by, eq-eqb, ne_eqb}
-use mathlib.Core.Logic.{dite}
-use mathlib.Core.Option.{none, some, some-injective}
-use Rattle.std.proofs.Math.Nat.{mod-add-mod}
+use Rattle.std.{proofs.Common.{◌≡◌, ◌≢◌, ℕ, zero, suc, ◌+◌, ◌-◌, ◌%◌, ◌^◌, ◌<◌, ◌≤◌, ◌==◌, if◌then◌else◌, Bool, cond, List, [], ◌∷◌, ◌++◌, map, length, get_or, set, sym, refl, ap, ◌∙◌, subst, arith, Option, Some, length-set, length-append, count_by, eq-eqb, ne_eqb}, proofs.Math.Nat.mod-add-mod, proofs.lemmas.List.Sums.sum_by-cons, specs.Option.unwrap_or, specs.List.AllByRecursion}
+use mathlib.Core.{Logic.dite, Option.{none, some, some-injective}}
 use native.Mathlib.Decide.{ℕ_discrete}
-use lib.ListN.{get_elem?, length-map}
-use lib.Seq.{set-get_or}
-use Rattle.std.proofs.lemmas.List.Sums.{sum_by-cons}
-use Rattle.std.specs.Option.{unwrap_or}
-use Rattle.std.specs.List.{AllByRecursion}
+use lib.{ListN.{get_elem?, length-map}, Seq.set-get_or}
 use Rattle.atomic_table.specs.Table.{State, step, keeps, takes, gives as gives_back, stepped, rest, Allows}
 use Rattle.atomic_table.proofs.Lists.{set_here, set_again, one_turn}
-use Rattle.turn_office.specs.declared.history.Entry.{Entry}
-use Rattle.turn_office.specs.declared.views.Chair.{Chair}
-use Rattle.turn_office.specs.declared.views.View.{View}
-use Rattle.turn_office.specs.declared.views.Stage.{Stage}
-use Rattle.turn_office.specs.declared.views.Stage.TheVariants.{Idle, Waits, Serves}
-use Rattle.turn_office.specs.Histories.{entry, Continues}
-use Rattle.turn_office.specs.Rule.{Kept, Fits, IsStage, NobodyServes, Standing, chair, view, staged, at_rest, tickets_of, times, drew, looked, gave, learned, rang, CanEnd, HasEnded, HasLearned}
-use Rattle.turn_office.specs.Joins.Told.{Told, opened, ended}
-use Rattle.turn_office.proofs.Sums.{sum_set, sum_same, sum_two, sum_le, found_inside, each_set, each_more}
-use Rattle.turn_office.proofs.Stages.{ticket_or, idle_serves_not, waiting_serves_not, nobody_before, no_ticket}
-use Rattle.turn_office.proofs.Longer.{continues_here, continues_after, silent_between, of_seats_after, leads_after}
+use Rattle.turn_office.{specs.declared.history.Entry.Entry, specs.declared.views.Chair.Chair, specs.declared.views.View.View, specs.declared.views.Stage.Stage, specs.declared.views.Stage.TheVariants.{Idle, Waits, Serves}, specs.Histories.{entry, Continues}, specs.Rule.{Kept, Fits, IsStage, NobodyServes, Standing, chair, view, staged, at_rest, tickets_of, times, drew, looked, gave, learned, rang, CanEnd, HasEnded, HasLearned}, specs.Joins.Told.{Told, opened, ended}, proofs.Sums.{sum_set, sum_same, sum_two, sum_le, found_inside, each_set, each_more}, proofs.Stages.{ticket_or, idle_serves_not, waiting_serves_not, nobody_before, no_ticket}, proofs.Longer.{continues_here, continues_after, silent_between, of_seats_after, leads_after}}
 
 -- the first element of a list
 abbrev head_or : {X : Type 0} → X → List X → X

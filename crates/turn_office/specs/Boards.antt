@@ -1,13 +1,7 @@
 -- What contracts see of an office, by its table, and of a seat, by its place at the table (ours).
 use Rattle.std.specs.Prelude.{◌≡◌, ℕ, ◌≤◌, [], Option}
-use Rattle.atomic_table.specs.Seated.{TableId}
-use Rattle.atomic_table.specs.declared.shared.Seat.{Seat}
-use Rattle.turn_office.specs.declared.views.Chair.{Chair}
-use Rattle.turn_office.specs.declared.views.View.{View}
-use Rattle.turn_office.specs.declared.rule.Opening.{Opening}
-use Rattle.turn_office.specs.Joins.Bells.{most_seats}
-use Rattle.turn_office.specs.Rule.{IsFloor, at_rest, chair, seen_of}
-use Rattle.turn_office.specs.Seats.{OfficeFacts, SeatFacts}
+use Rattle.atomic_table.specs.{Seated.TableId, declared.shared.Seat.Seat}
+use Rattle.turn_office.specs.{declared.views.Chair.Chair, declared.views.View.View, declared.rule.Opening.Opening, Joins.Bells.most_seats, Rule.{IsFloor, at_rest, chair, seen_of}, Seats.{OfficeFacts, SeatFacts}}
 
 -- an office, by its table
 abbrev pub office_facts : {T : Type 0} → TableId → Opening T → OfficeFacts T

@@ -1,19 +1,9 @@
 -- The rule of an office's table, and what each step shows (ours).
-use Rattle.std.specs.Prelude.{◌≡◌, ◌≢◌, ℕ, ◌+◌, ◌%◌, ◌^◌, ◌<◌, ◌≤◌, ◌==◌, List, [], ◌∷◌, ◌++◌, map, length, Option, Some, ⊤, sum_by, count_by}
-use Rattle.std.specs.List.{AllByRecursion, range_with_len}
+use Rattle.std.specs.{Prelude.{◌≡◌, ◌≢◌, ℕ, ◌+◌, ◌%◌, ◌^◌, ◌<◌, ◌≤◌, ◌==◌, List, [], ◌∷◌, ◌++◌, map, length, Option, Some, ⊤, sum_by, count_by}, List.{AllByRecursion, range_with_len}}
 use mathlib.Core.Option.{some}
 use lib.ListN.{get_elem?}
-use Rattle.atomic_table.specs.Table.{State, Me, Step}
-use Rattle.atomic_table.specs.Seated.{TableId}
-use Rattle.turn_office.specs.declared.history.Entry.{Entry}
-use Rattle.turn_office.specs.declared.views.Chair.{Chair}
-use Rattle.turn_office.specs.declared.views.View.{View}
-use Rattle.turn_office.specs.declared.views.Stage.{Stage}
-use Rattle.turn_office.specs.declared.views.Stage.TheVariants.{Idle, Waits, Serves}
-use Rattle.turn_office.specs.Histories.{Leads, IsLegal, IsOfSeats, Continues, Answers}
-use Rattle.turn_office.specs.Joins.Told.{Told}
-use Rattle.turn_office.specs.Joins.Bells.{most_seats}
-use Rattle.turn_office.specs.declared.bells.TheConstants.{WORDS}
+use Rattle.atomic_table.specs.{Table.{State, Me, Step}, Seated.TableId}
+use Rattle.turn_office.specs.{declared.history.Entry.Entry, declared.views.Chair.Chair, declared.views.View.View, declared.views.Stage.Stage, declared.views.Stage.TheVariants.{Idle, Waits, Serves}, Histories.{Leads, IsLegal, IsOfSeats, Continues, Answers}, Joins.Told.Told, Joins.Bells.most_seats, declared.bells.TheConstants.WORDS}
 
 -- a number of the office, and the history that was seen under it
 abbrev pub chair : {C R : Type 0} → ℕ → List (Entry C R) → Chair C R

@@ -1,9 +1,7 @@
 -- What contracts see of an office and of a seat (ours).
-use Rattle.std.specs.Prelude.{◌≡◌, ℕ, ◌==◌, Bool, ◌&&◌, List, [], map, length, All}
-use Rattle.std.specs.List.{list_all, list_any, range_with_len}
+use Rattle.std.specs.{Prelude.{◌≡◌, ℕ, ◌==◌, Bool, ◌&&◌, List, [], map, length, All}, List.{list_all, list_any, range_with_len}}
 use Rattle.atomic_table.specs.Seated.{TableId}
-use Rattle.turn_office.specs.declared.history.Entry.{Entry}
-use Rattle.turn_office.specs.Histories.{Continues, Leads, IsOfSeats}
+use Rattle.turn_office.specs.{declared.history.Entry.Entry, Histories.{Continues, Leads, IsOfSeats}}
 
 -- an office: which it is, how many seats it has, and the object's state when it was opened
 pub record OfficeFacts (T : Type 0) : Type 0 where

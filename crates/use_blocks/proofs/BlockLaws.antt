@@ -1,15 +1,6 @@
 -- Blocks known by their names and by their indexes.
-use Rattle.std.proofs.Common.{◌≡◌, ◌∙◌, ℕ, zero, suc, ◌+◌, ◌<◌, Bool, true, false, not, ◌||◌, List, [], ◌∷◌, ◌++◌, length, refl, ap, ap₂, arith, inl, inr, set}
-use Rattle.std.specs.Prelude.{map, if◌then◌else◌}
-use Rattle.std.specs.List.{prefix_len}
-use Rattle.std.proofs.Math.ListN.{get_or-map}
-use Rattle.std.proofs.lemmas.List.{length-map}
-use Rattle.std.proofs.lemmas.List.Folds.{list_any-append}
-use Rattle.std.proofs.lemmas.List.Sums.{prefix_len_stops}
-use Rattle.definitions.specs.Characters.{same_text}
-use Rattle.definitions.specs.Blocks.{nominal, is_named}
-use Rattle.definitions.specs.Laws.States.{UsedBlock, Effect, fresh_block, block_named, or_position, counting_behind, block_behind, names_of_blocks}
-use Rattle.definitions.proofs.TextLaws.{same_text-refl, same_text-true, same_text_tells}
+use Rattle.std.{proofs.Common.{◌≡◌, ◌∙◌, ℕ, zero, suc, ◌+◌, ◌<◌, Bool, true, false, not, ◌||◌, List, [], ◌∷◌, ◌++◌, length, refl, ap, ap₂, arith, inl, inr, set}, specs.Prelude.{map, if◌then◌else◌}, specs.List.prefix_len, proofs.Math.ListN.get_or-map, proofs.lemmas.List.length-map, proofs.lemmas.List.Folds.list_any-append, proofs.lemmas.List.Sums.prefix_len_stops}
+use Rattle.definitions.{specs.Characters.same_text, specs.Blocks.{nominal, is_named}, specs.Laws.States.{UsedBlock, Effect, fresh_block, block_named, or_position, counting_behind, block_behind, names_of_blocks}, proofs.TextLaws.{same_text-refl, same_text-true, same_text_tells}}
 use Rattle.use_blocks.specs.Joins.StateInside.{block_at, name_at, AreDistinct, is_other}
 
 -- one of two tests that is not true

@@ -1,10 +1,5 @@
 -- Where a word stands in the set of literals.
-use Rattle.std.proofs.Common.{ℕ, suc, ◌≡◌, ◌+◌, ◌≤◌, Bool, true, false, cond, List, [], ◌∷◌, length, position, nat_lt, Some, None, refl, sym, ◌∙◌, ap, arith, ◌⊎◌, inl, inr}
-use Rattle.std.specs.Prelude.{◌==◌, nat_eq, if◌then◌else◌}
-use Rattle.std.specs.List.{position_or_len}
-use Rattle.std.proofs.lemmas.Bool.{lt-ltb}
-use Rattle.std.proofs.lemmas.Bool.Decides.{eqb_tells, leb_tells}
-use Rattle.std.proofs.lemmas.List.Recursion.{is_position_or_len}
+use Rattle.std.{proofs.Common.{ℕ, suc, ◌≡◌, ◌+◌, ◌≤◌, Bool, true, false, cond, List, [], ◌∷◌, length, position, nat_lt, Some, None, refl, sym, ◌∙◌, ap, arith, ◌⊎◌, inl, inr}, specs.Prelude.{◌==◌, nat_eq, if◌then◌else◌}, specs.List.position_or_len, proofs.lemmas.Bool.lt-ltb, proofs.lemmas.Bool.Decides.{eqb_tells, leb_tells}, proofs.lemmas.List.Recursion.is_position_or_len}
 use Rattle.definitions.specs.Literals.{offset_of}
 
 -- which of two numbers stands first makes no difference

@@ -1,16 +1,7 @@
 -- Blocks and lengths that have the same names, in the same order.
-use Rattle.std.proofs.Common.{◌≡◌, ◌∙◌, ℕ, zero, suc, ◌<◌, Bool, true, false, List, [], ◌∷◌, ◌++◌, Some, length, refl, sym, ap, arith}
-use Rattle.std.specs.Prelude.{slice_get, map, if◌then◌else◌}
-use Rattle.std.proofs.lemmas.List.{length-map, map-append}
-use Rattle.std.proofs.lemmas.Option.{slice_get-get_or}
-use Rattle.definitions.specs.Blocks.{nominal, block_in_use, is_named}
-use Rattle.definitions.specs.Lengths.{BlockLength}
-use Rattle.definitions.specs.Settled.{BlockChange, NoChange, Opens, Closes}
-use Rattle.definitions.specs.Laws.States.{UsedBlock, Effect, fresh_block, block_behind, blocks_behind, names_of_blocks, length_behind, lengths_behind, lengths_advanced}
-use Rattle.use_blocks.specs.Joins.BlockLengths.{block_names}
-use Rattle.use_blocks.specs.Joins.StateInside.{opened_names, latest, IsState}
-use Rattle.use_blocks.proofs.BlockLaws.{names-behind}
-use Rattle.use_blocks.proofs.StackLaws.{below-latest, in_use-latest}
+use Rattle.std.{proofs.Common.{◌≡◌, ◌∙◌, ℕ, zero, suc, ◌<◌, Bool, true, false, List, [], ◌∷◌, ◌++◌, Some, length, refl, sym, ap, arith}, specs.Prelude.{slice_get, map, if◌then◌else◌}, proofs.lemmas.List.{length-map, map-append}, proofs.lemmas.Option.slice_get-get_or}
+use Rattle.definitions.specs.{Blocks.{nominal, block_in_use, is_named}, Lengths.BlockLength, Settled.{BlockChange, NoChange, Opens, Closes}, Laws.States.{UsedBlock, Effect, fresh_block, block_behind, blocks_behind, names_of_blocks, length_behind, lengths_behind, lengths_advanced}}
+use Rattle.use_blocks.{specs.Joins.BlockLengths.block_names, specs.Joins.StateInside.{opened_names, latest, IsState}, proofs.BlockLaws.names-behind, proofs.StackLaws.{below-latest, in_use-latest}}
 
 -- the name in use stands at the latest index
 pub in_use-at : (blocks : List UsedBlock) (stack : List ℕ) → IsState blocks stack →

@@ -1,18 +1,7 @@
 -- The lengths of blocks of different names: one block is changed, or one more comes behind them.
-use Rattle.std.proofs.Common.{ℕ, ◌≡◌, ◌<◌, ◌≤◌, Bool, true, false, cond, ◌||◌, List, [], ◌∷◌, ◌++◌, length, zero, suc, max, Some, None, refl, sym, ◌∙◌, ap, ap₂, subst, inl, inr, arith}
-use Rattle.std.proofs.lemmas.List.{length-map}
-use Rattle.std.specs.Prelude.{slice_get, map, nat_lt, is_some, if◌then◌else◌}
-use Rattle.std.specs.List.{AllByRecursion, IsDistinct}
-use Rattle.std.specs.Map.{keys_of, lookup}
-use Rattle.std.proofs.lemmas.Bool.{leb-true}
-use Rattle.std.proofs.lemmas.Map.Keys.{IsDistinct-head, IsDistinct-tail}
+use Rattle.std.{proofs.Common.{ℕ, ◌≡◌, ◌<◌, ◌≤◌, Bool, true, false, cond, ◌||◌, List, [], ◌∷◌, ◌++◌, length, zero, suc, max, Some, None, refl, sym, ◌∙◌, ap, ap₂, subst, inl, inr, arith}, proofs.lemmas.List.length-map, specs.Prelude.{slice_get, map, nat_lt, is_some, if◌then◌else◌}, specs.List.{AllByRecursion, IsDistinct}, specs.Map.{keys_of, lookup}, proofs.lemmas.Bool.leb-true, proofs.lemmas.Map.Keys.{IsDistinct-head, IsDistinct-tail}}
 use Rattle.indexmap.specs.IndexMap.{insert_entry, set_value_at}
-use Rattle.definitions.specs.Characters.{same_text}
-use Rattle.definitions.specs.Blocks.{is_named, is_accepted}
-use Rattle.definitions.specs.Settled.{BlockChange, NoChange, Opens, Closes}
-use Rattle.definitions.specs.Lengths.{BlockLength}
-use Rattle.definitions.specs.Laws.States.{Effect, lengths_behind, lengths_advanced}
-use Rattle.definitions.proofs.TextLaws.{same_text_tells}
+use Rattle.definitions.{specs.Characters.same_text, specs.Blocks.{is_named, is_accepted}, specs.Settled.{BlockChange, NoChange, Opens, Closes}, specs.Lengths.BlockLength, specs.Laws.States.{Effect, lengths_behind, lengths_advanced}, proofs.TextLaws.same_text_tells}
 use Rattle.use_blocks.specs.Joins.BlockLengths.{block_names, has_name, lengths_shown, opened_by, reaching}
 
 -- a block of this name, and so many words

@@ -1,20 +1,8 @@
 -- The rows of a deck in a map, and where they are found there.
-use Rattle.std.proofs.Common.{◌≡◌, ◌+◌, ℕ, Bool, true, false, cond, List, [], ◌∷◌, ◌++◌, Option, Some, None, length, refl, sym, ap, subst, append_assoc, arith, ◌∙◌}
-use Rattle.std.specs.Prelude.{map, if◌then◌else◌}
-use Rattle.std.specs.Cmp.{IsEquivalence}
-use Rattle.std.specs.Cmp.Lexicographic.{options_equiv}
-use Rattle.std.specs.List.{AllByRecursion, IsDistinct}
-use Rattle.std.specs.Map.{keys_of, lookup, values_of}
-use Rattle.std.specs.Option.{option_eq, option_map_or}
-use Rattle.std.proofs.lemmas.List.{append-nil}
-use Rattle.std.proofs.lemmas.Map.Keys.{IsDistinct-cons, IsDistinct-head, IsDistinct-tail}
+use Rattle.std.{proofs.Common.{◌≡◌, ◌+◌, ℕ, Bool, true, false, cond, List, [], ◌∷◌, ◌++◌, Option, Some, None, length, refl, sym, ap, subst, append_assoc, arith, ◌∙◌}, specs.Prelude.{map, if◌then◌else◌}, specs.Cmp.IsEquivalence, specs.Cmp.Lexicographic.options_equiv, specs.List.{AllByRecursion, IsDistinct}, specs.Map.{keys_of, lookup, values_of}, specs.Option.{option_eq, option_map_or}, proofs.lemmas.List.append-nil, proofs.lemmas.Map.Keys.{IsDistinct-cons, IsDistinct-head, IsDistinct-tail}}
 use Rattle.indexmap.specs.IndexMap.{insert_entry}
-use Rattle.definitions.specs.Blocks.{literals_block}
-use Rattle.definitions.specs.Characters.{same_text}
-use Rattle.definitions.specs.Lengths.{BlockLength, BlockRow, base_in, local_words, placed_row, rows_from, rows_of, total_length}
-use Rattle.use_blocks.specs.Joins.BlockLengths.{lengths_shown}
-use Rattle.use_blocks.specs.Joins.KeyedRows.{KeyedRow, IsKeyed, AreKeyed, keyed_rows, literals_base}
-use Rattle.use_blocks.specs.Joins.NameKeys.{same_text_equivalence}
+use Rattle.definitions.specs.{Blocks.literals_block, Characters.same_text, Lengths.{BlockLength, BlockRow, base_in, local_words, placed_row, rows_from, rows_of, total_length}}
+use Rattle.use_blocks.specs.Joins.{BlockLengths.lengths_shown, KeyedRows.{KeyedRow, IsKeyed, AreKeyed, keyed_rows, literals_base}, NameKeys.same_text_equivalence}
 
 -- whether two rows stand under one key
 abbrev is_same_key : Option (List ℕ) → Option (List ℕ) → Bool

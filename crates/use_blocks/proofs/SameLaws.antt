@@ -1,6 +1,5 @@
 -- What the tests of names and relocations show.
-use Rattle.std.proofs.Common.{◌≡◌, ℕ, List, ap}
-use Rattle.std.specs.Bool.{Decides}
+use Rattle.std.{proofs.Common.{◌≡◌, ℕ, List, ap}, specs.Bool.Decides}
 use Rattle.definitions.specs.Forms.{Relocation, Block, External, same_relocation}
 use Rattle.expr_forms.proofs.NameLaws.{same_text-Decides}
 

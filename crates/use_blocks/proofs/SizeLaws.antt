@@ -1,29 +1,7 @@
 -- How many blocks, literals and words a deck has at most.
-use Rattle.std.proofs.Common.{ℕ, ◌≡◌, ◌+◌, ◌-◌, ◌*◌, ◌/◌, ◌<◌, ◌≤◌, ◌==◌, Bool, true, false, not, ◌&&◌, ◌||◌, List, [], ◌∷◌, ◌++◌, length, suc, max, Option, Some, None, Ok, Err, Result, refl, ap, subst, arith, length-append}
-use Rattle.std.proofs.lemmas.List.{length-map}
-use Rattle.std.proofs.lemmas.Bool.{leb-true, leb-false}
-use Rattle.std.proofs.lemmas.List.Elements.{All-from_recursion}
-use Rattle.std.specs.Prelude.{map, All, if◌then◌else◌, nat_lt, nat_le}
-use Rattle.std.specs.List.{AllByRecursion, list_any}
-use Rattle.definitions.specs.Characters.{same_text}
-use Rattle.definitions.specs.Kinds.{units, most_words}
-use Rattle.definitions.specs.Forms.{Form, is_absolute}
+use Rattle.std.{proofs.Common.{ℕ, ◌≡◌, ◌+◌, ◌-◌, ◌*◌, ◌/◌, ◌<◌, ◌≤◌, ◌==◌, Bool, true, false, not, ◌&&◌, ◌||◌, List, [], ◌∷◌, ◌++◌, length, suc, max, Option, Some, None, Ok, Err, Result, refl, ap, subst, arith, length-append}, proofs.lemmas.List.length-map, proofs.lemmas.Bool.{leb-true, leb-false}, proofs.lemmas.List.Elements.All-from_recursion, specs.Prelude.{map, All, if◌then◌else◌, nat_lt, nat_le}, specs.List.{AllByRecursion, list_any}}
+use Rattle.definitions.specs.{Characters.same_text, Kinds.{units, most_words}, Forms.{Form, is_absolute}, Operations.{Operation, has_place}, Operands.{Operand, UseName, UseBefore}, Statements.Statement, Counters.{Counters, counters_at}, Sizes.size_of, Settled.{ReadStatement, read_of, Settled, NoChange, Opens, Unchanged}, Blocks.{blocks_used, changes, with_opened, is_named, is_accepted, change_of}, EarlyValues.{Outcome, outcome_of, outcome_of_value, outcome_of_size, origin_outcome, origin_word, location_outcome, location_value, reserved_outcome, reserved, that_ends, in_words, stays_with, letter_of, early_names, early_value}, Settling.{Seen, seen_of, place_of, settle, settled_all, settled_with, is_run}, Lengths.{BlockLength, block_rows, lengths_of, length_of, literals_row, reached, rows_from, local_words, placed_row, total_length}, Literals.{literal_words, with_literals, with_word, operand_literals, literal_word}, Expressions.Literal, declared.deck_kind.DeckKind.DeckKind, declared.deck_kind.DeckKind.TheVariants.{Rel, Abs, Periph}, declared.letter.Letter.Letter}
 use Rattle.definitions.specs.Operations as op
-use Rattle.definitions.specs.Operations.{Operation, has_place}
-use Rattle.definitions.specs.Operands.{Operand, UseName, UseBefore}
-use Rattle.definitions.specs.Statements.{Statement}
-use Rattle.definitions.specs.Counters.{Counters, counters_at}
-use Rattle.definitions.specs.Sizes.{size_of}
-use Rattle.definitions.specs.Settled.{ReadStatement, read_of, Settled, NoChange, Opens, Unchanged}
-use Rattle.definitions.specs.Blocks.{blocks_used, changes, with_opened, is_named, is_accepted, change_of}
-use Rattle.definitions.specs.EarlyValues.{Outcome, outcome_of, outcome_of_value, outcome_of_size, origin_outcome, origin_word, location_outcome, location_value, reserved_outcome, reserved, that_ends, in_words, stays_with, letter_of, early_names, early_value}
-use Rattle.definitions.specs.Settling.{Seen, seen_of, place_of, settle, settled_all, settled_with, is_run}
-use Rattle.definitions.specs.Lengths.{BlockLength, block_rows, lengths_of, length_of, literals_row, reached, rows_from, local_words, placed_row, total_length}
-use Rattle.definitions.specs.Literals.{literal_words, with_literals, with_word, operand_literals, literal_word}
-use Rattle.definitions.specs.Expressions.{Literal}
-use Rattle.definitions.specs.declared.deck_kind.DeckKind.{DeckKind}
-use Rattle.definitions.specs.declared.deck_kind.DeckKind.TheVariants.{Rel, Abs, Periph}
-use Rattle.definitions.specs.declared.letter.Letter.{Letter}
 use Rattle.definitions.specs.declared.letter.Letter.TheVariants as letter
 
 -- blocks: a change opens one where it is accepted

@@ -1,21 +1,7 @@
 -- The stack of open blocks, and what makes blocks and a stack those of a state.
-use Rattle.std.proofs.Common.{ne_eqb, ◌==◌, ◌≡◌, ◌∙◌, ℕ, zero, suc, ◌+◌, ◌-◌, ◌<◌, ◌≤◌, Bool, true, false, ◌&&◌, List, [], ◌∷◌, ◌++◌, length, refl, sym, ap, ap₂, subst, arith, inl, inr, get_or, set, take, drop, length-append}
-use Rattle.std.specs.Prelude.{map, nat_lt, if◌then◌else◌}
-use Rattle.std.specs.Bool.{Decides}
-use Rattle.std.specs.List.{prefix_len}
-use Rattle.std.proofs.Math.Seq.{get_or-append_seam}
-use Rattle.std.proofs.lemmas.List.{get_or_append_left, length-map, map-append, take_more, take_all, get_or_default}
-use Rattle.std.proofs.lemmas.List.Sums.{prefix_len-le-length}
-use Rattle.std.proofs.lemmas.Bool.{lt-ltb}
-use Rattle.std.proofs.lemmas.Bool.Decides.{leb_tells, Decides-eqb}
-use Rattle.definitions.specs.DeckKinds.{or_number_base}
-use Rattle.definitions.specs.Settled.{BlockChange, NoChange, Opens, Closes}
-use Rattle.definitions.specs.Blocks.{nominal, block_in_use, is_named, is_accepted}
-use Rattle.definitions.specs.Laws.States.{UsedBlock, BlockState, Effect, fresh_block, block_named, block_behind, blocks_behind, names_behind, names_of_blocks, advanced}
-use Rattle.definitions.specs.declared.number_base.NumberBase.{NumberBase}
-use Rattle.use_blocks.specs.Joins.Changes.{changed, written}
-use Rattle.use_blocks.specs.Joins.StateInside.{block_at, name_at, opened_names, latest, AreDistinct, AreBelow, is_other, IsState}
-use Rattle.use_blocks.proofs.BlockLaws.{is_named-at, found-name, found-none, name_at-block, name_at-once, block_named-at, is_named-apart, block_behind-apart, names-behind, behind-at, distinct-pushed}
+use Rattle.std.{proofs.Common.{ne_eqb, ◌==◌, ◌≡◌, ◌∙◌, ℕ, zero, suc, ◌+◌, ◌-◌, ◌<◌, ◌≤◌, Bool, true, false, ◌&&◌, List, [], ◌∷◌, ◌++◌, length, refl, sym, ap, ap₂, subst, arith, inl, inr, get_or, set, take, drop, length-append}, specs.Prelude.{map, nat_lt, if◌then◌else◌}, specs.Bool.Decides, specs.List.prefix_len, proofs.Math.Seq.get_or-append_seam, proofs.lemmas.List.{get_or_append_left, length-map, map-append, take_more, take_all, get_or_default}, proofs.lemmas.List.Sums.prefix_len-le-length, proofs.lemmas.Bool.lt-ltb, proofs.lemmas.Bool.Decides.{leb_tells, Decides-eqb}}
+use Rattle.definitions.specs.{DeckKinds.or_number_base, Settled.{BlockChange, NoChange, Opens, Closes}, Blocks.{nominal, block_in_use, is_named, is_accepted}, Laws.States.{UsedBlock, BlockState, Effect, fresh_block, block_named, block_behind, blocks_behind, names_behind, names_of_blocks, advanced}, declared.number_base.NumberBase.NumberBase}
+use Rattle.use_blocks.{specs.Joins.Changes.{changed, written}, specs.Joins.StateInside.{block_at, name_at, opened_names, latest, AreDistinct, AreBelow, is_other, IsState}, proofs.BlockLaws.{is_named-at, found-name, found-none, name_at-block, name_at-once, block_named-at, is_named-apart, block_behind-apart, names-behind, behind-at, distinct-pushed}}
 
 -- a stack that is not empty is those below the latest, and the latest
 pub stack-latest : (stack : List ℕ) → 0 < length stack → stack ≡ take (length stack - 1) stack ++ latest stack ∷ []

@@ -1,10 +1,5 @@
 -- What is packed comes back.
-use Rattle.std.proofs.Common.{◌≡◌, ℕ, zero, suc, ◌+◌, ◌-◌, ◌*◌, ◌/◌, ◌%◌, ◌^◌, ◌<◌, ◌≤◌, List, [], ◌∷◌, ◌++◌, length, get_or, All, refl, sym, ap, ap₂, subst, ◌∙◌, arith, length-append, true, false, nat_lt}
-use Rattle.std.proofs.Math.Nat.{mul_comm}
-use Rattle.std.proofs.lemmas.Bool.{ltb-true, ltb-false}
-use Rattle.std.proofs.lemmas.Nat.{pow-add, shr-shr, shr_below, div-mul-add, mod-mul-add, mod_below, mul-add-lt, div-add-mod'}
-use Rattle.std.proofs.lemmas.List.{get_or_append_left, get_or_push, get_or_default, same_lists}
-use Rattle.std.proofs.lemmas.List.Elements.{All-get_or, All-push}
+use Rattle.std.proofs.{Common.{◌≡◌, ℕ, zero, suc, ◌+◌, ◌-◌, ◌*◌, ◌/◌, ◌%◌, ◌^◌, ◌<◌, ◌≤◌, List, [], ◌∷◌, ◌++◌, length, get_or, All, refl, sym, ap, ap₂, subst, ◌∙◌, arith, length-append, true, false, nat_lt}, Math.Nat.mul_comm, lemmas.Bool.{ltb-true, ltb-false}, lemmas.Nat.{pow-add, shr-shr, shr_below, div-mul-add, mod-mul-add, mod_below, mul-add-lt, div-add-mod'}, lemmas.List.{get_or_append_left, get_or_push, get_or_default, same_lists}, lemmas.List.Elements.{All-get_or, All-push}}
 use Rattle.word_packing.specs.Packing.{digit_at, number_of, firsts, regrouped_at, packed, unpacked, Fit}
 
 -- so many items are so many

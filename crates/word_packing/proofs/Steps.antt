@@ -1,6 +1,5 @@
 -- The steps of taking digits.
-use Rattle.std.proofs.Common.{ℕ, ◌+◌, ◌*◌, ◌^◌, ◌<◌, ◌≤◌, arith}
-use Rattle.std.proofs.Math.Nat.{pow-le-pow_right}
+use Rattle.std.proofs.{Common.{ℕ, ◌+◌, ◌*◌, ◌^◌, ◌<◌, ◌≤◌, arith}, Math.Nat.pow-le-pow_right}
 
 -- a digit more has room below 2 ^ 64
 pub has_room : (word digit place : ℕ) → word < 16 ^ place → digit < 16 → place < 15 → word * 16 + digit < 2 ^ 64

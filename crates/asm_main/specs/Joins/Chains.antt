@@ -1,12 +1,7 @@
 -- Readers one after the other, and where a line of them stands (ours).
-use Rattle.std.specs.Prelude.{ℕ, ◌≡◌, ◌<◌, ◌≤◌, ◌+◌, ◌-◌, ◌^◌, ◌==◌, length, List, [], ◌∷◌, Bool, not, nat_le, Option, None, Some, Result, Ok, Err, min, take, drop, if◌then◌else◌}
-use Rattle.std.specs.Io.KnownBytes.{prepend_known, Consumes, Keeps}
+use Rattle.std.specs.{Prelude.{ℕ, ◌≡◌, ◌<◌, ◌≤◌, ◌+◌, ◌-◌, ◌^◌, ◌==◌, length, List, [], ◌∷◌, Bool, not, nat_le, Option, None, Some, Result, Ok, Err, min, take, drop, if◌then◌else◌}, Io.KnownBytes.{prepend_known, Consumes, Keeps}}
 use Rattle.text_ports.specs.Lines.{line_feed}
-use Rattle.asm_main.specs.declared.chained.Part.{Part}
-use Rattle.asm_main.specs.declared.chained.Chained.{Chained}
-use Rattle.asm_main.specs.declared.chained.LinePlace.{LinePlace}
-use Rattle.asm_main.specs.declared.chained.Turn.{Turn}
-use Rattle.asm_main.specs.declared.chained.Turn.TheVariants.{Read, Ended}
+use Rattle.asm_main.specs.declared.chained.{Part.Part, Chained.Chained, LinePlace.LinePlace, Turn.Turn, Turn.TheVariants.{Read, Ended}}
 
 -- whether a line is begun and not ended behind these bytes, which stand behind an open line or not
 abbrev pub is_open_behind : Bool → List ℕ → Bool

@@ -2,8 +2,7 @@
 use Rattle.std.specs.Prelude.{ℕ, ◌+◌, ◌-◌, ◌^◌, ◌==◌, ◌&&◌, List, [], ◌∷◌, Option, None, Some, codes, drop, if◌then◌else◌, length, min, nat_le}
 use Rattle.cards.specs.declared.card.CardFault.{CardFault}
 use Rattle.cards.specs.declared.card.CardFault.TheVariants as card
-use Rattle.asm_main.specs.declared.asm_fault.AsmFault.{AsmFault}
-use Rattle.asm_main.specs.declared.asm_fault.AsmFault.TheVariants.{OutOfMemory, DeckFull, NameTaken, TooManyDecks, ReadFault, BadLine, LastLineCut, WriteFault, BadName}
+use Rattle.asm_main.specs.declared.asm_fault.AsmFault.{AsmFault, TheVariants.{OutOfMemory, DeckFull, NameTaken, TooManyDecks, ReadFault, BadLine, LastLineCut, WriteFault, BadName}}
 
 -- what a character is that no card has, with which the rest of a line begins
 abbrev pub character_words : List ℕ → List ℕ

@@ -1,10 +1,8 @@
 -- Old decks as people have them, made into cards: a filter in front of the input (ours).
-use Rattle.std.specs.Prelude.{ℕ, ◌≡◌, ◌+◌, ◌-◌, ◌%◌, ◌==◌, ◌&&◌, List, [], ◌∷◌, ◌++◌, Bool, Option, None, Some, Result, Ok, Err, if◌then◌else◌, min, nat_le, nat_lt, not, replicate}
-use Rattle.std.specs.Io.KnownBytes.{Consumes, IsAtEnd, Keeps}
+use Rattle.std.specs.{Prelude.{ℕ, ◌≡◌, ◌+◌, ◌-◌, ◌%◌, ◌==◌, ◌&&◌, List, [], ◌∷◌, ◌++◌, Bool, Option, None, Some, Result, Ok, Err, if◌then◌else◌, min, nat_le, nat_lt, not, replicate}, Io.KnownBytes.{Consumes, IsAtEnd, Keeps}}
 use Rattle.definitions.specs.Characters.{blank}
 use Rattle.text_ports.specs.Lines.{line_feed}
-use Rattle.asm_main.specs.declared.filtered.Filter.{Filter}
-use Rattle.asm_main.specs.declared.filtered.Filtered.{Filtered}
+use Rattle.asm_main.specs.declared.filtered.{Filter.Filter, Filtered.Filtered}
 
 abbrev pub tab : ℕ
 tab = 9

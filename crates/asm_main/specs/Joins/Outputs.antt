@@ -1,7 +1,6 @@
 -- The texts of an output, and which go where (ours).
 use Rattle.std.specs.Prelude.{ℕ, List, [], ◌++◌, Bool, if◌then◌else◌}
-use Rattle.definitions.specs.Build.{image_of}
-use Rattle.definitions.specs.DeckInput.{Deck}
+use Rattle.definitions.specs.{Build.image_of, DeckInput.Deck}
 use Rattle.deck_linker.specs.Publishing.{listings, map_of}
 use Rattle.asm_main.specs.declared.texts.Chosen.{Chosen}
 

@@ -1,8 +1,7 @@
 -- The ways to the texts of decks (ours).
 use Rattle.std.specs.Prelude.{List}
 use Rattle.definitions.specs.DeckInput.{Deck}
-use Rattle.asm_main.specs.declared.built.Built.{Built}
-use Rattle.asm_main.specs.declared.built.Built.TheVariants.{Whole, InPieces}
+use Rattle.asm_main.specs.declared.built.Built.{Built, TheVariants.{Whole, InPieces}}
 
 -- the decks of either way
 abbrev pub decks_of : Built → List Deck

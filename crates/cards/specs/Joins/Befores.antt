@@ -1,7 +1,6 @@
 -- What stands before a card, in the words of the definitions.
 use Rattle.std.specs.Prelude.{◌+◌, List, not, ◌&&◌, Bool, nat_le, if◌then◌else◌}
-use Rattle.definitions.specs.Cards.{Card, is_comma_card, is_comment}
-use Rattle.definitions.specs.Statements.{comma_cards, has_owner}
+use Rattle.definitions.specs.{Cards.{Card, is_comma_card, is_comment}, Statements.{comma_cards, has_owner}}
 use Rattle.cards.specs.declared.statement_list.Before.{Before}
 
 -- what stands before a card that comes behind these, newest first

@@ -1,12 +1,7 @@
 -- Where the fields lie on a card, as parts of its text.
 use Rattle.std.specs.Prelude.{ℕ, ◌≡◌, List, [], ◌∷◌, take}
 use Rattle.definitions.specs.Fields.{fields_of}
-use Rattle.cards.specs.Joins.Columns.{IsPadded}
-use Rattle.cards.specs.Joins.FieldParts.{AreWithin, fields_at}
-use Rattle.cards.specs.declared.field_parts.Part.{Part}
-use Rattle.cards.specs.declared.field_parts.Parts.{Parts}
-use Rattle.cards.specs.declared.card_parts.CardPart.{CardPart}
-use Rattle.cards.specs.declared.card_parts.CardParts.{CardParts}
+use Rattle.cards.specs.{Joins.Columns.IsPadded, Joins.FieldParts.{AreWithin, fields_at}, declared.field_parts.Part.Part, declared.field_parts.Parts.Parts, declared.card_parts.CardPart.CardPart, declared.card_parts.CardParts.CardParts}
 
 -- the part of the text
 abbrev pub part_as : CardPart → Part

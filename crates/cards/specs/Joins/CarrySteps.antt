@@ -1,9 +1,6 @@
 -- How the code carries edits, one behind the other, at places that it keeps (ours).
 use Rattle.std.specs.Prelude.{◌≡◌, ◌≤◌, ◌<◌, ℕ, ◌+◌, ◌*◌, ◌^◌, List, [], ◌∷◌, ◌++◌, length, take, get_or, Result, Ok, Err}
-use Rattle.cards.specs.declared.edits.Edit.{Edit}
-use Rattle.cards.specs.declared.edits.Edit.TheVariants.{Insert, Replace, Remove}
-use Rattle.cards.specs.declared.carrying.Touched.{Touched}
-use Rattle.cards.specs.Carrying.{Whereabouts, stands_after, placed}
+use Rattle.cards.specs.{declared.edits.Edit.Edit, declared.edits.Edit.TheVariants.{Insert, Replace, Remove}, declared.carrying.Touched.Touched, Carrying.{Whereabouts, stands_after, placed}}
 
 -- where the sender's cards stand once edits of his are made at these places of now
 abbrev pub stands_through : List Edit → List ℕ → Whereabouts → Whereabouts

@@ -1,8 +1,7 @@
 -- Fields as parts of a statement's text.
 use Rattle.std.specs.Prelude.{ℕ, ◌+◌, ◌-◌, ◌≤◌, List, [], nat_lt, length, take, drop, if◌then◌else◌}
 use Rattle.definitions.specs.Fields.{Fields}
-use Rattle.cards.specs.declared.field_parts.Part.{Part}
-use Rattle.cards.specs.declared.field_parts.Parts.{Parts}
+use Rattle.cards.specs.declared.field_parts.{Part.Part, Parts.Parts}
 
 -- the three fields
 abbrev pub FieldTexts : Type 0

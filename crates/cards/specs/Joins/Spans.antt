@@ -1,7 +1,6 @@
 -- Statements as spans of a deck's cards.
 use Rattle.std.specs.Prelude.{ℕ, ◌-◌, ◌+◌, ◌<◌, ◌≤◌, List, [], ◌∷◌, ◌++◌, take, drop, map, nat_lt, if◌then◌else◌}
-use Rattle.definitions.specs.Cards.{Card}
-use Rattle.definitions.specs.Statements.{Statement}
+use Rattle.definitions.specs.{Cards.Card, Statements.Statement}
 use Rattle.cards.specs.declared.statement_list.Span.{Span}
 
 -- the statement that a span of these cards is

@@ -1,23 +1,9 @@
 -- Where an edited deck agrees again with the one before it, so that all that is left stays as it was sized.
 use Rattle.std.specs.Prelude.{ℕ, ◌≡◌, ◌≤◌, ◌-◌, ⊤, ◌++◌, Bool, true, false, List, [], ◌∷◌, Option, drop, length, reverse}
-use Rattle.definitions.specs.Cards.{Card}
-use Rattle.definitions.specs.Forms.{Form}
-use Rattle.definitions.specs.Operands.{Operand, NamesOperand}
-use Rattle.definitions.specs.Settled.{ReadStatement, defined}
-use Rattle.definitions.specs.Settling.{View, settle, settled_all}
-use Rattle.definitions.specs.Statements.{Statement, cards_in}
-use Rattle.definitions.specs.Laws.States.{state_after}
-use Rattle.definitions.specs.Laws.Agreement.{Agree, early_symbols, lawful_names}
-use Rattle.definitions.specs.declared.deck_kind.DeckKind.{DeckKind}
+use Rattle.definitions.specs.{Cards.Card, Forms.Form, Operands.{Operand, NamesOperand}, Settled.{ReadStatement, defined}, Settling.{View, settle, settled_all}, Statements.{Statement, cards_in}, Laws.States.state_after, Laws.Agreement.{Agree, early_symbols, lawful_names}, declared.deck_kind.DeckKind.DeckKind}
 use Rattle.statement_coder.specs.declared.definitions_made.Defines as code
 use Rattle.statement_coder.specs.declared.definitions_made.Defines.TheVariants as defines
-use Rattle.deck_assembler.specs.Joins.DeckParts.{sized_in}
-use Rattle.deck_assembler.specs.Joins.FirstSymbols.{symbol_in}
-use Rattle.deck_assembler.specs.Joins.Formers.{known_in}
-use Rattle.deck_assembler.specs.Joins.SizedDecks.{IsSizedStatement, AreSizedFrom}
-use Rattle.deck_assembler.specs.declared.early_trial.Trial.{Trial}
-use Rattle.deck_assembler.specs.declared.old_deck.OldDeck.{OldDeck}
-use Rattle.deck_assembler.specs.declared.sized_statement.SizedStatement.{SizedStatement}
+use Rattle.deck_assembler.specs.{Joins.DeckParts.sized_in, Joins.FirstSymbols.symbol_in, Joins.Formers.known_in, Joins.SizedDecks.{IsSizedStatement, AreSizedFrom}, declared.early_trial.Trial.Trial, declared.old_deck.OldDeck.OldDeck, declared.sized_statement.SizedStatement.SizedStatement}
 
 -- whether names are defined as externals
 abbrev pub is_externals : code.Defines → Bool

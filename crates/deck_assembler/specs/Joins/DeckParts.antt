@@ -1,9 +1,6 @@
 -- What a record keeps of a deck's statements, as contracts see it.
 use Rattle.std.specs.Prelude.{ℕ, List, flat_map}
-use Rattle.definitions.specs.Forms.{Form}
-use Rattle.definitions.specs.Lengths.{BlockLength}
-use Rattle.definitions.specs.Laws.States.{BlockState}
-use Rattle.definitions.specs.declared.deck_kind.DeckKind.{DeckKind}
+use Rattle.definitions.specs.{Forms.Form, Lengths.BlockLength, Laws.States.BlockState, declared.deck_kind.DeckKind.DeckKind}
 use Rattle.deck_assembler.specs.declared.sized_statement.SizedStatement.{SizedStatement}
 
 -- some statements in order, and the state before the first of them

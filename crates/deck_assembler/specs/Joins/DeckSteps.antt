@@ -1,18 +1,7 @@
 -- What one statement more makes of the lines and the names of a deck, and of the count of what is coded.
 use Rattle.std.specs.Prelude.{ℕ, ◌≡◌, ◌+◌, ◌-◌, ◌^◌, List, ◌∷◌, Option, Some, false, true, drop, min}
-use Rattle.definitions.specs.Laws.Rebound.{is_rebound}
-use Rattle.definitions.specs.Settling.{settle, settled_all}
-use Rattle.definitions.specs.StatementItems.{Context}
-use Rattle.definitions.specs.Statements.{Statement}
-use Rattle.deck_assembler.specs.Joins.FormerLines.{IsNextLine, IsWalkedBeside}
-use Rattle.deck_assembler.specs.Joins.Rebindings.{AreBindings}
-use Rattle.deck_assembler.specs.Joins.SizedDecks.{IsSizedStatement}
-use Rattle.deck_assembler.specs.Joins.Walks.{IsWhole, context_in, whole_of}
-use Rattle.deck_assembler.specs.declared.deck_view.DeckView.{DeckView}
-use Rattle.deck_assembler.specs.declared.deck_walk.Making.{Making}
-use Rattle.deck_assembler.specs.declared.former_lines.FormerLine.{FormerLine}
-use Rattle.deck_assembler.specs.declared.former_lines.FormerLines.{FormerLines}
-use Rattle.deck_assembler.specs.declared.sized_statement.SizedStatement.{SizedStatement}
+use Rattle.definitions.specs.{Laws.Rebound.is_rebound, Settling.{settle, settled_all}, StatementItems.Context, Statements.Statement}
+use Rattle.deck_assembler.specs.{Joins.FormerLines.{IsNextLine, IsWalkedBeside}, Joins.Rebindings.AreBindings, Joins.SizedDecks.IsSizedStatement, Joins.Walks.{IsWhole, context_in, whole_of}, declared.deck_view.DeckView.DeckView, declared.deck_walk.Making.Making, declared.former_lines.FormerLine.FormerLine, declared.former_lines.FormerLines.FormerLines, declared.sized_statement.SizedStatement.SizedStatement}
 
 -- a walk over a deck that is viewed comes past this statement, for which this line was found in the object before, or none
 abbrev pub GoesPast : DeckView → SizedStatement → Option FormerLine → Making → Making → Type 0

@@ -1,12 +1,7 @@
 -- How far a walk over the statements of a deck has come.
 use Rattle.std.specs.Prelude.{ℕ, ◌≡◌, ◌++◌, List, [], map, drop, reverse}
-use Rattle.definitions.specs.Objects.{Shown, shown_of, only_listed}
-use Rattle.definitions.specs.Statements.{Statement}
-use Rattle.deck_assembler.specs.Joins.SizedDecks.{AreSizedFrom, AreListedFrom}
-use Rattle.deck_assembler.specs.declared.sized_statement.SizedStatement.{SizedStatement}
-use Rattle.deck_assembler.specs.Joins.Walks.{Whole, all_settled, context_in, AreLined, AreLinedAs, AreNoted}
-use Rattle.deck_assembler.specs.declared.deck_lines.DeckLines.{DeckLines}
-use Rattle.deck_assembler.specs.declared.deck_walk.Making.{Making}
+use Rattle.definitions.specs.{Objects.{Shown, shown_of, only_listed}, Statements.Statement}
+use Rattle.deck_assembler.specs.{Joins.SizedDecks.{AreSizedFrom, AreListedFrom}, declared.sized_statement.SizedStatement.SizedStatement, Joins.Walks.{Whole, all_settled, context_in, AreLined, AreLinedAs, AreNoted}, declared.deck_lines.DeckLines.DeckLines, declared.deck_walk.Making.Making}
 
 -- some statements up to END are behind, newest first, and those to come were sized as those that are left
 pub record IsWalked (whole : Whole) (left : List SizedStatement) (made : Making) : Type 0 where

@@ -1,23 +1,7 @@
 -- How many statements of an edited deck are coded again, where the lines of the object before are taken over.
 use Rattle.std.specs.Prelude.{ℕ, ◌≡◌, ◌+◌, ◌^◌, ◌<◌, ◌≤◌, ◌⊎◌, nat_lt, nat_le, Bool, true, false, not, ◌||◌, List, [], ◌∷◌, ◌++◌, drop, length, reverse}
-use Rattle.definitions.specs.Cards.{Card}
-use Rattle.definitions.specs.Laws.Edits.{Edited, IsUntouched}
-use Rattle.definitions.specs.DeckKinds.{kind_of_statements}
-use Rattle.definitions.specs.Laws.Rebound.{context_from, is_rebound}
-use Rattle.definitions.specs.Settled.{Settled}
-use Rattle.definitions.specs.Settling.{settled_all}
-use Rattle.definitions.specs.StatementItems.{Context}
-use Rattle.definitions.specs.Statements.{Statement}
-use Rattle.definitions.specs.declared.deck_kind.DeckKind.{DeckKind}
-use Rattle.deck_assembler.specs.Joins.FormerLines.{AreBeside, AreOfTail}
-use Rattle.deck_assembler.specs.Joins.Formers.{known_in}
-use Rattle.deck_assembler.specs.Joins.SizedDecks.{AreSizedFrom}
-use Rattle.deck_assembler.specs.Joins.Sizers.{stood}
-use Rattle.deck_assembler.specs.Joins.Tails.{StandBeforeTail}
-use Rattle.deck_assembler.specs.Joins.Walks.{Whole, context_in}
-use Rattle.deck_assembler.specs.declared.former.Former.{Former}
-use Rattle.deck_assembler.specs.declared.former_lines.FormerLines.{FormerLines}
-use Rattle.deck_assembler.specs.declared.sized_statement.SizedStatement.{SizedStatement}
+use Rattle.definitions.specs.{Cards.Card, Laws.Edits.{Edited, IsUntouched}, DeckKinds.kind_of_statements, Laws.Rebound.{context_from, is_rebound}, Settled.Settled, Settling.settled_all, StatementItems.Context, Statements.Statement, declared.deck_kind.DeckKind.DeckKind}
+use Rattle.deck_assembler.specs.{Joins.FormerLines.{AreBeside, AreOfTail}, Joins.Formers.known_in, Joins.SizedDecks.AreSizedFrom, Joins.Sizers.stood, Joins.Tails.StandBeforeTail, Joins.Walks.{Whole, context_in}, declared.former.Former.Former, declared.former_lines.FormerLines.FormerLines, declared.sized_statement.SizedStatement.SizedStatement}
 
 -- one where it is so
 abbrev pub one_where : Bool → ℕ

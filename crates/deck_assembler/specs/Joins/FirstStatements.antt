@@ -1,11 +1,7 @@
 -- The statements of spans of cards that stand in front of a span, and those up to END among them.
 use Rattle.std.specs.Prelude.{ℕ, ◌≡◌, ◌≤◌, List, take, drop, map, length, reverse}
-use Rattle.cards.specs.Joins.Spans.{statements_at}
-use Rattle.cards.specs.declared.statement_list.Span.{Span}
-use Rattle.definitions.specs.Cards.{Card}
-use Rattle.definitions.specs.DeckKinds.{up_to_end, behind_end}
-use Rattle.definitions.specs.Fields.{Fields, fields_of}
-use Rattle.definitions.specs.Statements.{Statement}
+use Rattle.cards.specs.{Joins.Spans.statements_at, declared.statement_list.Span.Span}
+use Rattle.definitions.specs.{Cards.Card, DeckKinds.{up_to_end, behind_end}, Fields.{Fields, fields_of}, Statements.Statement}
 
 -- the statements of the first so many spans, newest first
 abbrev pub first_statements : List Card → List Span → ℕ → List Statement

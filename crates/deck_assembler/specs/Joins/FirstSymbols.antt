@@ -1,13 +1,6 @@
 -- The first definition of each symbol, by the number that its name is.
-use Rattle.std.specs.Prelude.{ℕ, ⊤, ◌&&◌, nat_lt, nat_eq, Bool, List, [], ◌∷◌, Option, Some, None, if◌then◌else◌}
-use Rattle.std.specs.Int.{w64, from_be_bytes}
-use Rattle.std.specs.List.{AllByRecursion, list_all}
-use Rattle.std.specs.Map.{lookup}
-use Rattle.definitions.specs.Characters.{same_text}
-use Rattle.definitions.specs.Forms.{Form}
-use Rattle.definitions.specs.Operands.{Operand, NamesOperand}
-use Rattle.definitions.specs.Settled.{or_form}
-use Rattle.definitions.specs.Settling.{View, external}
+use Rattle.std.specs.{Prelude.{ℕ, ⊤, ◌&&◌, nat_lt, nat_eq, Bool, List, [], ◌∷◌, Option, Some, None, if◌then◌else◌}, Int.{w64, from_be_bytes}, List.{AllByRecursion, list_all}, Map.lookup}
+use Rattle.definitions.specs.{Characters.same_text, Forms.Form, Operands.{Operand, NamesOperand}, Settled.or_form, Settling.{View, external}}
 use Rattle.statement_coder.specs.Joins.Readings.{IsLawfulName}
 use Rattle.statement_coder.specs.declared.definitions_made.Defines as code
 use Rattle.statement_coder.specs.declared.definitions_made.Defines.TheVariants as defines

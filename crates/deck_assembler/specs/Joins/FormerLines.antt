@@ -1,29 +1,8 @@
 -- The lines of the object before an edit, beside a walk over the statements of the edited deck.
 use Rattle.std.specs.Prelude.{ℕ, ◌≡◌, ⊤, ◌≤◌, ◌+◌, ◌-◌, ◌^◌, ◌⊎◌, List, [], ◌∷◌, ◌++◌, Option, Some, None, map, min, take, drop, reverse}
-use Rattle.definitions.specs.Cards.{Card}
-use Rattle.definitions.specs.Objects.{Shown, shown_of, only_listed, coded_of}
-use Rattle.definitions.specs.Settled.{Settled}
-use Rattle.definitions.specs.Settling.{settle, settled_all}
-use Rattle.definitions.specs.StatementItems.{Context}
-use Rattle.definitions.specs.Statements.{Statement}
-use Rattle.definitions.specs.Laws.Agreement.{unnumbered}
-use Rattle.definitions.specs.declared.deck_kind.DeckKind.{DeckKind}
-use Rattle.deck_objects.specs.Joins.CodedLines.{IsCoded, AreShown}
-use Rattle.deck_objects.specs.declared.lines.Line.{Line}
-use Rattle.deck_objects.specs.declared.object.ObjectParts.{ObjectParts}
-use Rattle.deck_assembler.specs.Joins.DeckWalks.{IsWalked}
-use Rattle.deck_assembler.specs.Joins.Heads.{AreHeadLines, cards_of_lines}
-use Rattle.deck_assembler.specs.Joins.Rebindings.{AreBindings}
-use Rattle.deck_assembler.specs.Joins.Sizers.{stood}
-use Rattle.deck_assembler.specs.Joins.TailLines.{AreAlikeOn, lines_behind}
-use Rattle.deck_assembler.specs.Joins.Walks.{Whole}
-use Rattle.deck_assembler.specs.declared.deck_view.DeckView.{DeckView}
-use Rattle.deck_assembler.specs.declared.deck_walk.Making.{Making}
-use Rattle.deck_assembler.specs.declared.former.Former.{Former}
-use Rattle.deck_assembler.specs.declared.former_lines.FormerLine.{FormerLine}
-use Rattle.deck_assembler.specs.declared.former_lines.FormerLines.{FormerLines}
-use Rattle.deck_assembler.specs.declared.rebinding.Bindings.{Bindings}
-use Rattle.deck_assembler.specs.declared.sized_statement.SizedStatement.{SizedStatement}
+use Rattle.definitions.specs.{Cards.Card, Objects.{Shown, shown_of, only_listed, coded_of}, Settled.Settled, Settling.{settle, settled_all}, StatementItems.Context, Statements.Statement, Laws.Agreement.unnumbered, declared.deck_kind.DeckKind.DeckKind}
+use Rattle.deck_objects.specs.{Joins.CodedLines.{IsCoded, AreShown}, declared.lines.Line.Line, declared.object.ObjectParts.ObjectParts}
+use Rattle.deck_assembler.specs.{Joins.DeckWalks.IsWalked, Joins.Heads.{AreHeadLines, cards_of_lines}, Joins.Rebindings.AreBindings, Joins.Sizers.stood, Joins.TailLines.{AreAlikeOn, lines_behind}, Joins.Walks.Whole, declared.deck_view.DeckView.DeckView, declared.deck_walk.Making.Making, declared.former.Former.Former, declared.former_lines.FormerLine.FormerLine, declared.former_lines.FormerLines.FormerLines, declared.rebinding.Bindings.Bindings, declared.sized_statement.SizedStatement.SizedStatement}
 
 -- the same tail, fields and names
 pub record IsSameTail (old new : FormerLines) : Type 0 where

@@ -1,13 +1,7 @@
 -- What is needed of the deck before an edit.
 use Rattle.std.specs.Prelude.{◌≡◌, List, reverse}
-use Rattle.definitions.specs.Cards.{Card}
-use Rattle.definitions.specs.DeckKinds.{up_to_end, kind_of_statements}
-use Rattle.definitions.specs.Literals.{literal_words}
-use Rattle.definitions.specs.Settled.{defined}
-use Rattle.definitions.specs.Settling.{settled_all}
-use Rattle.definitions.specs.Statements.{Statement, statements_of}
-use Rattle.deck_assembler.specs.Joins.FirstSymbols.{symbol_in}
-use Rattle.deck_assembler.specs.declared.former.Former.{Former}
+use Rattle.definitions.specs.{Cards.Card, DeckKinds.{up_to_end, kind_of_statements}, Literals.literal_words, Settled.defined, Settling.settled_all, Statements.{Statement, statements_of}}
+use Rattle.deck_assembler.specs.{Joins.FirstSymbols.symbol_in, declared.former.Former.Former}
 
 -- the statements of a deck up to END, newest first
 abbrev pub known_in : List Card → List Statement

@@ -1,27 +1,10 @@
 -- The neutral statements in front of an edited card, which stay in a deck of another kind but for their two counters.
-use Rattle.std.specs.Prelude.{ℕ, ◌≡◌, ⊤, ◌+◌, ◌≤◌, true, List, [], ◌∷◌, ◌++◌, Some, None, take, length}
-use Rattle.std.specs.List.{AllByRecursion}
-use Rattle.definitions.specs.Blocks.{nominal}
-use Rattle.definitions.specs.Cards.{Card}
-use Rattle.definitions.specs.Counters.{counters_at}
-use Rattle.definitions.specs.DeckKinds.{kind_of_statements}
-use Rattle.definitions.specs.Laws.Edits.{Edited, IsUntouched}
-use Rattle.definitions.specs.Forms.{Form}
-use Rattle.definitions.specs.Operations.{is_neutral}
-use Rattle.definitions.specs.Statements.{Statement}
-use Rattle.definitions.specs.declared.deck_kind.DeckKind.{DeckKind}
+use Rattle.std.specs.{Prelude.{ℕ, ◌≡◌, ⊤, ◌+◌, ◌≤◌, true, List, [], ◌∷◌, ◌++◌, Some, None, take, length}, List.AllByRecursion}
+use Rattle.definitions.specs.{Blocks.nominal, Cards.Card, Counters.counters_at, DeckKinds.kind_of_statements, Laws.Edits.{Edited, IsUntouched}, Forms.Form, Operations.is_neutral, Statements.Statement, declared.deck_kind.DeckKind.DeckKind}
 use Rattle.operations.specs.Joins.OperationsAs.{operation_as}
-use Rattle.deck_objects.specs.declared.lines.CodedLine.{CodedLine}
-use Rattle.deck_objects.specs.declared.lines.Line.{Line}
-use Rattle.deck_assembler.specs.Joins.Agreements.{left}
-use Rattle.deck_assembler.specs.Joins.DeckParts.{DeckPiece, sized_in}
-use Rattle.deck_assembler.specs.Joins.Formers.{known_in}
-use Rattle.deck_assembler.specs.Joins.Meetings.{cards_of, IsShort}
-use Rattle.deck_assembler.specs.Joins.OldDecks.{IsKeptOn, StandsInFront}
-use Rattle.deck_assembler.specs.declared.old_deck.OldCards.{OldCards}
-use Rattle.deck_assembler.specs.declared.old_deck.OldDeck.{OldDeck}
+use Rattle.deck_objects.specs.declared.lines.{CodedLine.CodedLine, Line.Line}
+use Rattle.deck_assembler.specs.{Joins.Agreements.left, Joins.DeckParts.{DeckPiece, sized_in}, Joins.Formers.known_in, Joins.Meetings.{cards_of, IsShort}, Joins.OldDecks.{IsKeptOn, StandsInFront}, declared.old_deck.OldCards.OldCards, declared.old_deck.OldDeck.OldDeck, declared.sized_statement.SizedStatement.SizedStatement}
 use Rattle.deck_assembler.specs.declared.old_deck.Stage.TheVariants as stages
-use Rattle.deck_assembler.specs.declared.sized_statement.SizedStatement.{SizedStatement}
 
 -- both counters of a neutral statement, in front of which stand neutral ones alone
 abbrev pub counter_of : DeckKind → Form

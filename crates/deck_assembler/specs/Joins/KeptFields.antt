@@ -1,20 +1,8 @@
 -- The fields of a statement, as a line keeps them.
 use Rattle.std.specs.Prelude.{ℕ, ◌≡◌, ◌≤◌, ◌<◌, ◌+◌, ◌^◌, List, [], ◌∷◌, Bool, true, false, length}
-use Rattle.definitions.specs.Layout.{Layout, Based}
-use Rattle.definitions.specs.LinkLines.{unfit_words}
-use Rattle.definitions.specs.Operands.{Operand}
-use Rattle.definitions.specs.StatementItems.{Item}
-use Rattle.definitions.specs.Words.{Linking, width_of, joined}
-use Rattle.definitions.specs.declared.deck_kind.DeckKind.{DeckKind}
+use Rattle.definitions.specs.{Layout.{Layout, Based}, LinkLines.unfit_words, Operands.Operand, StatementItems.Item, Words.{Linking, width_of, joined}, declared.deck_kind.DeckKind.DeckKind, Settled.Settled, Settling.View, Laws.Filling.{HasFields, DoFill}}
 use Rattle.statement_coder.specs.declared.items.Item as code
-use Rattle.definitions.specs.Settled.{Settled}
-use Rattle.definitions.specs.Settling.{View}
-use Rattle.statement_coder.specs.Joins.CodedItems.{AreTold, zeros_of, is_zeros, stores_zeros}
-use Rattle.statement_coder.specs.Joins.Sizings.{IsSizing}
-use Rattle.statement_coder.specs.Joins.WordItems.{listed_fields}
-use Rattle.statement_coder.specs.declared.coded.CodedItems.{CodedItems}
-use Rattle.statement_coder.specs.declared.sizing.Sizing.{Sizing}
-use Rattle.definitions.specs.Laws.Filling.{HasFields, DoFill}
+use Rattle.statement_coder.specs.{Joins.CodedItems.{AreTold, zeros_of, is_zeros, stores_zeros}, Joins.Sizings.IsSizing, Joins.WordItems.listed_fields, declared.coded.CodedItems.CodedItems, declared.sizing.Sizing.Sizing}
 use Rattle.deck_objects.specs.Joins.LineItems.{listed, AreShort}
 use Rattle.deck_objects.specs.declared.lines.LineFields as kept
 use Rattle.deck_objects.specs.declared.lines.LineFields.TheVariants as fields

@@ -1,13 +1,8 @@
 -- The literals of what was read in a variable field.
 use Rattle.std.specs.Prelude.{ℕ, ◌≡◌, Bool, true, false, List, [], flat_map}
-use Rattle.definitions.specs.Expressions.{Literal}
-use Rattle.definitions.specs.Literals.{literals_in, operand_literals, value_literals}
-use Rattle.definitions.specs.Operands.{BitField, Operand}
+use Rattle.definitions.specs.{Expressions.Literal, Literals.{literals_in, operand_literals, value_literals}, Operands.{BitField, Operand}, Operations.Operation, Settling.View}
 use Rattle.definitions.specs.Operations as op
-use Rattle.definitions.specs.Operations.{Operation}
-use Rattle.definitions.specs.Settling.{View}
-use Rattle.deck_assembler.specs.Joins.FirstSymbols.{with_names, IsLawfulOperand}
-use Rattle.deck_assembler.specs.Joins.SharedNames.{with_new_of}
+use Rattle.deck_assembler.specs.Joins.{FirstSymbols.{with_names, IsLawfulOperand}, SharedNames.with_new_of}
 use Rattle.expr_forms.specs.Joins.Kept.{field_of}
 use Rattle.expr_forms.specs.declared.shapes.Field as code
 use Rattle.expr_forms.specs.declared.shapes.Field.TheVariants as field

@@ -1,28 +1,9 @@
 -- Where an old deck and an edited one are found to agree again, found from a place where they do.
-use Rattle.std.specs.Prelude.{ℕ, ◌≡◌, ◌+◌, ◌<◌, ◌≤◌, ◌⊎◌, List, [], ◌∷◌, ◌++◌, Option, None, false, length, map, reverse}
-use Rattle.std.specs.List.{AllByRecursion}
-use Rattle.cards.specs.Joins.Spans.{statement_at}
-use Rattle.cards.specs.declared.statement_list.Span.{Span}
-use Rattle.definitions.specs.Cards.{Card}
-use Rattle.definitions.specs.DeckKinds.{has_end}
-use Rattle.definitions.specs.Laws.Edits.{Edited}
-use Rattle.definitions.specs.Settled.{defined}
-use Rattle.definitions.specs.Settling.{settled_all}
-use Rattle.definitions.specs.Statements.{Statement, statements_of}
-use Rattle.definitions.specs.Laws.States.{state_after}
-use Rattle.definitions.specs.declared.deck_kind.DeckKind.{DeckKind}
-use Rattle.deck_assembler.specs.Joins.Agreements.{left, HasFront, StandAlike}
-use Rattle.deck_assembler.specs.Joins.DeckParts.{DeckPiece, sized_in}
-use Rattle.deck_assembler.specs.Joins.FirstSymbols.{symbol_in}
-use Rattle.deck_assembler.specs.Joins.FirstStatements.{all_statements}
-use Rattle.deck_assembler.specs.Joins.Formers.{known_in}
-use Rattle.deck_assembler.specs.Joins.OldDecks.{IsOnSpan}
-use Rattle.deck_assembler.specs.Joins.Sizers.{stood}
-use Rattle.deck_assembler.specs.declared.old_deck.OldDeck.{OldDeck}
-use Rattle.deck_assembler.specs.declared.old_deck.Stage.{Stage}
+use Rattle.std.specs.{Prelude.{ℕ, ◌≡◌, ◌+◌, ◌<◌, ◌≤◌, ◌⊎◌, List, [], ◌∷◌, ◌++◌, Option, None, false, length, map, reverse}, List.AllByRecursion}
+use Rattle.cards.specs.{Joins.Spans.statement_at, declared.statement_list.Span.Span}
+use Rattle.definitions.specs.{Cards.Card, DeckKinds.has_end, Laws.Edits.Edited, Settled.defined, Settling.settled_all, Statements.{Statement, statements_of}, Laws.States.state_after, declared.deck_kind.DeckKind.DeckKind}
+use Rattle.deck_assembler.specs.{Joins.Agreements.{left, HasFront, StandAlike}, Joins.DeckParts.{DeckPiece, sized_in}, Joins.FirstSymbols.symbol_in, Joins.FirstStatements.all_statements, Joins.Formers.known_in, Joins.OldDecks.IsOnSpan, Joins.Sizers.stood, declared.old_deck.OldDeck.OldDeck, declared.old_deck.Stage.Stage, declared.sized_statement.SizedStatement.SizedStatement, declared.sizer.Sizer.Sizer}
 use Rattle.deck_assembler.specs.declared.old_deck.Stage.TheVariants as stages
-use Rattle.deck_assembler.specs.declared.sized_statement.SizedStatement.{SizedStatement}
-use Rattle.deck_assembler.specs.declared.sizer.Sizer.{Sizer}
 
 -- how many cards statements have that were sized
 abbrev pub cards_of : List SizedStatement → ℕ

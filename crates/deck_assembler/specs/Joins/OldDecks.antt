@@ -1,22 +1,9 @@
 -- The old deck beside the statements of an edited one that were taken.
 use Rattle.std.specs.Prelude.{ℕ, ◌≡◌, ⊤, ◌≤◌, ◌<◌, ◌+◌, List, [], ◌∷◌, ◌++◌, Option, true, is_some, take, drop, length, reverse}
-use Rattle.cards.specs.Joins.Spans.{statement_at}
-use Rattle.cards.specs.declared.statement_list.Span.{Span}
-use Rattle.definitions.specs.Cards.{Card}
-use Rattle.definitions.specs.Laws.Edits.{Edited, IsUntouched}
-use Rattle.definitions.specs.Statements.{Statement}
-use Rattle.definitions.specs.declared.deck_kind.DeckKind.{DeckKind}
-use Rattle.deck_assembler.specs.Joins.Agreements.{left, HasFront, HaveSameEnd}
-use Rattle.deck_assembler.specs.Joins.Formers.{known_in}
-use Rattle.deck_assembler.specs.Joins.SizedDecks.{IsSizedStatement, AreSizedFrom}
-use Rattle.deck_assembler.specs.Joins.Sizers.{stood, ahead, IsNext, IsSizer}
-use Rattle.deck_assembler.specs.Joins.Tails.{AreKeptAlike, HaveOneTail}
-use Rattle.deck_assembler.specs.Stays.{IsAsBefore}
-use Rattle.deck_assembler.specs.declared.old_deck.OldDeck.{OldDeck}
-use Rattle.deck_assembler.specs.declared.old_deck.Stage.{Stage}
+use Rattle.cards.specs.{Joins.Spans.statement_at, declared.statement_list.Span.Span}
+use Rattle.definitions.specs.{Cards.Card, Laws.Edits.{Edited, IsUntouched}, Statements.Statement, declared.deck_kind.DeckKind.DeckKind}
+use Rattle.deck_assembler.specs.{Joins.Agreements.{left, HasFront, HaveSameEnd}, Joins.Formers.known_in, Joins.SizedDecks.{IsSizedStatement, AreSizedFrom}, Joins.Sizers.{stood, ahead, IsNext, IsSizer}, Joins.Tails.{AreKeptAlike, HaveOneTail}, Stays.IsAsBefore, declared.old_deck.OldDeck.OldDeck, declared.old_deck.Stage.Stage, declared.sized_statement.SizedStatement.SizedStatement, declared.sizer.Sizer.Sizer}
 use Rattle.deck_assembler.specs.declared.old_deck.Stage.TheVariants as stages
-use Rattle.deck_assembler.specs.declared.sized_statement.SizedStatement.{SizedStatement}
-use Rattle.deck_assembler.specs.declared.sizer.Sizer.{Sizer}
 
 -- statements in order are sized behind these of a deck, and so many of its cards stood before them
 abbrev pub AreKeptFrom : DeckKind → List Card → List Statement → ℕ → List SizedStatement → Type 0

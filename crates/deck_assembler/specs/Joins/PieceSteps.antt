@@ -1,8 +1,7 @@
 -- One statement more in the pieces of a deck, which are read newest first.
 use Rattle.std.specs.Prelude.{ℕ, ◌++◌, List, [], ◌∷◌, Bool, true, not, nat_lt, length, reverse, if◌then◌else◌}
 use Rattle.definitions.specs.Laws.States.{BlockState}
-use Rattle.deck_assembler.specs.Joins.DeckParts.{DeckPiece}
-use Rattle.deck_assembler.specs.declared.sized_statement.SizedStatement.{SizedStatement}
+use Rattle.deck_assembler.specs.{Joins.DeckParts.DeckPiece, declared.sized_statement.SizedStatement.SizedStatement}
 
 -- how many statements a piece has at most
 abbrev pub most_statements : ℕ

@@ -1,31 +1,9 @@
 -- What a walk over the statements of a deck makes of its lines, and counts, whatever deck it is.
 use Rattle.std.specs.Prelude.{ℕ, ◌≡◌, ◌+◌, ◌-◌, ◌^◌, ◌≤◌, List, [], ◌∷◌, ◌++◌, Option, Some, true, false, drop, min, reverse}
-use Rattle.definitions.specs.Cards.{Card}
-use Rattle.definitions.specs.DeckInput.{Deck}
-use Rattle.definitions.specs.Laws.Rebound.{context_from, is_rebound}
-use Rattle.definitions.specs.Objects.{object_of}
-use Rattle.definitions.specs.Settling.{settle, settled_all}
-use Rattle.definitions.specs.StatementItems.{Context}
-use Rattle.definitions.specs.Statements.{Statement}
-use Rattle.definitions.specs.declared.deck_kind.DeckKind.{DeckKind}
-use Rattle.statement_coder.specs.Meters.{Counts}
-use Rattle.statement_coder.specs.Joins.ReadOperands.{IsReadOperand}
-use Rattle.statement_coder.specs.declared.read_operands.ReadOperand.{ReadOperand}
-use Rattle.deck_objects.specs.Joins.PartsOf.{ArePartsOf}
-use Rattle.deck_objects.specs.declared.object.ObjectParts.{ObjectParts}
-use Rattle.deck_assembler.specs.Joins.DeckWalks.{IsDone}
-use Rattle.deck_assembler.specs.Joins.DueCodes.{CodePlan, IsDueBeside, IsPlanned, IsWalkedAnew, IsWalkedDue, RisesRebound, RisesReboundOf, code_due_in, code_due_of}
-use Rattle.deck_assembler.specs.Joins.FormerLines.{IsBeside, IsWalkedBeside, WasLineIfAny}
-use Rattle.deck_assembler.specs.Joins.Formers.{known_in}
-use Rattle.deck_assembler.specs.Joins.Rebindings.{AreBindings}
-use Rattle.deck_assembler.specs.Joins.SizedDecks.{IsSizedStatement}
-use Rattle.deck_assembler.specs.Joins.Walks.{AreLined, IsWhole, context_in, has_row, whole_of}
-use Rattle.deck_assembler.specs.declared.deck_lines.DeckLines.{DeckLines}
-use Rattle.deck_assembler.specs.declared.deck_view.DeckView.{DeckView}
-use Rattle.deck_assembler.specs.declared.deck_walk.Making.{Making}
-use Rattle.deck_assembler.specs.declared.former_lines.FormerLine.{FormerLine}
-use Rattle.deck_assembler.specs.declared.former_lines.FormerLines.{FormerLines}
-use Rattle.deck_assembler.specs.declared.sized_statement.SizedStatement.{SizedStatement}
+use Rattle.definitions.specs.{Cards.Card, DeckInput.Deck, Laws.Rebound.{context_from, is_rebound}, Objects.object_of, Settling.{settle, settled_all}, StatementItems.Context, Statements.Statement, declared.deck_kind.DeckKind.DeckKind}
+use Rattle.statement_coder.specs.{Meters.Counts, Joins.ReadOperands.IsReadOperand, declared.read_operands.ReadOperand.ReadOperand}
+use Rattle.deck_objects.specs.{Joins.PartsOf.ArePartsOf, declared.object.ObjectParts.ObjectParts}
+use Rattle.deck_assembler.specs.{Joins.DeckWalks.IsDone, Joins.DueCodes.{CodePlan, IsDueBeside, IsPlanned, IsWalkedAnew, IsWalkedDue, RisesRebound, RisesReboundOf, code_due_in, code_due_of}, Joins.FormerLines.{IsBeside, IsWalkedBeside, WasLineIfAny}, Joins.Formers.known_in, Joins.Rebindings.AreBindings, Joins.SizedDecks.IsSizedStatement, Joins.Walks.{AreLined, IsWhole, context_in, has_row, whole_of}, declared.deck_lines.DeckLines.DeckLines, declared.deck_view.DeckView.DeckView, declared.deck_walk.Making.Making, declared.former_lines.FormerLine.FormerLine, declared.former_lines.FormerLines.FormerLines, declared.sized_statement.SizedStatement.SizedStatement}
 
 -- the lines of a deck that is viewed have that of this statement too, whose operand was read, and for which this line was found in the object before, or none
 abbrev pub PutsLine : DeckView → ReadOperand → SizedStatement → Option FormerLine → DeckLines → DeckLines → Type 0

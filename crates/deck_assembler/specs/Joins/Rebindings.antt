@@ -1,22 +1,11 @@
 -- What a statement reads once all names have their values, and whether it has another value in the deck before an edit.
 use Rattle.std.specs.Prelude.{◌≡◌, Bool, not, List, [], ◌∷◌, ◌++◌, flat_map}
-use Rattle.definitions.specs.Expressions.{Element, LocationCounter, elements_of}
-use Rattle.definitions.specs.Forms.{Form, Names, element_form}
-use Rattle.definitions.specs.Lengths.{BlockRow}
-use Rattle.definitions.specs.Literals.{literal_form}
-use Rattle.definitions.specs.Operands.{BitField}
-use Rattle.definitions.specs.Operations.{Operation}
-use Rattle.definitions.specs.Laws.Rebound.{value_elements, datum_elements, name_elements, same_value}
-use Rattle.definitions.specs.Settled.{Settled, defined}
-use Rattle.definitions.specs.StatementItems.{Context}
-use Rattle.definitions.specs.declared.deck_kind.DeckKind.TheVariants.{Rel}
+use Rattle.definitions.specs.{Expressions.{Element, LocationCounter, elements_of}, Forms.{Form, Names, element_form}, Lengths.BlockRow, Literals.literal_form, Operands.BitField, Operations.Operation, Laws.Rebound.{value_elements, datum_elements, name_elements, same_value}, Settled.{Settled, defined}, StatementItems.Context, declared.deck_kind.DeckKind.TheVariants.Rel}
 use Rattle.expr_forms.specs.declared.shapes.Field as code
 use Rattle.expr_forms.specs.declared.shapes.Field.TheVariants as field
 use Rattle.statement_coder.specs.declared.readings.Reading as readings
 use Rattle.statement_coder.specs.declared.readings.Reading.TheVariants as reading
-use Rattle.deck_assembler.specs.Joins.FirstSymbols.{symbol_in}
-use Rattle.deck_assembler.specs.declared.rebinding.Bindings.{Bindings}
-use Rattle.deck_assembler.specs.declared.rebinding.Rebinding.{Rebinding}
+use Rattle.deck_assembler.specs.{Joins.FirstSymbols.symbol_in, declared.rebinding.Bindings.Bindings, declared.rebinding.Rebinding.Rebinding}
 
 -- what a statement with these two counters sees of a deck
 abbrev pub names_in : Bindings → Form → Form → Names

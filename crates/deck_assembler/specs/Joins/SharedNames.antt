@@ -1,15 +1,7 @@
 -- Entries and externals, as they are found in the order of the deck.
-use Rattle.std.specs.Prelude.{ℕ, ◌≡◌, ◌∷◌, ◌++◌, List, [], Bool, true, false, Option, Some, None, is_some, map, nat_eq, if◌then◌else◌}
-use Rattle.std.specs.Map.{lookup, values_of}
-use Rattle.definitions.specs.Forms.{Form}
-use Rattle.definitions.specs.Operands.{Operand, NamesOperand}
+use Rattle.std.specs.{Prelude.{ℕ, ◌≡◌, ◌∷◌, ◌++◌, List, [], Bool, true, false, Option, Some, None, is_some, map, nat_eq, if◌then◌else◌}, Map.{lookup, values_of}}
+use Rattle.definitions.specs.{Forms.Form, Operands.{Operand, NamesOperand}, Operations.Operation, Entries.entries_among, Settled.{Settled, Definition, defined_in}, Settling.{View, external}, declared.deck_kind.DeckKind.DeckKind, declared.deck_kind.DeckKind.TheVariants.Periph}
 use Rattle.definitions.specs.Operations as op
-use Rattle.definitions.specs.Operations.{Operation}
-use Rattle.definitions.specs.Entries.{entries_among}
-use Rattle.definitions.specs.Settled.{Settled, Definition, defined_in}
-use Rattle.definitions.specs.Settling.{View, external}
-use Rattle.definitions.specs.declared.deck_kind.DeckKind.{DeckKind}
-use Rattle.definitions.specs.declared.deck_kind.DeckKind.TheVariants.{Periph}
 use Rattle.statement_coder.specs.declared.definitions_made.Defines as code
 use Rattle.statement_coder.specs.declared.definitions_made.Defines.TheVariants as defines
 use Rattle.deck_assembler.specs.Joins.FirstSymbols.{symbol_in, with_symbol}

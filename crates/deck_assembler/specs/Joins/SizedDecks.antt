@@ -1,21 +1,9 @@
 -- When what is kept of a deck is what its cards make.
 use Rattle.std.specs.Prelude.{ℕ, ◌≡◌, ⊤, ◌+◌, ◌<◌, ◌≤◌, List, [], ◌∷◌, ◌++◌, IfSome, true, take, drop, length, reverse}
-use Rattle.definitions.specs.Cards.{Card}
-use Rattle.definitions.specs.DeckKinds.{up_to_end, behind_end, kind_of_statements}
-use Rattle.definitions.specs.Entries.{externals_of}
-use Rattle.definitions.specs.Lengths.{lengths_of}
-use Rattle.definitions.specs.Literals.{literal_words, operand_literals}
-use Rattle.definitions.specs.Settled.{defined}
-use Rattle.definitions.specs.Settling.{settle, settled_all, number_base_of}
-use Rattle.definitions.specs.Statements.{Statement, statements_of}
-use Rattle.definitions.specs.Laws.States.{state_after}
-use Rattle.definitions.specs.declared.deck_kind.DeckKind.{DeckKind}
+use Rattle.definitions.specs.{Cards.Card, DeckKinds.{up_to_end, behind_end, kind_of_statements}, Entries.externals_of, Lengths.lengths_of, Literals.{literal_words, operand_literals}, Settled.defined, Settling.{settle, settled_all, number_base_of}, Statements.{Statement, statements_of}, Laws.States.state_after, declared.deck_kind.DeckKind.DeckKind}
 use Rattle.operations.specs.Joins.OperationsAs.{operation_as}
-use Rattle.statement_coder.specs.Joins.KeptReadings.{IsKeptReading}
-use Rattle.statement_coder.specs.Joins.Sizings.{IsSizing}
-use Rattle.deck_assembler.specs.Joins.DeckParts.{DeckPiece, DeckParts, sized_in}
-use Rattle.deck_assembler.specs.Joins.FirstSymbols.{symbol_in}
-use Rattle.deck_assembler.specs.declared.sized_statement.SizedStatement.{SizedStatement}
+use Rattle.statement_coder.specs.Joins.{KeptReadings.IsKeptReading, Sizings.IsSizing}
+use Rattle.deck_assembler.specs.{Joins.DeckParts.{DeckPiece, DeckParts, sized_in}, Joins.FirstSymbols.symbol_in, declared.sized_statement.SizedStatement.SizedStatement}
 
 -- a statement behind these, newest first, was sized; its cards are the next of those ahead, and so many stood before them
 pub record IsSizedStatement (deck_kind : DeckKind) (earlier : List Statement) (stood : ℕ) (ahead : List Card) (sized : SizedStatement) (statement : Statement) : Type 0 where

@@ -1,26 +1,9 @@
 -- The first statements of a deck, sized; all lists are read newest first.
-use Rattle.std.specs.Prelude.{ℕ, ◌≡◌, ⊤, ◌<◌, ◌≤◌, List, [], ◌∷◌, drop, length, reverse}
-use Rattle.std.specs.List.{AllByRecursion}
-use Rattle.definitions.specs.Cards.{Card}
-use Rattle.definitions.specs.Entries.{externals_of}
-use Rattle.definitions.specs.Lengths.{lengths_of}
-use Rattle.definitions.specs.Blocks.{block_in_use}
-use Rattle.definitions.specs.Literals.{literal_words, operand_literals, with_literals}
-use Rattle.definitions.specs.Operands.{Operand}
-use Rattle.definitions.specs.Settled.{defined}
-use Rattle.definitions.specs.Settling.{settled_all}
-use Rattle.definitions.specs.Statements.{Statement, cards_in}
-use Rattle.definitions.specs.Laws.States.{Effect, state_after, advanced, lengths_advanced, names_of_blocks}
-use Rattle.definitions.specs.declared.deck_kind.DeckKind.{DeckKind}
+use Rattle.std.specs.{Prelude.{ℕ, ◌≡◌, ⊤, ◌<◌, ◌≤◌, List, [], ◌∷◌, drop, length, reverse}, List.AllByRecursion}
+use Rattle.definitions.specs.{Cards.Card, Entries.externals_of, Lengths.lengths_of, Blocks.block_in_use, Literals.{literal_words, operand_literals, with_literals}, Operands.Operand, Settled.defined, Settling.settled_all, Statements.{Statement, cards_in}, Laws.States.{Effect, state_after, advanced, lengths_advanced, names_of_blocks}, declared.deck_kind.DeckKind.DeckKind}
 use Rattle.statement_coder.specs.declared.definitions_made.Defines.{Defines}
 use Rattle.use_blocks.specs.Joins.BlockLengths.{block_names}
-use Rattle.deck_assembler.specs.Joins.DeckParts.{DeckPiece}
-use Rattle.deck_assembler.specs.Joins.FirstSymbols.{symbol_in, with_defined, IsLawfulOperand}
-use Rattle.deck_assembler.specs.Joins.PieceSteps.{most_statements, sized_newest}
-use Rattle.deck_assembler.specs.Joins.SharedNames.{with_new_by}
-use Rattle.deck_assembler.specs.Joins.SizedDecks.{IsSizedStatement, IsListedStatement}
-use Rattle.deck_assembler.specs.declared.sized_statement.SizedStatement.{SizedStatement}
-use Rattle.deck_assembler.specs.declared.sizer.Sizer.{Sizer}
+use Rattle.deck_assembler.specs.{Joins.DeckParts.DeckPiece, Joins.FirstSymbols.{symbol_in, with_defined, IsLawfulOperand}, Joins.PieceSteps.{most_statements, sized_newest}, Joins.SharedNames.with_new_by, Joins.SizedDecks.{IsSizedStatement, IsListedStatement}, declared.sized_statement.SizedStatement.SizedStatement, declared.sizer.Sizer.Sizer}
 
 -- how many cards stand before the next statement
 abbrev pub stood : List Statement → ℕ

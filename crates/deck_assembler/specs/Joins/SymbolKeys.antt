@@ -1,7 +1,5 @@
 -- The names of symbols as one number (COMPASS 60492600, names; the number is ours).
-use Rattle.std.specs.Prelude.{ℕ, ◌-◌, ◌==◌, nat_lt, nat_le, Bool, not, ◌&&◌, List, ◌++◌, length, replicate, Option, Some, None, if◌then◌else◌}
-use Rattle.std.specs.Int.{w64, from_be_bytes}
-use Rattle.std.specs.List.{list_all}
+use Rattle.std.specs.{Prelude.{ℕ, ◌-◌, ◌==◌, nat_lt, nat_le, Bool, not, ◌&&◌, List, ◌++◌, length, replicate, Option, Some, None, if◌then◌else◌}, Int.{w64, from_be_bytes}, List.list_all}
 use Rattle.deck_assembler.specs.declared.symbol_key.SymbolKey.{SymbolKey}
 
 -- 1 to 8 characters, none of them a blank

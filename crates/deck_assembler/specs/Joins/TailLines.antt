@@ -1,7 +1,6 @@
 -- The lines of a tail that stayed as it was sized, in the order of the deck.
 use Rattle.std.specs.Prelude.{ℕ, zero, suc, ◌-◌, ⊤, List, [], ◌∷◌}
-use Rattle.definitions.specs.Statements.{Statement}
-use Rattle.definitions.specs.declared.deck_kind.DeckKind.{DeckKind}
+use Rattle.definitions.specs.{Statements.Statement, declared.deck_kind.DeckKind.DeckKind}
 use Rattle.deck_objects.specs.declared.lines.Line.{Line}
 use Rattle.deck_assembler.specs.Joins.Tails.{IsSettledAlike}
 

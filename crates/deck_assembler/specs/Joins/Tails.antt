@@ -1,17 +1,8 @@
 -- The statements behind an edited card that stay as they were sized, and those of the old deck that they are.
 use Rattle.std.specs.Prelude.{ℕ, ◌≡◌, ⊤, ◌+◌, ◌<◌, ◌≤◌, ◌⊎◌, List, [], ◌∷◌, ◌++◌, length, take}
 use Rattle.cards.specs.Joins.Spans.{statement_at}
-use Rattle.definitions.specs.Cards.{Card}
-use Rattle.definitions.specs.DeckKinds.{kind_of_statements}
-use Rattle.definitions.specs.Laws.Edits.{Split}
-use Rattle.definitions.specs.Settling.{settle, settled_all}
-use Rattle.definitions.specs.Statements.{Statement}
-use Rattle.definitions.specs.Laws.Agreement.{unnumbered}
-use Rattle.definitions.specs.declared.deck_kind.DeckKind.{DeckKind}
-use Rattle.deck_assembler.specs.Joins.Formers.{known_in}
-use Rattle.deck_assembler.specs.Joins.Sizers.{stood}
-use Rattle.deck_assembler.specs.declared.former.Former.{Former}
-use Rattle.deck_assembler.specs.declared.sized_statement.SizedStatement.{SizedStatement}
+use Rattle.definitions.specs.{Cards.Card, DeckKinds.kind_of_statements, Laws.Edits.Split, Settling.{settle, settled_all}, Statements.Statement, Laws.Agreement.unnumbered, declared.deck_kind.DeckKind.DeckKind}
+use Rattle.deck_assembler.specs.{Joins.Formers.known_in, Joins.Sizers.stood, declared.former.Former.Former, declared.sized_statement.SizedStatement.SizedStatement}
 
 -- a statement is settled behind some others as one of an old deck is behind others, but for the number of cards before it
 abbrev pub IsSettledAlike : DeckKind → List Statement → Statement → List Statement → Statement → Type 0

@@ -1,26 +1,10 @@
 -- What taking the statements of an edited deck beside an old one makes, and counts.
 use Rattle.std.specs.Prelude.{ℕ, ◌≡◌, ◌≤◌, ◌<◌, ◌+◌, ◌-◌, ◌^◌, ◌⊎◌, List, [], ◌∷◌, length, min}
-use Rattle.cards.specs.Joins.Spans.{statement_at}
-use Rattle.cards.specs.declared.statement_list.Span.{Span}
-use Rattle.definitions.specs.Cards.{Card}
-use Rattle.definitions.specs.DeckKinds.{kind_of_statements, up_to_end}
-use Rattle.definitions.specs.Laws.Edits.{DoAgree, Edited, IsUntouched, Split}
-use Rattle.definitions.specs.Statements.{Statement}
-use Rattle.definitions.specs.declared.deck_kind.DeckKind.{DeckKind}
+use Rattle.cards.specs.{Joins.Spans.statement_at, declared.statement_list.Span.Span}
+use Rattle.definitions.specs.{Cards.Card, DeckKinds.{kind_of_statements, up_to_end}, Laws.Edits.{DoAgree, Edited, IsUntouched, Split}, Statements.Statement, declared.deck_kind.DeckKind.DeckKind}
 use Rattle.statement_coder.specs.Meters.{Counts, RisesBy}
-use Rattle.deck_assembler.specs.Joins.DeckParts.{DeckParts}
-use Rattle.deck_assembler.specs.Joins.FirstStatements.{all_statements, first_statements, IsEnding}
-use Rattle.deck_assembler.specs.Joins.Formers.{known_in, IsFormerOf}
-use Rattle.deck_assembler.specs.Joins.Meetings.{IsBounded, IsNextKnown, StandApart, WillAgree}
-use Rattle.deck_assembler.specs.Joins.OldDecks.{GoesOn, IsKeptOn, IsOnSpan, StandsInFront}
-use Rattle.deck_assembler.specs.Joins.SizedDecks.{IsSizedDeck}
-use Rattle.deck_assembler.specs.Joins.Sizers.{IsSizer}
-use Rattle.deck_assembler.specs.Joins.Tails.{HasTailIfAny, HasTailWithin}
-use Rattle.deck_assembler.specs.Stays.{IsCountedOrStays, RisesAnew}
-use Rattle.deck_assembler.specs.declared.former.Former.{Former}
-use Rattle.deck_assembler.specs.declared.old_deck.OldDeck.{OldDeck}
+use Rattle.deck_assembler.specs.{Joins.DeckParts.DeckParts, Joins.FirstStatements.{all_statements, first_statements, IsEnding}, Joins.Formers.{known_in, IsFormerOf}, Joins.Meetings.{IsBounded, IsNextKnown, StandApart, WillAgree}, Joins.OldDecks.{GoesOn, IsKeptOn, IsOnSpan, StandsInFront}, Joins.SizedDecks.IsSizedDeck, Joins.Sizers.IsSizer, Joins.Tails.{HasTailIfAny, HasTailWithin}, Stays.{IsCountedOrStays, RisesAnew}, declared.former.Former.Former, declared.old_deck.OldDeck.OldDeck, declared.sizer.Sizer.Sizer}
 use Rattle.deck_assembler.specs.declared.old_deck.Stage.TheVariants as stages
-use Rattle.deck_assembler.specs.declared.sizer.Sizer.{Sizer}
 
 -- an old deck of some cards goes on with none of the statements of these taken
 abbrev pub HasOld : DeckKind → List Card → OldDeck → Type 0

@@ -1,25 +1,9 @@
 -- The statements of a deck, one after the other, and the lines that show them.
-use Rattle.std.specs.Prelude.{ℕ, ◌≡◌, ◌≤◌, ◌+◌, List, [], ◌∷◌, Bool, true, false, map, drop, length, reverse}
-use Rattle.std.specs.List.{list_any}
-use Rattle.definitions.specs.Cards.{Card}
-use Rattle.definitions.specs.Characters.{same_text}
-use Rattle.definitions.specs.Expressions.{Literal, OfNumber}
-use Rattle.definitions.specs.Lengths.{BlockRow, block_rows}
-use Rattle.definitions.specs.Objects.{Shown, shown_of}
-use Rattle.definitions.specs.Settled.{Settled, Definition}
-use Rattle.definitions.specs.Settling.{settled_all}
-use Rattle.definitions.specs.StatementItems.{Context}
-use Rattle.definitions.specs.Statements.{Statement}
-use Rattle.definitions.specs.Symbols.{TooGreat}
-use Rattle.definitions.specs.declared.deck_kind.DeckKind.{DeckKind}
+use Rattle.std.specs.{Prelude.{ℕ, ◌≡◌, ◌≤◌, ◌+◌, List, [], ◌∷◌, Bool, true, false, map, drop, length, reverse}, List.list_any}
+use Rattle.definitions.specs.{Cards.Card, Characters.same_text, Expressions.{Literal, OfNumber}, Lengths.{BlockRow, block_rows}, Objects.{Shown, shown_of}, Settled.{Settled, Definition}, Settling.settled_all, StatementItems.Context, Statements.Statement, Symbols.TooGreat, declared.deck_kind.DeckKind.DeckKind}
 use Rattle.statement_coder.specs.declared.items.Item as code
-use Rattle.deck_objects.specs.Joins.CodedLines.{IsShown}
-use Rattle.deck_objects.specs.declared.lines.Line.{Line}
-use Rattle.deck_assembler.specs.Joins.DeckParts.{DeckParts}
-use Rattle.deck_assembler.specs.Joins.SizedDecks.{IsSizedUp}
-use Rattle.deck_assembler.specs.Joins.SharedNames.{entries_to}
-use Rattle.deck_assembler.specs.declared.deck_lines.DeckLines.{DeckLines}
-use Rattle.deck_assembler.specs.declared.deck_view.DeckView.{DeckView}
+use Rattle.deck_objects.specs.{Joins.CodedLines.IsShown, declared.lines.Line.Line}
+use Rattle.deck_assembler.specs.{Joins.DeckParts.DeckParts, Joins.SizedDecks.IsSizedUp, Joins.SharedNames.entries_to, declared.deck_lines.DeckLines.DeckLines, declared.deck_view.DeckView.DeckView}
 
 -- whether a literal is a number that is too great
 abbrev pub is_too_great : Literal → Bool

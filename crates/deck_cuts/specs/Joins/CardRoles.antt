@@ -1,11 +1,7 @@
 -- What a card is to the decks, in the words of the definitions.
 use Rattle.std.specs.Prelude.{ℕ, List, [], ◌∷◌, if◌then◌else◌, length, nat_le}
-use Rattle.definitions.specs.Cards.{Card}
-use Rattle.definitions.specs.Fields.{fields_of}
-use Rattle.definitions.specs.DeckInput.{Deck, Input, Decks, Faulty, NameTaken, TooManyDecks, is_deck_name, name_on, is_taken, most_decks}
-use Rattle.deck_cuts.specs.Cuts.{begins_deck}
-use Rattle.deck_cuts.specs.declared.cutting.CardRole.{CardRole}
-use Rattle.deck_cuts.specs.declared.cutting.CardRole.TheVariants.{Begins, Misnamed, Continues}
+use Rattle.definitions.specs.{Cards.Card, Fields.fields_of, DeckInput.{Deck, Input, Decks, Faulty, NameTaken, TooManyDecks, is_deck_name, name_on, is_taken, most_decks}}
+use Rattle.deck_cuts.specs.{Cuts.begins_deck, declared.cutting.CardRole.CardRole, declared.cutting.CardRole.TheVariants.{Begins, Misnamed, Continues}}
 
 -- the role of an IDENT card, by the name on it
 abbrev pub role_by_name : List ℕ → CardRole

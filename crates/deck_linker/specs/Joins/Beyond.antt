@@ -1,18 +1,8 @@
 -- Whether statements store words at or behind the end of their memory, by the places that their fields reach.
-use Rattle.std.specs.Prelude.{ℕ, ◌+◌, ◌-◌, ◌/◌, List, [], ◌∷◌, Some, None, Bool, true, false, not, ◌&&◌, ◌||◌, nat_lt, nat_le, length, slice_get}
-use Rattle.std.specs.List.{list_any}
-use Rattle.definitions.specs.Blocks.{is_common, literals_block}
-use Rattle.definitions.specs.Characters.{same_text}
-use Rattle.definitions.specs.Kinds.{memory_end, units}
-use Rattle.definitions.specs.Lengths.{BlockRow}
-use Rattle.definitions.specs.StatementItems.{Item}
-use Rattle.definitions.specs.Words.{Coded}
-use Rattle.definitions.specs.declared.deck_kind.DeckKind.{DeckKind}
-use Rattle.deck_objects.specs.declared.lines.CodedLine.{CodedLine}
-use Rattle.deck_objects.specs.declared.lines.Line.{Line}
-use Rattle.deck_objects.specs.declared.lines.LineFields.{LineFields}
+use Rattle.std.specs.{Prelude.{ℕ, ◌+◌, ◌-◌, ◌/◌, List, [], ◌∷◌, Some, None, Bool, true, false, not, ◌&&◌, ◌||◌, nat_lt, nat_le, length, slice_get}, List.list_any}
+use Rattle.definitions.specs.{Blocks.{is_common, literals_block}, Characters.same_text, Kinds.{memory_end, units}, Lengths.BlockRow, StatementItems.Item, Words.Coded, declared.deck_kind.DeckKind.DeckKind}
+use Rattle.deck_objects.specs.declared.{lines.CodedLine.CodedLine, lines.Line.Line, lines.LineFields.LineFields, object.ObjectParts.ObjectParts}
 use Rattle.deck_objects.specs.declared.lines.LineFields.TheVariants as fields
-use Rattle.deck_objects.specs.declared.object.ObjectParts.{ObjectParts}
 
 -- whether the word before an end lies at or behind the end of memory, in a block that stands at a base
 abbrev pub reaches_beyond : DeckKind → ℕ → ℕ → Bool

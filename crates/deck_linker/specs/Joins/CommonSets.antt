@@ -1,8 +1,6 @@
 -- Common blocks in a set: two are equal where their names are, and then they are hashed alike.
-use Rattle.std.specs.Prelude.{ℕ, ◌≡◌, List, Bool, true}
-use Rattle.std.specs.Cmp.{IsEquivalence, on_equiv}
-use Rattle.definitions.specs.Characters.{same_text}
-use Rattle.definitions.specs.Layout.{Common}
+use Rattle.std.specs.{Prelude.{ℕ, ◌≡◌, List, Bool, true}, Cmp.{IsEquivalence, on_equiv}}
+use Rattle.definitions.specs.{Characters.same_text, Layout.Common}
 use Rattle.use_blocks.specs.Joins.NameKeys.{alone, alone_same, same_text_equivalence}
 
 -- the name of a common block

@@ -1,16 +1,7 @@
 -- The words of the common blocks of a link, as the code gathers them: a list for each, in their order.
-use Rattle.std.specs.Prelude.{ℕ, ◌≡◌, ◌^◌, List, [], Option, Some, Bool, Vec, length, map, slice_get, if◌then◌else◌}
-use Rattle.std.specs.List.{list_any, position_from}
-use Rattle.std.specs.Option.{is_some}
-use Rattle.definitions.specs.Characters.{same_text}
-use Rattle.definitions.specs.Image.{common_words}
-use Rattle.definitions.specs.Lengths.{BlockRow}
-use Rattle.definitions.specs.Layout.{Based, Common, Layout}
-use Rattle.definitions.specs.LinkValues.{linking_of}
-use Rattle.definitions.specs.Words.{StoredWord, stored_words}
-use Rattle.deck_listing.specs.Joins.Laying.{with_all_stored, over_all}
-use Rattle.deck_listing.specs.Joins.Filling.{DoSpansRise, as_stored}
-use Rattle.deck_listing.specs.declared.packing.word_spans.WordSpan.{WordSpan}
+use Rattle.std.specs.{Prelude.{ℕ, ◌≡◌, ◌^◌, List, [], Option, Some, Bool, Vec, length, map, slice_get, if◌then◌else◌}, List.{list_any, position_from}, Option.is_some}
+use Rattle.definitions.specs.{Characters.same_text, Image.common_words, Lengths.BlockRow, Layout.{Based, Common, Layout}, LinkValues.linking_of, Words.{StoredWord, stored_words}}
+use Rattle.deck_listing.specs.{Joins.Laying.{with_all_stored, over_all}, Joins.Filling.{DoSpansRise, as_stored}, declared.packing.word_spans.WordSpan.WordSpan}
 use Rattle.deck_linker.specs.Joins.Placing.{names_of_commons}
 
 -- where the first common block of a name stands among others

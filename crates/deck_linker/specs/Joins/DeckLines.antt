@@ -1,8 +1,6 @@
 -- The LINK lines of decks, from a set of the names that earlier decks enter.
 use Rattle.std.specs.Prelude.{ℕ, List, [], ◌∷◌, ◌++◌, flat_map, reverse}
-use Rattle.definitions.specs.Layout.{Layout, Based, Common}
-use Rattle.definitions.specs.LinkValues.{entry_names}
-use Rattle.definitions.specs.LinkLines.{doubled_lines, missing_lines, unfit_addresses, past_lines}
+use Rattle.definitions.specs.{Layout.{Layout, Based, Common}, LinkValues.entry_names, LinkLines.{doubled_lines, missing_lines, unfit_addresses, past_lines}}
 use Rattle.deck_linker.specs.Joins.Names.{with_entries}
 
 -- the LINK lines of a deck, where earlier decks enter some names

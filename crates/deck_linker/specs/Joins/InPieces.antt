@@ -1,19 +1,8 @@
 -- Decks whose texts are made part by part, each when it is written (ours).
-use Rattle.std.specs.Prelude.{ℕ, ◌≡◌, ◌<◌, ◌≤◌, ◌+◌, ◌^◌, ⊤, List, [], ◌∷◌, ◌++◌, Vec, codes, flat_map, length, map}
-use Rattle.std.specs.List.{AllZip}
-use Rattle.definitions.specs.Build.{build_of}
-use Rattle.definitions.specs.DeckInput.{Deck}
-use Rattle.definitions.specs.Image.{common_section_by}
-use Rattle.definitions.specs.Layout.{Based, Layout, layout_of}
-use Rattle.definitions.specs.LinkValues.{linking_of}
-use Rattle.definitions.specs.Listing.{deck_listing, line}
-use Rattle.definitions.specs.Objects.{object_of}
-use Rattle.deck_listing.specs.Joins.BlockWords.{AreBlockWords}
-use Rattle.deck_listing.specs.Joins.Sheets.{room_of}
-use Rattle.deck_listing.specs.declared.packing.word_spans.WordSpan.{WordSpan}
-use Rattle.deck_linker.specs.Joins.CommonWords.{AreCommonWords}
-use Rattle.deck_linker.specs.Publishing.{map_of}
-use Rattle.deck_linker.specs.Joins.Sections.{deck_section}
+use Rattle.std.specs.{Prelude.{ℕ, ◌≡◌, ◌<◌, ◌≤◌, ◌+◌, ◌^◌, ⊤, List, [], ◌∷◌, ◌++◌, Vec, codes, flat_map, length, map}, List.AllZip}
+use Rattle.definitions.specs.{Build.build_of, DeckInput.Deck, Image.common_section_by, Layout.{Based, Layout, layout_of}, LinkValues.linking_of, Listing.{deck_listing, line}, Objects.object_of}
+use Rattle.deck_listing.specs.{Joins.BlockWords.AreBlockWords, Joins.Sheets.room_of, declared.packing.word_spans.WordSpan.WordSpan}
+use Rattle.deck_linker.specs.{Joins.CommonWords.AreCommonWords, Publishing.map_of, Joins.Sections.deck_section}
 
 -- the listing of a deck
 abbrev pub deck_text : Deck → List ℕ

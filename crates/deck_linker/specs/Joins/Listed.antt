@@ -1,12 +1,7 @@
 -- Publications of decks that have their listings and sections with them (ours).
 use Rattle.std.specs.Prelude.{ℕ, ◌≡◌, ◌<◌, ◌+◌, ◌^◌, List, [], ◌∷◌, Option, None, flat_map, length, map, if◌then◌else◌}
-use Rattle.definitions.specs.Characters.{same_text}
-use Rattle.definitions.specs.DeckInput.{Deck}
-use Rattle.definitions.specs.Layout.{Layout, layout_of}
-use Rattle.definitions.specs.Objects.{object_of}
-use Rattle.deck_linker.specs.Joins.InPieces.{deck_text, end_text}
-use Rattle.deck_linker.specs.Joins.Sections.{section_text}
-use Rattle.deck_linker.specs.Publishing.{map_of, section_of}
+use Rattle.definitions.specs.{Characters.same_text, DeckInput.Deck, Layout.{Layout, layout_of}, Objects.object_of}
+use Rattle.deck_linker.specs.{Joins.InPieces.{deck_text, end_text}, Joins.Sections.section_text, Publishing.{map_of, section_of}}
 
 -- the sections of the decks of a link, of those that have one
 abbrev pub sections_in : Layout → List (Option (List ℕ))

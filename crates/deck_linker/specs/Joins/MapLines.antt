@@ -1,11 +1,6 @@
 -- The map of a link, from sets of names.
 use Rattle.std.specs.Prelude.{ℕ, List, [], ◌∷◌, ◌++◌, codes, flat_map, if◌then◌else◌}
-use Rattle.definitions.specs.Numerals.{octal_of}
-use Rattle.definitions.specs.Settled.{Definition}
-use Rattle.definitions.specs.Blocks.{is_named}
-use Rattle.definitions.specs.Layout.{Layout, Based, Common}
-use Rattle.definitions.specs.Listing.{line}
-use Rattle.definitions.specs.Map.{deck_line, common_line, entry_line, entry_lines}
+use Rattle.definitions.specs.{Numerals.octal_of, Settled.Definition, Blocks.is_named, Layout.{Layout, Based, Common}, Listing.line, Map.{deck_line, common_line, entry_line, entry_lines}}
 use Rattle.deck_linker.specs.Joins.Names.{with_entries}
 
 -- the end of a line: a base and a length

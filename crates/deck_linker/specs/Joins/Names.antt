@@ -1,9 +1,7 @@
 -- Names in order of first use, each once.
 use Rattle.std.specs.Prelude.{ℕ, ◌≡◌, List, [], ◌∷◌}
 use Rattle.indexmap.specs.IndexSet.{insert_key}
-use Rattle.definitions.specs.Blocks.{is_named}
-use Rattle.definitions.specs.Characters.{same_text}
-use Rattle.definitions.specs.Settled.{Definition}
+use Rattle.definitions.specs.{Blocks.is_named, Characters.same_text, Settled.Definition}
 
 -- names with one more, where it is not among them
 abbrev pub with_name : List ℕ → List (List ℕ) → List (List ℕ)

@@ -1,10 +1,6 @@
 -- What common blocks, their names and the parts of a form are, step by step.
-use Rattle.std.specs.Prelude.{ℕ, List, Option, Some, None, map, ℤ, pos, if◌then◌else◌}
-use Rattle.std.specs.Option.{option_map_or}
-use Rattle.definitions.specs.Characters.{same_text}
-use Rattle.definitions.specs.Forms.{Part, Added, Subtracted, Relocation, Block, External}
-use Rattle.definitions.specs.Lengths.{BlockLength}
-use Rattle.definitions.specs.Layout.{Common}
+use Rattle.std.specs.{Prelude.{ℕ, List, Option, Some, None, map, ℤ, pos, if◌then◌else◌}, Option.option_map_or}
+use Rattle.definitions.specs.{Characters.same_text, Forms.{Part, Added, Subtracted, Relocation, Block, External}, Lengths.BlockLength, Layout.Common}
 
 -- the external of a part, if it has one
 abbrev pub external_of : Option Part → Option (List ℕ)

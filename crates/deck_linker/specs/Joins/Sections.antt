@@ -1,11 +1,6 @@
 -- The sections of an image.
 use Rattle.std.specs.Prelude.{ℕ, ◌+◌, List, [], ◌++◌, Option, codes, flat_map, unwrap_or}
-use Rattle.definitions.specs.Numerals.{octal_of}
-use Rattle.definitions.specs.Listing.{line}
-use Rattle.definitions.specs.Layout.{Layout, Based}
-use Rattle.definitions.specs.Image.{section_by, word_line}
-use Rattle.definitions.specs.Words.{StoredWord}
-use Rattle.definitions.specs.declared.deck_kind.DeckKind.TheVariants.{Rel}
+use Rattle.definitions.specs.{Numerals.octal_of, Listing.line, Layout.{Layout, Based}, Image.{section_by, word_line}, Words.StoredWord, declared.deck_kind.DeckKind.TheVariants.Rel}
 
 -- the section of a deck, where it has one
 abbrev pub deck_section : Layout → Based → List ℕ

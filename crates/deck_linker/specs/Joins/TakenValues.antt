@@ -1,9 +1,6 @@
 -- What the fields of a deck take from a link, gathered field by field.
 use Rattle.std.specs.Prelude.{ℕ, ◌≡◌, List, Option, true, ℤ}
-use Rattle.definitions.specs.Blocks.{is_named}
-use Rattle.definitions.specs.Forms.{Block, External, Part, Relocation}
-use Rattle.definitions.specs.Layout.{Based, Layout}
-use Rattle.definitions.specs.StatementItems.{Content}
+use Rattle.definitions.specs.{Blocks.is_named, Forms.{Block, External, Part, Relocation}, Layout.{Based, Layout}, StatementItems.Content}
 use Rattle.statement_coder.specs.declared.items.Item as code
 use Rattle.deck_listing.specs.KeptSections.{DoFieldsFollow, DoesContentFollow, DoesFollow, DoesPartFollow, IsPlaced, worth_in}
 use Rattle.deck_linker.specs.declared.taken_values.Taken.{Taken}

@@ -1,14 +1,9 @@
 -- The LINK A lines of an object, from its fields as they are kept.
 use Rattle.std.specs.Prelude.{ℕ, ◌≡◌, ◌*◌, ⊤, Bool, true, List, [], ◌∷◌, ◌++◌, Option, Some, None, slice_get}
-use Rattle.definitions.specs.Kinds.{unit_bits}
-use Rattle.definitions.specs.Lengths.{BlockRow}
-use Rattle.definitions.specs.Layout.{Layout, Based, block_base}
-use Rattle.definitions.specs.LinkLines.{address_lines, unfit_words}
-use Rattle.definitions.specs.declared.deck_kind.DeckKind.{DeckKind}
+use Rattle.definitions.specs.{Kinds.unit_bits, Lengths.BlockRow, Layout.{Layout, Based, block_base}, LinkLines.{address_lines, unfit_words}, declared.deck_kind.DeckKind.DeckKind}
 use Rattle.statement_coder.specs.declared.items.Item as code
-use Rattle.deck_objects.specs.Joins.LineItems.{kept_items, AreKept}
+use Rattle.deck_objects.specs.{Joins.LineItems.{kept_items, AreKept}, declared.lines.Line.Line}
 use Rattle.deck_objects.specs.declared.lines.CodedLine as lines
-use Rattle.deck_objects.specs.declared.lines.Line.{Line}
 use Rattle.deck_listing.specs.KeptSections.{DoAllFit}
 
 -- the lines of a statement in this block

@@ -1,11 +1,6 @@
 -- How forms are linked in a deck that stands alone at a base.
 use Rattle.std.specs.Prelude.{ℕ, ◌+◌, List, Option, Some, ℤ, pos, ◌+ℤ◌, unwrap_or, if◌then◌else◌}
-use Rattle.definitions.specs.Blocks.{is_common}
-use Rattle.definitions.specs.Coding.{coded_in}
-use Rattle.definitions.specs.Forms.{Part, Relocation, Added}
-use Rattle.definitions.specs.Lengths.{BlockRow, base_in}
-use Rattle.definitions.specs.StatementItems.{part_value}
-use Rattle.definitions.specs.Words.{Linking}
+use Rattle.definitions.specs.{Blocks.is_common, Coding.coded_in, Forms.{Part, Relocation, Added}, Lengths.{BlockRow, base_in}, StatementItems.part_value, Words.Linking}
 
 -- where a block stands: a common one at 0, any other behind the base
 abbrev pub alone_base : List BlockRow → ℕ → List ℕ → ℕ

@@ -1,12 +1,7 @@
 -- The words of all blocks of an object.
-use Rattle.std.specs.Prelude.{ℕ, ◌≡◌, ◌^◌, List, Some, Vec, slice_get}
-use Rattle.std.specs.List.{AllZip}
-use Rattle.definitions.specs.Lengths.{BlockRow}
-use Rattle.definitions.specs.Objects.{Object}
-use Rattle.definitions.specs.Words.{Linking, stored, stored_words, words_in}
-use Rattle.deck_listing.specs.Joins.Filling.{DoSpansRise, as_stored}
-use Rattle.deck_listing.specs.Joins.Packing.{Packed, runs_in}
-use Rattle.deck_listing.specs.declared.packing.word_spans.WordSpan.{WordSpan}
+use Rattle.std.specs.{Prelude.{ℕ, ◌≡◌, ◌^◌, List, Some, Vec, slice_get}, List.AllZip}
+use Rattle.definitions.specs.{Lengths.BlockRow, Objects.Object, Words.{Linking, stored, stored_words, words_in}}
+use Rattle.deck_listing.specs.{Joins.Filling.{DoSpansRise, as_stored}, Joins.Packing.{Packed, runs_in}, declared.packing.word_spans.WordSpan.WordSpan}
 
 -- spans by increasing offset are the words that the statements of an object store in a block
 pub record AreWordsOf {Z : Type 0} (linking : Linking) (object : Object) (row : BlockRow) (spans : Vec WordSpan Z) : Type 0 where

@@ -1,12 +1,7 @@
 -- What spans of words say of each word of a block, and what they are to say (ours).
-use Rattle.std.specs.Prelude.{ℕ, zero, suc, ◌≡◌, ◌+◌, ◌-◌, ◌*◌, ◌%◌, ◌^◌, ◌<◌, ◌≤◌, List, [], ◌∷◌, ◌++◌, Option, None, Some, Bool, true, false, ◌&&◌, nat_le, nat_lt, max, min, replicate, unwrap_or, slice_index_or, if◌then◌else◌}
-use Rattle.std.specs.List.{list_any}
-use Rattle.definitions.specs.Kinds.{units}
-use Rattle.definitions.specs.Words.{Parcel, StoredWord, bits_at, in_word, parcels_from, word_of_parcels}
-use Rattle.definitions.specs.declared.deck_kind.DeckKind.{DeckKind}
-use Rattle.deck_listing.specs.declared.packing.gathering.OpenWord.{OpenWord}
-use Rattle.deck_listing.specs.declared.packing.spans.Span.{Span}
-use Rattle.deck_listing.specs.declared.packing.word_spans.WordSpan.{WordSpan}
+use Rattle.std.specs.{Prelude.{ℕ, zero, suc, ◌≡◌, ◌+◌, ◌-◌, ◌*◌, ◌%◌, ◌^◌, ◌<◌, ◌≤◌, List, [], ◌∷◌, ◌++◌, Option, None, Some, Bool, true, false, ◌&&◌, nat_le, nat_lt, max, min, replicate, unwrap_or, slice_index_or, if◌then◌else◌}, List.list_any}
+use Rattle.definitions.specs.{Kinds.units, Words.{Parcel, StoredWord, bits_at, in_word, parcels_from, word_of_parcels}, declared.deck_kind.DeckKind.DeckKind}
+use Rattle.deck_listing.specs.declared.packing.{gathering.OpenWord.OpenWord, spans.Span.Span, word_spans.WordSpan.WordSpan}
 
 -- so many words of one value, one behind the other
 abbrev pub words_from : ℕ → ℕ → ℕ → List StoredWord

@@ -1,7 +1,6 @@
 -- Equal words one behind the other as one span (ours).
 use Rattle.std.specs.Prelude.{◌≡◌, ◌+◌, ◌^◌, List, ◌∷◌, ◌++◌}
-use Rattle.deck_listing.specs.Joins.Filling.{DoSpansRise, as_stored}
-use Rattle.deck_listing.specs.declared.packing.word_spans.WordSpan.{WordSpan}
+use Rattle.deck_listing.specs.{Joins.Filling.{DoSpansRise, as_stored}, declared.packing.word_spans.WordSpan.WordSpan}
 
 -- a span is that of two, the second of which goes on with the words of the first
 pub record AreJoined (first second both : WordSpan) : Type 0 where

@@ -1,7 +1,6 @@
 -- Decks that begin behind the END of another, from the lines of its object (ours).
 use Rattle.std.specs.Prelude.{ℕ, ◌+◌, Bool, ◌&&◌, is_none, List, [], ◌∷◌, drop, take, if◌then◌else◌}
-use Rattle.definitions.specs.Cards.{Card}
-use Rattle.definitions.specs.Objects.{Shown}
+use Rattle.definitions.specs.{Cards.Card, Objects.Shown}
 use Rattle.deck_objects.specs.declared.lines.Line.{Line}
 use Rattle.deck_cuts.specs.Cuts.{begins_deck}
 use Rattle.deck_listing.specs.DecksBehind.{do_begin}

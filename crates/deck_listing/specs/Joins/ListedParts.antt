@@ -1,18 +1,9 @@
 -- The text of what an object keeps, in the words of the definitions.
 use Rattle.std.specs.Prelude.{ℕ, ◌≡◌, ◌≤◌, ◌<◌, ◌+◌, ◌%◌, ◌^◌, ⊤, List, [], ◌∷◌, ◌++◌, Bool, true, false, Option, Some, None, All, codes, length, take, drop, filter, flat_map, nat_lt, ◌↔◌}
-use Rattle.definitions.specs.Cards.{Card}
-use Rattle.definitions.specs.Kinds.{kind_text, word_bits}
-use Rattle.definitions.specs.Lengths.{BlockRow}
-use Rattle.definitions.specs.Listing.{block_line, card_lines, letters_line, line, unlinked}
-use Rattle.definitions.specs.Numerals.{decimal_of}
+use Rattle.definitions.specs.{Cards.Card, Kinds.{kind_text, word_bits}, Lengths.BlockRow, Listing.{block_line, card_lines, letters_line, line, unlinked}, Numerals.decimal_of, Words.width_of, declared.deck_kind.DeckKind.DeckKind}
 use Rattle.definitions.specs.Operations as op
-use Rattle.definitions.specs.Words.{width_of}
-use Rattle.definitions.specs.declared.deck_kind.DeckKind.{DeckKind}
-use Rattle.deck_objects.specs.Joins.LineItems.{AreKept, kept_items}
-use Rattle.deck_objects.specs.declared.lines.CodedLine.{CodedLine}
-use Rattle.deck_objects.specs.declared.lines.Line.{Line}
+use Rattle.deck_objects.specs.{Joins.LineItems.{AreKept, kept_items}, declared.lines.CodedLine.CodedLine, declared.lines.Line.Line, declared.object.ObjectParts.ObjectParts}
 use Rattle.deck_objects.specs.declared.lines.LineFields.TheVariants as variant
-use Rattle.deck_objects.specs.declared.object.ObjectParts.{ObjectParts}
 use Rattle.statement_coder.specs.declared.items.Item as code
 use Rattle.operations.specs.Joins.OperationsAs.{operation_as}
 use Rattle.deck_listing.specs.Joins.WordLines.{fields_text, has_one_line}

@@ -1,11 +1,7 @@
 -- What is put into a block, run by run: fields one behind the other, bit by bit, cut into parcels
 -- (COMPASS 60492600, ORG and data generation). A peripheral word is one parcel of 12 bits.
 use Rattle.std.specs.Prelude.{ℕ, zero, suc, ◌≡◌, ◌+◌, ◌*◌, ◌/◌, ◌%◌, ◌^◌, ◌<◌, ◌≤◌, ◌==◌, List, [], ◌∷◌, ◌++◌, Bool, if◌then◌else◌}
-use Rattle.definitions.specs.Kinds.{units, unit_bits}
-use Rattle.definitions.specs.Kinds.{most_words}
-use Rattle.definitions.specs.StatementItems.{Item}
-use Rattle.definitions.specs.Words.{Linking, Parcel, content_bits}
-use Rattle.definitions.specs.declared.deck_kind.DeckKind.{DeckKind}
+use Rattle.definitions.specs.{Kinds.{units, unit_bits, most_words}, StatementItems.Item, Words.{Linking, Parcel, content_bits}, declared.deck_kind.DeckKind.DeckKind}
 
 -- a run: its whole parcels, and the parcel behind them with its first bits as one number
 pub record OpenRun : Type 0 where

@@ -1,13 +1,8 @@
 -- Fields of a statement, put one behind the other into a run.
 use Rattle.std.specs.Prelude.{ℕ, ◌≡◌, ◌+◌, ◌*◌, ◌%◌, ◌<◌, ◌≤◌, List, [], Bool, false}
-use Rattle.definitions.specs.Kinds.{units, most_words}
-use Rattle.definitions.specs.Operations.{is_instruction}
-use Rattle.definitions.specs.StatementItems.{Item}
-use Rattle.definitions.specs.Words.{Linking, width_of}
-use Rattle.definitions.specs.declared.deck_kind.DeckKind.{DeckKind}
+use Rattle.definitions.specs.{Kinds.{units, most_words}, Operations.is_instruction, StatementItems.Item, Words.{Linking, width_of}, declared.deck_kind.DeckKind.DeckKind, Laws.Filling.DoFill}
 use Rattle.statement_coder.specs.declared.items.Item as code
 use Rattle.operations.specs.Joins.OperationsAs.{operation_as}
-use Rattle.definitions.specs.Laws.Filling.{DoFill}
 use Rattle.deck_listing.specs.Joins.Packing.{OpenRun, Packed, DoItemsFit, MayBegin, moved, put_items}
 use Rattle.deck_objects.specs.Joins.LineItems.{kept_items, AreKept}
 use Rattle.deck_objects.specs.declared.lines.CodedLine as lines

@@ -1,13 +1,7 @@
 -- How the code keeps a run: parcels of equal bits one behind the other, as one span (ours).
-use Rattle.std.specs.Prelude.{ℕ, ◌≡◌, ◌+◌, ◌*◌, ◌^◌, ◌<◌, ◌≤◌, List, [], ◌∷◌, ◌++◌, Bool, nat_lt, replicate, Vec}
-use Rattle.std.specs.List.{list_any}
-use Rattle.definitions.specs.Kinds.{unit_bits}
-use Rattle.definitions.specs.Words.{Parcel, parcels_from}
-use Rattle.definitions.specs.declared.deck_kind.DeckKind.{DeckKind}
-use Rattle.deck_listing.specs.Joins.Packing.{OpenRun, put_bits}
-use Rattle.deck_listing.specs.declared.packing.fields.Field.{Field}
-use Rattle.deck_listing.specs.declared.packing.spans.Span.{Span}
-use Rattle.deck_listing.specs.declared.packing.spans.OpenParcel.{OpenParcel}
+use Rattle.std.specs.{Prelude.{ℕ, ◌≡◌, ◌+◌, ◌*◌, ◌^◌, ◌<◌, ◌≤◌, List, [], ◌∷◌, ◌++◌, Bool, nat_lt, replicate, Vec}, List.list_any}
+use Rattle.definitions.specs.{Kinds.unit_bits, Words.{Parcel, parcels_from}, declared.deck_kind.DeckKind.DeckKind}
+use Rattle.deck_listing.specs.{Joins.Packing.{OpenRun, put_bits}, declared.packing.fields.Field.Field, declared.packing.spans.Span.Span, declared.packing.spans.OpenParcel.OpenParcel}
 
 -- the parcels of a span
 abbrev pub span_parcels : Span → List Parcel

@@ -1,21 +1,10 @@
 -- The runs of all blocks, as their statements come line by line.
-use Rattle.std.specs.Prelude.{ℕ, ◌≡◌, ◌≤◌, List, [], ◌++◌, length, map, reverse, slice_get, Some}
-use Rattle.std.specs.List.{IsDistinct}
-use Rattle.definitions.specs.Characters.{same_text}
-use Rattle.definitions.specs.Cards.{Card}
-use Rattle.definitions.specs.Lengths.{BlockRow}
-use Rattle.definitions.specs.Objects.{Object}
-use Rattle.definitions.specs.Words.{Coded, Linking, runs_of}
-use Rattle.definitions.specs.declared.deck_kind.DeckKind.{DeckKind}
+use Rattle.std.specs.{Prelude.{ℕ, ◌≡◌, ◌≤◌, List, [], ◌++◌, length, map, reverse, slice_get, Some}, List.IsDistinct}
+use Rattle.definitions.specs.{Characters.same_text, Cards.Card, Lengths.BlockRow, Objects.Object, Words.{Coded, Linking, runs_of}, declared.deck_kind.DeckKind.DeckKind, Laws.Reaching.{DoesReach, DoReach}, Laws.Rising.{run_end, IsLaidOut, AreLaidOut}}
 use Rattle.statement_coder.specs.declared.items.Item as code
 use Rattle.deck_listing.specs.Joins.Packing.{Packed, empty_run, runs_in}
-use Rattle.definitions.specs.Laws.Reaching.{DoesReach, DoReach}
-use Rattle.definitions.specs.Laws.Rising.{run_end, IsLaidOut, AreLaidOut}
-use Rattle.deck_objects.specs.Joins.CodedLines.{IsCoded, AreCoded}
-use Rattle.deck_objects.specs.Joins.PartsOf.{ArePartsOf}
+use Rattle.deck_objects.specs.{Joins.CodedLines.{IsCoded, AreCoded}, Joins.PartsOf.ArePartsOf, declared.lines.Line.Line, declared.object.ObjectParts.ObjectParts}
 use Rattle.deck_objects.specs.declared.lines.CodedLine as lines
-use Rattle.deck_objects.specs.declared.lines.Line.{Line}
-use Rattle.deck_objects.specs.declared.object.ObjectParts.{ObjectParts}
 
 -- some deck has an object of these parts
 pub record HasObject (parts : ObjectParts) : Type 0 where

@@ -1,13 +1,6 @@
 -- The lines of the words that fields fill, in the words of the definitions.
 use Rattle.std.specs.Prelude.{ℕ, ◌≡◌, ◌≤◌, ◌<◌, ◌+◌, ◌-◌, ◌*◌, ◌/◌, ◌%◌, ◌^◌, List, Bool, false}
-use Rattle.definitions.specs.Kinds.{word_bits}
-use Rattle.definitions.specs.Listing.{central_line, central_lines, data_lines, peripheral_item_lines, peripheral_line, peripheral_lines, unlinked}
-use Rattle.definitions.specs.Lengths.{BlockRow}
-use Rattle.definitions.specs.Operations.{Operation, is_instruction}
-use Rattle.definitions.specs.StatementItems.{Item}
-use Rattle.definitions.specs.Words.{Linking, cut, joined, width_of}
-use Rattle.definitions.specs.declared.deck_kind.DeckKind.{DeckKind}
-use Rattle.definitions.specs.declared.deck_kind.DeckKind.TheVariants.{Periph}
+use Rattle.definitions.specs.{Kinds.word_bits, Listing.{central_line, central_lines, data_lines, peripheral_item_lines, peripheral_line, peripheral_lines, unlinked}, Lengths.BlockRow, Operations.{Operation, is_instruction}, StatementItems.Item, Words.{Linking, cut, joined, width_of}, declared.deck_kind.DeckKind.DeckKind, declared.deck_kind.DeckKind.TheVariants.Periph}
 use Rattle.deck_objects.specs.Joins.LineItems.{AreShort}
 use Rattle.deck_listing.specs.declared.field_lines.OpenWord.{OpenWord}
 

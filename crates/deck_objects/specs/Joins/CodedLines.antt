@@ -1,16 +1,11 @@
 -- The lines of an object, and the statements of the definitions that they are.
 use Rattle.std.specs.Prelude.{ℕ, ◌≡◌, ⊤, ◌+◌, ◌<◌, ◌≤◌, List, [], ◌∷◌, Option, Some, None, slice_get, take, drop, length, ◌↔◌}
-use Rattle.definitions.specs.Cards.{Card}
-use Rattle.definitions.specs.Lengths.{BlockRow}
-use Rattle.definitions.specs.Objects.{Shown}
+use Rattle.definitions.specs.{Cards.Card, Lengths.BlockRow, Objects.Shown, Words.Coded, declared.deck_kind.DeckKind.DeckKind}
 use Rattle.definitions.specs.Operations as op
-use Rattle.definitions.specs.Words.{Coded}
-use Rattle.definitions.specs.declared.deck_kind.DeckKind.{DeckKind}
 use Rattle.statement_coder.specs.declared.items.Item as code
 use Rattle.operations.specs.Joins.OperationsAs.{operation_as}
-use Rattle.deck_objects.specs.Joins.LineItems.{kept_items, AreBitsOf, AreKept}
+use Rattle.deck_objects.specs.{Joins.LineItems.{kept_items, AreBitsOf, AreKept}, declared.lines.Line.Line}
 use Rattle.deck_objects.specs.declared.lines.CodedLine as lines
-use Rattle.deck_objects.specs.declared.lines.Line.{Line}
 use Rattle.deck_objects.specs.declared.lines.LineFields.TheVariants as variant
 
 -- a block that is there has this name

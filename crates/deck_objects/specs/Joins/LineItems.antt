@@ -1,14 +1,8 @@
 -- The fields that a line keeps, in the words of the definitions.
 use Rattle.std.specs.Prelude.{ℕ, ◌≡◌, ◌≤◌, ◌+◌, ◌-◌, ◌*◌, ◌/◌, ⊤, List, [], ◌∷◌, map, take, drop, length}
-use Rattle.definitions.specs.Kinds.{unit_bits, word_bits, units}
-use Rattle.definitions.specs.Layout.{Layout, Based}
-use Rattle.definitions.specs.LinkLines.{unfit_words}
-use Rattle.definitions.specs.StatementItems.{Item, known}
-use Rattle.definitions.specs.Words.{Linking, width_of, joined}
-use Rattle.definitions.specs.declared.deck_kind.DeckKind.{DeckKind}
+use Rattle.definitions.specs.{Kinds.{unit_bits, word_bits, units}, Layout.{Layout, Based}, LinkLines.unfit_words, StatementItems.{Item, known}, Words.{Linking, width_of, joined}, declared.deck_kind.DeckKind.DeckKind, Laws.Filling.{HasFields, HasRoom}}
 use Rattle.statement_coder.specs.Joins.Items.{item_as}
 use Rattle.statement_coder.specs.declared.items.Item as code
-use Rattle.definitions.specs.Laws.Filling.{HasFields, HasRoom}
 use Rattle.deck_objects.specs.declared.lines.CodedLine as lines
 use Rattle.deck_objects.specs.declared.lines.LineFields as kept
 use Rattle.deck_objects.specs.declared.lines.LineFields.TheVariants as fields

@@ -1,11 +1,7 @@
 -- The parts of an object, and the object of the definitions that they are.
 use Rattle.std.specs.Prelude.{◌≡◌, ◌≤◌, List, length, reverse}
-use Rattle.definitions.specs.Cards.{Card}
-use Rattle.definitions.specs.Objects.{Object}
-use Rattle.definitions.specs.Laws.Reaching.{DoReach}
-use Rattle.definitions.specs.Laws.Rising.{AreLaidOut}
-use Rattle.deck_objects.specs.Joins.CodedLines.{AreShown, AreCoded}
-use Rattle.deck_objects.specs.declared.object.ObjectParts.{ObjectParts}
+use Rattle.definitions.specs.{Cards.Card, Objects.Object, Laws.Reaching.DoReach, Laws.Rising.AreLaidOut}
+use Rattle.deck_objects.specs.{Joins.CodedLines.{AreShown, AreCoded}, declared.object.ObjectParts.ObjectParts}
 
 -- these are the parts of the object of a deck with these cards
 pub record ArePartsOf (cards : List Card) (parts : ObjectParts) (object : Object) : Type 0 where

@@ -1,15 +1,10 @@
 -- What a seat made of a publication, and of what else a job made (ours).
 use Rattle.std.specs.Prelude.{◌≡◌, ℕ, ◌<◌, Bool, true, false, List, [], ◌∷◌, length, map, is_some, Option, Some}
 use Rattle.turn_office.specs.Histories.{entry}
-use Rattle.desk_core.specs.Desks.{Publication}
-use Rattle.desk_core.specs.Runs.{History}
-use Rattle.deck_workers.specs.Joins.Language.{Deck, Reply, Refused, OfferObject}
+use Rattle.desk_core.specs.{Desks.Publication, Runs.History}
+use Rattle.deck_workers.specs.{Joins.Language.{Deck, Reply, Refused, OfferObject}, declared.made.Made.Made, Rounds.call_of, WorkerRounds.{Offer, OffersOf, is_starved, offer_entry, asked_entries, up_entries, desk_entries}, Working.Calls}
 use Rattle.desk_core.specs.declared.replies.Refusal.TheVariants as refusal
-use Rattle.deck_workers.specs.declared.made.Made.{Made}
 use Rattle.deck_workers.specs.declared.made.Made.TheVariants as made
-use Rattle.deck_workers.specs.Rounds.{call_of}
-use Rattle.deck_workers.specs.WorkerRounds.{Offer, OffersOf, is_starved, offer_entry, asked_entries, up_entries, desk_entries}
-use Rattle.deck_workers.specs.Working.{Calls}
 
 -- the first so many of some decks were offered under a lease
 pub record Offers (decks : List Deck) (most number lease : ℕ) (seen now : History) : Type 0 where

@@ -1,17 +1,9 @@
 -- What a worker does behind a round, by what the round was and what its sleep gave (ours).
 use Rattle.std.specs.Prelude.{ℕ, ◌*◌, Bool, true, false, ◌&&◌, not, min, Result, Ok, Err}
-use Rattle.crossbeam_channel.specs.declared.err.RecvTimeoutError.{RecvTimeoutError}
-use Rattle.crossbeam_channel.specs.declared.err.RecvTimeoutError.TheVariants.{Timeout, Disconnected}
-use Rattle.deck_workers.specs.declared.bells.Bell.{Bell}
+use Rattle.crossbeam_channel.specs.declared.err.RecvTimeoutError.{RecvTimeoutError, TheVariants.{Timeout, Disconnected}}
+use Rattle.deck_workers.specs.{declared.bells.Bell.Bell, declared.bells.Next.Next, declared.bells.Next.TheVariants.{Claims, SleepsFor, SleepsUntilBell}, declared.bells.Round.Round, declared.bells.Round.TheVariants.{Delivered, GaveUp, NoJob}, Joins.Language.{Reply, Refused}, Jobs.is_result, WorkerRounds.{WorkerRound, AtOnce, ByDesk, Unshared, is_starved}}
 use Rattle.deck_workers.specs.declared.bells.Bell.TheVariants as bell
-use Rattle.deck_workers.specs.declared.bells.Next.{Next}
-use Rattle.deck_workers.specs.declared.bells.Next.TheVariants.{Claims, SleepsFor, SleepsUntilBell}
-use Rattle.deck_workers.specs.declared.bells.Round.{Round}
-use Rattle.deck_workers.specs.declared.bells.Round.TheVariants.{Delivered, GaveUp, NoJob}
-use Rattle.deck_workers.specs.Joins.Language.{Reply, Refused}
-use Rattle.deck_workers.specs.Jobs.{is_result}
 use Rattle.deck_workers.specs.Rounds as rounds
-use Rattle.deck_workers.specs.WorkerRounds.{WorkerRound, AtOnce, ByDesk, Unshared, is_starved}
 
 -- a round with a job, which was delivered or given up
 abbrev pub round_with_job : Bool → Round

@@ -1,16 +1,8 @@
 -- When tails of the same cards are settled alike behind different statements: equal states, and equal values of the names that the tail defines or reads early (ours).
 -- `src/edit_laws.rt` and `src/state_laws.rt` have what comes of it.
-use Rattle.std.specs.Prelude.{ℕ, ◌≡◌, ⊤, List, [], ◌∷◌, ◌++◌, Option, Some, None, Bool, true, ◌&&◌, flat_map, map, if◌then◌else◌}
-use Rattle.std.specs.List.{AllByRecursion}
-use Rattle.definitions.specs.Statements.{Statement}
-use Rattle.definitions.specs.Symbols.{is_symbol}
-use Rattle.definitions.specs.Expressions.{Element, ASymbol, Expression, elements_of}
+use Rattle.std.specs.{Prelude.{ℕ, ◌≡◌, ⊤, List, [], ◌∷◌, ◌++◌, Option, Some, None, Bool, true, ◌&&◌, flat_map, map, if◌then◌else◌}, List.AllByRecursion}
+use Rattle.definitions.specs.{Statements.Statement, Symbols.is_symbol, Expressions.{Element, ASymbol, Expression, elements_of}, Operations.{Operation, is_labelled}, Operands.{Operand, NamesOperand, ValueOperand}, Settled.{ReadStatement, Settled, defined}, Settling.{View, settle, settled_all}, declared.deck_kind.DeckKind.DeckKind}
 use Rattle.definitions.specs.Operations as op
-use Rattle.definitions.specs.Operations.{Operation, is_labelled}
-use Rattle.definitions.specs.Operands.{Operand, NamesOperand, ValueOperand}
-use Rattle.definitions.specs.Settled.{ReadStatement, Settled, defined}
-use Rattle.definitions.specs.Settling.{View, settle, settled_all}
-use Rattle.definitions.specs.declared.deck_kind.DeckKind.{DeckKind}
 
 -- the symbols that an element is
 abbrev pub symbols_of_element : Element → List (List ℕ)

@@ -1,9 +1,6 @@
 -- The cut of a text into fields as a relation (COMPASS 60492600, statement format): what `fields_of_text` computes.
-use Rattle.std.specs.Prelude.{ℕ, ◌≡◌, ◌≢◌, ◌+◌, ◌<◌, ◌⊎◌, List, [], ◌∷◌, ◌++◌, ⊤, length, codes}
-use Rattle.std.specs.List.{AllByRecursion}
-use Rattle.definitions.specs.Characters.{blank}
-use Rattle.definitions.specs.Pieces.{Piece, Plain, pieces_of}
-use Rattle.definitions.specs.Fields.{Fields, columns_before_comments}
+use Rattle.std.specs.{Prelude.{ℕ, ◌≡◌, ◌≢◌, ◌+◌, ◌<◌, ◌⊎◌, List, [], ◌∷◌, ◌++◌, ⊤, length, codes}, List.AllByRecursion}
+use Rattle.definitions.specs.{Characters.blank, Pieces.{Piece, Plain, pieces_of}, Fields.{Fields, columns_before_comments}}
 
 -- nothing follows, or a blank
 abbrev pub EndsHere : List ℕ → Type 0

@@ -1,11 +1,7 @@
 -- An edit of a deck: what it leaves in front, where the two decks agree again behind it, and how many statements are due (ours).
 -- Lists of statements are newest first, up to END. A card is known by its place, never by its text.
 use Rattle.std.specs.Prelude.{ℕ, ◌≡◌, ◌≤◌, ◌+◌, List, ◌++◌, length}
-use Rattle.definitions.specs.Statements.{Statement, cards_in}
-use Rattle.definitions.specs.DeckKinds.{kind_of_statements}
-use Rattle.definitions.specs.Settling.{settled_all}
-use Rattle.definitions.specs.Laws.States.{state_after}
-use Rattle.definitions.specs.Laws.Agreement.{HaveSameCards, AgreeOnTail}
+use Rattle.definitions.specs.{Statements.{Statement, cards_in}, DeckKinds.kind_of_statements, Settling.settled_all, Laws.States.state_after, Laws.Agreement.{HaveSameCards, AgreeOnTail}}
 
 -- a deck's statements before an edit and after it
 pub record Edited : Type 0 where

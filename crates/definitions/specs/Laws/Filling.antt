@@ -1,9 +1,6 @@
 -- How the fields of a statement fill its place, and how each of them has room for what stands in it.
 use Rattle.std.specs.Prelude.{ℕ, ◌≡◌, ◌≤◌, ◌<◌, ◌-◌, ◌*◌, ◌%◌, ◌^◌, ⊤, List, [], ◌∷◌}
-use Rattle.definitions.specs.Kinds.{unit_bits, address_bits}
-use Rattle.definitions.specs.StatementItems.{Item, Content, Known, Linked}
-use Rattle.definitions.specs.Words.{width_of}
-use Rattle.definitions.specs.declared.deck_kind.DeckKind.{DeckKind}
+use Rattle.definitions.specs.{Kinds.{unit_bits, address_bits}, StatementItems.{Item, Content, Known, Linked}, Words.width_of, declared.deck_kind.DeckKind.DeckKind}
 
 -- there is a field at least
 abbrev pub HasFields : List Item → Type 0

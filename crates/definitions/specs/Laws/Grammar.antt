@@ -4,10 +4,7 @@
 --   element = number | item | symbol | register | "*" | "*L" | "*O" | literal
 --   literal = "=" ["+" | "-"] number | "=" item
 use Rattle.std.specs.Prelude.{ℕ, ◌≡◌, ◌⊎◌, List, [], ◌∷◌, ◌++◌, Some, None, true, false, codes}
-use Rattle.definitions.specs.Pieces.{Mark, Plus, Minus, Star, Slash, Equals, Piece, IsMark, IsCountedItem, Plain}
-use Rattle.definitions.specs.Symbols.{register_of, is_symbol, Number, number_read}
-use Rattle.definitions.specs.Expressions.{Sign, NoSign, PlusSign, MinusSign, Literal, OfNumber, OfCountedItem, Element, ANumber, ACountedItem, ASymbol, ARegister, LocationCounter, OriginCounter, ALiteral, Operator, Times, Divide, Add, Subtract, OperatorElement, Term, Expression}
-use Rattle.definitions.specs.declared.number_base.NumberBase.{NumberBase}
+use Rattle.definitions.specs.{Pieces.{Mark, Plus, Minus, Star, Slash, Equals, Piece, IsMark, IsCountedItem, Plain}, Symbols.{register_of, is_symbol, Number, number_read}, Expressions.{Sign, NoSign, PlusSign, MinusSign, Literal, OfNumber, OfCountedItem, Element, ANumber, ACountedItem, ASymbol, ARegister, LocationCounter, OriginCounter, ALiteral, Operator, Times, Divide, Add, Subtract, OperatorElement, Term, Expression}, declared.number_base.NumberBase.NumberBase}
 
 -- a run that is no register and no symbol, and spells this number
 abbrev pub IsNumberText : NumberBase → List ℕ → Number → Type 0

@@ -1,10 +1,7 @@
 -- Which statements stand in whole words.
 use Rattle.std.specs.Prelude.{◌≡◌, ◌≢◌, ◌≤◌, ◌+◌, ◌%◌, ⊤, List, [], ◌∷◌}
-use Rattle.definitions.specs.Kinds.{units}
+use Rattle.definitions.specs.{Kinds.units, Words.Coded, declared.deck_kind.DeckKind.DeckKind, Laws.Filling.HasFields}
 use Rattle.definitions.specs.Operations as op
-use Rattle.definitions.specs.Words.{Coded}
-use Rattle.definitions.specs.declared.deck_kind.DeckKind.{DeckKind}
-use Rattle.definitions.specs.Laws.Filling.{HasFields}
 
 -- a statement with fields reaches at most four units where it is an instruction, and from a word to a word where it is not
 pub record DoesReach (kind : DeckKind) (coded : Coded) : Type 0 where

@@ -1,24 +1,7 @@
 -- Statements that an edit leaves as they are, and whose elements it binds otherwise: these are coded again (ours).
-use Rattle.std.specs.Prelude.{ℕ, ◌≤◌, ◌+◌, ◌==◌, List, [], ◌∷◌, ◌++◌, Option, Some, None, Result, Ok, Err, Bool, true, false, not, ◌&&◌, length, map, flat_map}
-use Rattle.std.specs.List.{list_any, count_by}
-use Rattle.std.specs.Ordering.{int_eq}
-use Rattle.definitions.specs.Statements.{Statement}
-use Rattle.definitions.specs.Expressions.{Element, ASymbol, LocationCounter, Expression, elements_of}
-use Rattle.definitions.specs.Forms.{Form, Relocation, Block, External, Part, Added, Subtracted, same_relocation, element_form}
-use Rattle.definitions.specs.PeripheralTable.{PeripheralForm, ShortJump}
-use Rattle.definitions.specs.Matching.{Field, NoField, OfK, OfN}
+use Rattle.std.specs.{Prelude.{ℕ, ◌≤◌, ◌+◌, ◌==◌, List, [], ◌∷◌, ◌++◌, Option, Some, None, Result, Ok, Err, Bool, true, false, not, ◌&&◌, length, map, flat_map}, List.{list_any, count_by}, Ordering.int_eq}
+use Rattle.definitions.specs.{Statements.Statement, Expressions.{Element, ASymbol, LocationCounter, Expression, elements_of}, Forms.{Form, Relocation, Block, External, Part, Added, Subtracted, same_relocation, element_form}, PeripheralTable.{PeripheralForm, ShortJump}, Matching.{Field, NoField, OfK, OfN}, Operations.Operation, Operands.{Operand, CentralOperand, PeripheralOperand, WordsOperand, BitsOperand, NamesOperand, Datum, ExpressionWord, BitField}, DeckKinds.kind_of_statements, Settled.Settled, Settling.settled_all, Laws.Agreement.{lawful_names, settled_tail}, Lengths.{BlockRow, base_in}, StatementItems.{Context, final_names}, Objects.context_of, Laws.Edits.{Edited, IsUntouched, Split, DoAgree}, declared.letter.Letter.Letter}
 use Rattle.definitions.specs.Operations as op
-use Rattle.definitions.specs.Operations.{Operation}
-use Rattle.definitions.specs.Operands.{Operand, CentralOperand, PeripheralOperand, WordsOperand, BitsOperand, NamesOperand, Datum, ExpressionWord, BitField}
-use Rattle.definitions.specs.DeckKinds.{kind_of_statements}
-use Rattle.definitions.specs.Settled.{Settled}
-use Rattle.definitions.specs.Settling.{settled_all}
-use Rattle.definitions.specs.Laws.Agreement.{lawful_names, settled_tail}
-use Rattle.definitions.specs.Lengths.{BlockRow, base_in}
-use Rattle.definitions.specs.StatementItems.{Context, final_names}
-use Rattle.definitions.specs.Objects.{context_of}
-use Rattle.definitions.specs.Laws.Edits.{Edited, IsUntouched, Split, DoAgree}
-use Rattle.definitions.specs.declared.letter.Letter.{Letter}
 
 -- the elements of K or n
 abbrev pub field_elements : Field → List Element

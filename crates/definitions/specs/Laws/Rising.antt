@@ -1,16 +1,8 @@
 -- How far the statements of a block have come, and that each begins behind those before it.
 -- Lists of statements are read newest first.
 use Rattle.std.specs.Prelude.{ℕ, ◌≡◌, ◌*◌, ◌%◌, ◌<◌, ◌≤◌, ⊤, List, [], ◌∷◌, Bool, true, false, map}
-use Rattle.definitions.specs.Characters.{same_text}
-use Rattle.definitions.specs.Kinds.{units, word_bits, most_words}
-use Rattle.definitions.specs.Objects.{coded_of}
+use Rattle.definitions.specs.{Characters.same_text, Kinds.{units, word_bits, most_words}, Objects.coded_of, Places.position_in, Settled.Settled, StatementItems.{Context, Item, items_of}, Words.Coded, declared.deck_kind.DeckKind.DeckKind, Laws.Filling.{DoFill, DoFit, AreLongWhole}}
 use Rattle.definitions.specs.Operations as op
-use Rattle.definitions.specs.Places.{position_in}
-use Rattle.definitions.specs.Settled.{Settled}
-use Rattle.definitions.specs.StatementItems.{Context, Item, items_of}
-use Rattle.definitions.specs.Words.{Coded}
-use Rattle.definitions.specs.declared.deck_kind.DeckKind.{DeckKind}
-use Rattle.definitions.specs.Laws.Filling.{DoFill, DoFit, AreLongWhole}
 
 -- a run that begins has reached nothing; fields reach to the end of their statement
 abbrev pub end_behind : Bool → ℕ → List Item → ℕ → ℕ

@@ -1,17 +1,7 @@
 -- The state between statements: what those before a statement leave of blocks, number base and kind, and the words that they reach (ours).
 -- `src/state_laws.rt` has what joins it to the list that it is made of.
 use Rattle.std.specs.Prelude.{ℕ, List, [], ◌∷◌, ◌++◌, Option, Some, None, Bool, ◌&&◌, max, map, drop, if◌then◌else◌}
-use Rattle.definitions.specs.Characters.{same_text}
-use Rattle.definitions.specs.Operations.{is_neutral}
-use Rattle.definitions.specs.DeckKinds.{number_base_set, or_number_base}
-use Rattle.definitions.specs.Settled.{Settled, Counting, LocationSetting, Unchanged, Counts, Ended, BlockChange, NoChange, Opens, Closes}
-use Rattle.definitions.specs.Blocks.{changes, open_names, block_in_use, blocks_used, is_named}
-use Rattle.definitions.specs.Places.{Position, position_in, no_position}
-use Rattle.definitions.specs.Counters.{counting_in}
-use Rattle.definitions.specs.Settling.{View, Seen, number_base_of, all_neutral}
-use Rattle.definitions.specs.Lengths.{BlockLength, reached}
-use Rattle.definitions.specs.declared.deck_kind.DeckKind.{DeckKind}
-use Rattle.definitions.specs.declared.number_base.NumberBase.{NumberBase}
+use Rattle.definitions.specs.{Characters.same_text, Operations.is_neutral, DeckKinds.{number_base_set, or_number_base}, Settled.{Settled, Counting, LocationSetting, Unchanged, Counts, Ended, BlockChange, NoChange, Opens, Closes}, Blocks.{changes, open_names, block_in_use, blocks_used, is_named}, Places.{Position, position_in, no_position}, Counters.counting_in, Settling.{View, Seen, number_base_of, all_neutral}, Lengths.{BlockLength, reached}, declared.deck_kind.DeckKind.DeckKind, declared.number_base.NumberBase.NumberBase}
 
 -- a block that is used: its position, and its LOC in force
 pub record UsedBlock : Type 0 where

@@ -1,11 +1,6 @@
 -- A result for the deck at a place, whose lease was out (ours).
 use Rattle.std.specs.Prelude.{ℕ, ◌==◌, not, ◌&&◌, Option, Some, None, if◌then◌else◌}
-use Rattle.desk_core.specs.Joins.Language.{Deck}
-use Rattle.desk_core.specs.Desks.{Desk, DeskDeck, Kept, deck_of}
-use Rattle.desk_core.specs.Joins.Calls.{Done, Stored, Refused, Stale, Foreign}
-use Rattle.desk_core.specs.Answers.{Answer, answers}
-use Rattle.desk_core.specs.Delivering.{same_deck, lost, given_back, stored, is_for}
-use Rattle.desk_core.specs.Joins.OwnNames.{changed_at}
+use Rattle.desk_core.specs.{Joins.Language.Deck, Desks.{Desk, DeskDeck, Kept, deck_of}, Joins.Calls.{Done, Stored, Refused, Stale, Foreign}, Answers.{Answer, answers}, Delivering.{same_deck, lost, given_back, stored, is_for}, Joins.OwnNames.changed_at}
 
 -- a result that is not the deck's
 abbrev pub foreign_at : ℕ → Desk → Answer

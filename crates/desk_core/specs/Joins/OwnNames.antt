@@ -1,6 +1,5 @@
 -- What holds of the decks of each desk, and a deck known by its place (ours).
-use Rattle.std.specs.Prelude.{◌≡◌, ⊤, ℕ, suc, zero, ◌<◌, Bool, List, [], ◌∷◌, length, find, slice_get, Option, None}
-use Rattle.std.specs.Option.{ForSome}
+use Rattle.std.specs.{Prelude.{◌≡◌, ⊤, ℕ, suc, zero, ◌<◌, Bool, List, [], ◌∷◌, length, find, slice_get, Option, None}, Option.ForSome}
 use Rattle.desk_core.specs.Desks.{Desk, DeskDeck, is_named, is_leased}
 
 -- no deck has the name of one before it

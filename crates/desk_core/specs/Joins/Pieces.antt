@@ -1,9 +1,6 @@
 -- How the code keeps the cards of a deck in pieces, and edits them there (ours).
-use Rattle.std.specs.Prelude.{◌≡◌, ◌≤◌, ◌<◌, ◌+◌, ℕ, List, [], length, take, drop, get_or}
-use Rattle.std.specs.List.{flat_map}
-use Rattle.desk_core.specs.Joins.Language.{Card}
-use Rattle.desk_core.specs.declared.piece.Source.{Source}
-use Rattle.desk_core.specs.declared.piece.Source.TheVariants.{Object, Cards}
+use Rattle.std.specs.{Prelude.{◌≡◌, ◌≤◌, ◌<◌, ◌+◌, ℕ, List, [], length, take, drop, get_or}, List.flat_map}
+use Rattle.desk_core.specs.{Joins.Language.Card, declared.piece.Source.Source, declared.piece.Source.TheVariants.{Object, Cards}}
 
 -- the cards of what pieces are parts of
 abbrev pub source_cards : Source → List Card

@@ -1,13 +1,7 @@
 -- How the code keeps a deck (ours).
-use Rattle.std.specs.Prelude.{◌≡◌, ◌≤◌, ℕ, Bool, true, false, List, [], ◌∷◌, ◌++◌, length, map, is_some, Option, None, Some}
-use Rattle.std.specs.Option.{ForSome}
+use Rattle.std.specs.{Prelude.{◌≡◌, ◌≤◌, ℕ, Bool, true, false, List, [], ◌∷◌, ◌++◌, length, map, is_some, Option, None, Some}, Option.ForSome}
 use Rattle.cards.specs.declared.carrying.MadeEdit.{MadeEdit}
-use Rattle.desk_core.specs.Joins.Language.{Card, Deck}
-use Rattle.desk_core.specs.Joins.Edits.{Edit, most_cards, edited}
-use Rattle.desk_core.specs.Past.{Past, KeptEdit, undo_of}
-use Rattle.desk_core.specs.declared.past.Back.{Back}
-use Rattle.desk_core.specs.Led.{IsPastOf}
-use Rattle.desk_core.specs.Desks.{DeskDeck, Kept, Lease}
+use Rattle.desk_core.specs.{Joins.Language.{Card, Deck}, Joins.Edits.{Edit, most_cards, edited}, Past.{Past, KeptEdit, undo_of}, declared.past.Back.Back, Led.IsPastOf, Desks.{DeskDeck, Kept, Lease}}
 
 -- cards of one's own; or those that are held in common, where there are such
 abbrev pub cards_lying : List Card → Option (List Card) → List Card

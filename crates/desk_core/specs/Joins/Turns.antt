@@ -1,9 +1,6 @@
 -- What the code promises of a call (ours).
 use Rattle.std.specs.Prelude.{◌≡◌, ◌⊎◌, IsTrue}
-use Rattle.desk_core.specs.Desks.{Desk}
-use Rattle.desk_core.specs.Joins.Calls.{Reply, Refused, OutOfMemory}
-use Rattle.desk_core.specs.Answers.{Answer}
-use Rattle.desk_core.specs.Steps.{is_made}
+use Rattle.desk_core.specs.{Desks.Desk, Joins.Calls.{Reply, Refused, OutOfMemory}, Answers.Answer, Steps.is_made}
 
 -- the reply and the desk are those of an answer
 abbrev pub IsAnswer : Answer → Reply → Desk → Type 0

@@ -1,12 +1,8 @@
 -- The first of some edits made at once, which lie near each other, and the others left.
 use Rattle.std.specs.Prelude.{ℕ, ◌≡◌, None, List, drop, take}
-use Rattle.cards.specs.declared.edits.Edit.{Edit}
-use Rattle.cards.specs.Edits.{edited_by}
+use Rattle.cards.specs.{declared.edits.Edit.Edit, Edits.edited_by}
 use Rattle.statement_coder.specs.Meters.{Counts}
-use Rattle.edit_core.specs.Edited.{IsRecordOf, RisesToAnew, RisesToRebound}
-use Rattle.edit_core.specs.Faults.{against_all}
-use Rattle.edit_core.specs.Records.{Record}
-use Rattle.edit_core.specs.Sums.{CountsInOrder}
+use Rattle.edit_core.specs.{Edited.{IsRecordOf, RisesToAnew, RisesToRebound}, Faults.against_all, Records.Record, Sums.CountsInOrder}
 
 -- so many of these edits were made, and the others, which apply, are left
 pub record IsFirstMade (count : ℕ) (edits others : List Edit) (old new : Record) (before behind : Counts) : Type 0 where

@@ -1,10 +1,6 @@
 -- What the elements of an expression are, link by link.
 use Rattle.std.specs.Prelude.{ℕ, List, [], ◌∷◌, Option, None, map, flat_map, filter_map}
-use Rattle.definitions.specs.CountedItems.{CountedItem}
-use Rattle.definitions.specs.Expressions.{Literal, Element, OperatorElement}
-use Rattle.definitions.specs.Literals.{literal_in}
-use Rattle.definitions.specs.StatementItems.{whole_term}
-use Rattle.definitions.specs.Laws.Agreement.{symbols_of_element}
+use Rattle.definitions.specs.{CountedItems.CountedItem, Expressions.{Literal, Element, OperatorElement}, Literals.literal_in, StatementItems.whole_term, Laws.Agreement.symbols_of_element}
 
 -- the elements behind the operators
 abbrev pub elements_in : List OperatorElement → List Element

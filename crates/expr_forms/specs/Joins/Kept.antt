@@ -1,19 +1,13 @@
 -- What is kept of a reading, in the words of what was read.
 use Rattle.std.specs.Prelude.{ℕ}
-use Rattle.definitions.specs.Symbols.{Value}
-use Rattle.definitions.specs.Expressions.{Element, ANumber, ASymbol, ARegister, LocationCounter, OriginCounter, ALiteral, OfNumber, OperatorElement}
-use Rattle.expr_forms.specs.Joins.Elements.{sign_as}
-use Rattle.expr_forms.specs.Joins.Links.{operator_as}
-use Rattle.expr_forms.specs.Joins.Registers.{register_as}
+use Rattle.definitions.specs.{Symbols.Value, Expressions.{Element, ANumber, ASymbol, ARegister, LocationCounter, OriginCounter, ALiteral, OfNumber, OperatorElement}}
+use Rattle.expr_forms.specs.{Joins.Elements.sign_as, Joins.Links.operator_as, Joins.Registers.register_as, declared.links.Operator.Operator, declared.shapes.Field.Field, declared.shapes.Shape.Shape}
 use Rattle.expr_forms.specs.declared.kept_expressions.KeptElement as elements
 use Rattle.expr_forms.specs.declared.kept_expressions.KeptElement.TheVariants as element
 use Rattle.expr_forms.specs.declared.kept_shapes.KeptField as fields
 use Rattle.expr_forms.specs.declared.kept_shapes.KeptField.TheVariants as kept
 use Rattle.expr_forms.specs.declared.kept_shapes.KeptShape as shapes
-use Rattle.expr_forms.specs.declared.links.Operator.{Operator}
-use Rattle.expr_forms.specs.declared.shapes.Field.{Field}
 use Rattle.expr_forms.specs.declared.shapes.Field.TheVariants as field
-use Rattle.expr_forms.specs.declared.shapes.Shape.{Shape}
 
 -- the element
 abbrev pub kept_element_as : elements.KeptElement → Element

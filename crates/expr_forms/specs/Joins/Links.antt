@@ -1,8 +1,6 @@
 -- Links of the code, in the words of the definitions.
 use Rattle.std.specs.Prelude.{ℕ, List, [], ◌∷◌, Option, Some, None, ⊤, unwrap_or, ◌≡◌, true, is_some}
-use Rattle.definitions.specs.Pieces.{Mark, Inside, pieces_at}
-use Rattle.definitions.specs.Expressions.{Operator, Times, Divide, Add, Subtract, OperatorElement, operator_of_mark, onto_pairs, pairs_of}
-use Rattle.definitions.specs.declared.number_base.NumberBase.{NumberBase}
+use Rattle.definitions.specs.{Pieces.{Mark, Inside, pieces_at}, Expressions.{Operator, Times, Divide, Add, Subtract, OperatorElement, operator_of_mark, onto_pairs, pairs_of}, declared.number_base.NumberBase.NumberBase}
 use Rattle.expr_forms.specs.Joins.Elements.{element_as}
 use Rattle.expr_forms.specs.declared.links.Operator as operators
 use Rattle.expr_forms.specs.declared.links.Operator.TheVariants as operator

@@ -1,8 +1,7 @@
 -- The terms of an expression that are one register, and what is left without them (COMPASS 60492600, CPU instructions).
 use Rattle.std.specs.Prelude.{List, [], ◌∷◌, Bool, true, false, ◌&&◌, if◌then◌else◌}
 use Rattle.definitions.specs.Expressions.{Element, ARegister, Operator, Times, Divide, Add, Subtract, OperatorElement, Term}
-use Rattle.expr_forms.specs.declared.links.LoneRegisters.{LoneRegisters}
-use Rattle.expr_forms.specs.declared.links.LoneRegisters.TheVariants.{Kept, LeftOut}
+use Rattle.expr_forms.specs.declared.links.LoneRegisters.{LoneRegisters, TheVariants.{Kept, LeftOut}}
 
 -- plus and minus stand between terms
 abbrev pub joins_terms : Operator → Bool

@@ -1,6 +1,5 @@
 -- How a name lies in memory: its characters, and zeros behind them.
-use Rattle.std.specs.Prelude.{ℕ, ◌≡◌, ◌-◌, ◌≤◌, List, ◌++◌, length, take, drop, replicate}
-use Rattle.std.proofs.Common.{◌∙◌, ap, sym, arith, length-take-le, take-append-drop}
+use Rattle.std.{specs.Prelude.{ℕ, ◌≡◌, ◌-◌, ◌≤◌, List, ◌++◌, length, take, drop, replicate}, proofs.Common.{◌∙◌, ap, sym, arith, length-take-le, take-append-drop}}
 
 pub record IsName (len : ℕ) (characters : List ℕ) : Type 0 where
   pub short : len ≤ 9

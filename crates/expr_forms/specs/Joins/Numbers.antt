@@ -1,10 +1,6 @@
 -- Numbers of the code, in the words of the definitions.
-use Rattle.std.specs.Prelude.{ℕ, ◌≡◌, ◌≤◌, List, length}
-use Rattle.std.specs.List.{prefix_len}
-use Rattle.definitions.specs.Characters.{is_digit}
-use Rattle.definitions.specs.Symbols.{Number, Value, TooGreat}
-use Rattle.definitions.specs.declared.number_base.NumberBase.{NumberBase}
-use Rattle.definitions.specs.declared.number_base.NumberBase.TheVariants.{Decimal, Octal}
+use Rattle.std.specs.{Prelude.{ℕ, ◌≡◌, ◌≤◌, List, length}, List.prefix_len}
+use Rattle.definitions.specs.{Characters.is_digit, Symbols.{Number, Value, TooGreat}, declared.number_base.NumberBase.NumberBase, declared.number_base.NumberBase.TheVariants.{Decimal, Octal}}
 use Rattle.expr_forms.specs.declared.numbers.Number as code
 use Rattle.expr_forms.specs.declared.numbers.Number.TheVariants as number
 

@@ -1,8 +1,6 @@
 -- Subfields that are expressions, and operands of one to three of them.
 use Rattle.std.specs.Prelude.{◌≡◌, ◌≤◌, List, [], ◌∷◌, length, Some, Bool, false, ◌&&◌, is_some}
-use Rattle.definitions.specs.Pieces.{Piece, pieces_of}
-use Rattle.definitions.specs.Expressions.{expression_of}
-use Rattle.definitions.specs.declared.number_base.NumberBase.{NumberBase}
+use Rattle.definitions.specs.{Pieces.{Piece, pieces_of}, Expressions.expression_of, declared.number_base.NumberBase.NumberBase}
 use Rattle.expr_forms.specs.declared.operands.Subfield.{Subfield}
 use Rattle.expr_forms.specs.declared.operands.Operand as code
 use Rattle.expr_forms.specs.declared.operands.Operand.TheVariants as operand

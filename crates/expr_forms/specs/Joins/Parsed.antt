@@ -1,13 +1,7 @@
 -- What an expression of the code is, in the words of the definitions.
-use Rattle.std.specs.Prelude.{ℕ, ◌≡◌, ◌≤◌, List, [], ◌∷◌, Bool, true, false, length}
-use Rattle.std.specs.List.{list_all}
-use Rattle.definitions.specs.Expressions.{Sign, OperatorElement, Expression, grouped, is_allowed, is_plain}
-use Rattle.definitions.specs.declared.number_base.NumberBase.{NumberBase}
-use Rattle.definitions.proofs.TermLaws.{JoinsTerms, links_in}
-use Rattle.expr_forms.specs.Joins.ElementLists.{elements_in}
-use Rattle.expr_forms.specs.Joins.Links.{IsLawful, links_behind}
-use Rattle.expr_forms.specs.Joins.LoneRegisters.{has_terms, terms_left_by}
-use Rattle.expr_forms.specs.declared.links.LoneRegisters.{LoneRegisters}
+use Rattle.std.specs.{Prelude.{ℕ, ◌≡◌, ◌≤◌, List, [], ◌∷◌, Bool, true, false, length}, List.list_all}
+use Rattle.definitions.{specs.Expressions.{Sign, OperatorElement, Expression, grouped, is_allowed, is_plain}, specs.declared.number_base.NumberBase.NumberBase, proofs.TermLaws.{JoinsTerms, links_in}}
+use Rattle.expr_forms.specs.{Joins.ElementLists.elements_in, Joins.Links.{IsLawful, links_behind}, Joins.LoneRegisters.{has_terms, terms_left_by}, declared.links.LoneRegisters.LoneRegisters}
 
 -- the expression of a sign, its first link and those that a text spells behind it, with the terms of one register or without them
 abbrev pub expression_behind : NumberBase → Sign → OperatorElement → List ℕ → LoneRegisters → Expression

@@ -1,7 +1,6 @@
 -- Numbers in range.
 use Rattle.std.specs.Prelude.{ℤ, Result, Ok, Err, if◌then◌else◌}
-use Rattle.definitions.specs.Forms.{is_in_range}
-use Rattle.definitions.specs.declared.letter.Letter.{Letter}
+use Rattle.definitions.specs.{Forms.is_in_range, declared.letter.Letter.Letter}
 use Rattle.definitions.specs.declared.letter.Letter.TheVariants as letter
 
 -- a number, or A where it is out of range

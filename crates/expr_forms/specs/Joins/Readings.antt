@@ -1,14 +1,7 @@
 -- What was read in a variable field, in the words of the definitions.
 use Rattle.std.specs.Prelude.{ℕ, List, [], ◌∷◌, Option, Some, None, Bool, codes, if◌then◌else◌}
-use Rattle.definitions.specs.Characters.{same_text}
-use Rattle.definitions.specs.Pieces.{Piece, Plain}
-use Rattle.definitions.specs.Symbols.{is_block_name, number_read}
-use Rattle.definitions.specs.Expressions.{Sign}
-use Rattle.definitions.specs.Operands.{Datum, ZeroWord, NumberWord, CountedItemWords, ExpressionWord, number_word, BitField, bit_field, given_expression, plain_of, Operand, BadOperand, UseName, UseBefore, UseRefused}
-use Rattle.definitions.specs.declared.number_base.NumberBase.{NumberBase}
-use Rattle.expr_forms.specs.Joins.Numbers.{number_as}
-use Rattle.expr_forms.specs.Joins.Elements.{sign_as}
-use Rattle.definitions.specs.Laws.ItemTexts.{item_as}
+use Rattle.definitions.specs.{Characters.same_text, Pieces.{Piece, Plain}, Symbols.{is_block_name, number_read}, Expressions.Sign, Operands.{Datum, ZeroWord, NumberWord, CountedItemWords, ExpressionWord, number_word, BitField, bit_field, given_expression, plain_of, Operand, BadOperand, UseName, UseBefore, UseRefused}, declared.number_base.NumberBase.NumberBase, Laws.ItemTexts.item_as}
+use Rattle.expr_forms.specs.Joins.{Numbers.number_as, Elements.sign_as}
 use Rattle.expr_forms.specs.declared.data_words.Datum as words
 use Rattle.expr_forms.specs.declared.data_words.Datum.TheVariants as word
 use Rattle.expr_forms.specs.declared.bit_fields.BitField as fields

@@ -1,7 +1,6 @@
 -- A sum while it goes on, in the words of the definitions.
 use Rattle.std.specs.Prelude.{ℕ, ◌≡◌, ◌≤◌, ℤ, pos, negsuc, unsigned_abs, List, [], ◌∷◌, Bool, not, map, take, Result, Ok, Err, Option, Some, None, ⊤}
-use Rattle.definitions.specs.Forms.{Relocation, Part, Added, Subtracted, Running, same_relocation}
-use Rattle.definitions.specs.declared.letter.Letter.{Letter}
+use Rattle.definitions.specs.{Forms.{Relocation, Part, Added, Subtracted, Running, same_relocation}, declared.letter.Letter.Letter}
 use Rattle.expr_forms.specs.Joins.FormsAs.{relocation_as}
 use Rattle.expr_forms.specs.declared.running.Base as bases
 use Rattle.expr_forms.specs.declared.running.RunningSum as sums

@@ -1,13 +1,9 @@
 -- Instructions of the code, in the words of the definitions.
 use Rattle.std.specs.Prelude.{ℕ, ◌≡◌, ◌+◌, ◌*◌, List, [], ◌∷◌, Option, Some, None}
-use Rattle.definitions.specs.Expressions.{Expression}
-use Rattle.definitions.specs.Kinds.{address_bits}
+use Rattle.definitions.specs.{Expressions.Expression, Kinds.address_bits, Matching.Instruction, PeripheralTable.{PeripheralForm, PeripheralRow}}
 use Rattle.definitions.specs.Matching as matching
-use Rattle.definitions.specs.Matching.{Instruction}
 use Rattle.definitions.specs.PeripheralTable as table
-use Rattle.definitions.specs.PeripheralTable.{PeripheralForm, PeripheralRow}
-use Rattle.expr_forms.specs.declared.shapes.Shape.{Shape}
-use Rattle.expr_forms.specs.declared.shapes.Field.{Field}
+use Rattle.expr_forms.specs.declared.shapes.{Shape.Shape, Field.Field}
 use Rattle.expr_forms.specs.declared.shapes.Field.TheVariants as field
 
 -- the field of a central instruction, if it is one

@@ -1,7 +1,6 @@
 -- Where a variable field is cut into subfields, character by character, in the words of the definitions.
 use Rattle.std.specs.Prelude.{ℕ, zero, suc, ◌==◌, List, [], ◌∷◌, Option, Some, None, Bool, true, false, if◌then◌else◌}
-use Rattle.definitions.specs.Characters.{comma}
-use Rattle.definitions.specs.Pieces.{Comma, Spot, AtStart, Begun, ByMark, Piece, begun_at, spot_behind, left_of, pieces_of, subfields_of}
+use Rattle.definitions.specs.{Characters.comma, Pieces.{Comma, Spot, AtStart, Begun, ByMark, Piece, begun_at, spot_behind, left_of, pieces_of, subfields_of}}
 
 -- whether a subfield ends before what began
 abbrev pub ends_subfield : Begun → Bool

@@ -1,16 +1,9 @@
 -- Sums taken apart, in the words of the definitions (COMPASS 60492600, CPU instructions).
 use Rattle.std.specs.Prelude.{ℕ, ◌≡◌, ◌+◌, ◌<◌, List, [], ◌∷◌, ◌++◌, length, Option, Some, None, Bool, true, false}
-use Rattle.definitions.specs.Characters.{zero_digit}
-use Rattle.definitions.specs.Symbols.{Register}
-use Rattle.definitions.specs.Expressions.{Sign, Expression, Operator, OperatorElement, grouped}
+use Rattle.definitions.specs.{Characters.zero_digit, Symbols.Register, Expressions.{Sign, Expression, Operator, OperatorElement, grouped}, Matching.{Field, NoField, OfK, sign_text, is_none_yet, onto_sum, sum_field}}
 use Rattle.definitions.specs.Matching as matching
-use Rattle.definitions.specs.Matching.{Field, NoField, OfK, sign_text, is_none_yet, onto_sum, sum_field}
-use Rattle.expr_forms.specs.declared.sums.SumRegisters.{SumRegisters}
+use Rattle.expr_forms.specs.{declared.sums.SumRegisters.SumRegisters, declared.sums.Sum.Sum, declared.sums.Parts.Parts, Joins.Elements.sign_as, Joins.LoneRegisters.{joins_terms, has_terms}}
 use Rattle.expr_forms.specs.declared.sums.SumRegisters.TheVariants as registers
-use Rattle.expr_forms.specs.declared.sums.Sum.{Sum}
-use Rattle.expr_forms.specs.declared.sums.Parts.{Parts}
-use Rattle.expr_forms.specs.Joins.Elements.{sign_as}
-use Rattle.expr_forms.specs.Joins.LoneRegisters.{joins_terms, has_terms}
 
 -- a text of registers with one more
 abbrev pub with_register : List ℕ → Operator → Register → List ℕ

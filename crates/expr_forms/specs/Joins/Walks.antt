@@ -1,12 +1,7 @@
 -- The value of an expression while its links are walked over.
 use Rattle.std.specs.Prelude.{ℕ, ◌≡◌, List, Result, Ok, Err, ⊤}
-use Rattle.definitions.specs.Expressions.{Operator, OperatorElement, grouped}
-use Rattle.definitions.specs.Forms.{Form, Names, Running, product, plus_term, sum_from, closed}
-use Rattle.definitions.specs.declared.letter.Letter.{Letter}
-use Rattle.expr_forms.specs.Joins.Links.{operator_as}
-use Rattle.expr_forms.specs.Joins.Running.{running_as}
-use Rattle.expr_forms.specs.declared.running.Base.{Base}
-use Rattle.expr_forms.specs.declared.values.Walk.{Walk}
+use Rattle.definitions.specs.{Expressions.{Operator, OperatorElement, grouped}, Forms.{Form, Names, Running, product, plus_term, sum_from, closed}, declared.letter.Letter.Letter}
+use Rattle.expr_forms.specs.{Joins.Links.operator_as, Joins.Running.running_as, declared.running.Base.Base, declared.values.Walk.Walk}
 use Rattle.expr_forms.specs.declared.values.Walked as codes
 use Rattle.expr_forms.specs.declared.values.Walked.TheVariants as walked
 

@@ -1,14 +1,8 @@
 -- The rows of the code's tables and of the definitions' (COMPASS 60492600, CPU instructions), both with names of three characters.
 use Rattle.std.specs.Prelude.{ℕ, Bool, true, false, List, [], ◌∷◌, map, filter}
 use Rattle.definitions.specs.CentralTable as table
-use Rattle.definitions.specs.CentralTable.{SumRow, ignoring_rows, sum_rows, central_rows}
-use Rattle.definitions.specs.Matching.{is_operation}
-use Rattle.operations.specs.declared.row.Row.{Row}
-use Rattle.operations.specs.declared.central.code.Code.{Code}
-use Rattle.operations.specs.declared.central.code.OperandForm.{OperandForm}
-use Rattle.operations.specs.declared.central.code.SumForm.{SumForm}
-use Rattle.operations.specs.Joins.OperationNames.{padded}
-use Rattle.operations.specs.Joins.CodeTexts.{code_text, code_text_or_none, operand_text, registers_text}
+use Rattle.definitions.specs.{CentralTable.{SumRow, ignoring_rows, sum_rows, central_rows}, Matching.is_operation}
+use Rattle.operations.specs.{declared.row.Row.Row, declared.central.code.Code.Code, declared.central.code.OperandForm.OperandForm, declared.central.code.SumForm.SumForm, Joins.OperationNames.padded, Joins.CodeTexts.{code_text, code_text_or_none, operand_text, registers_text}}
 
 -- a row of the code as the definitions have one
 abbrev pub operand_row : Row OperandForm → table.Row

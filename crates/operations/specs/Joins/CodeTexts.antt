@@ -1,11 +1,8 @@
 -- Patterns and codes as the manual writes them (COMPASS 60492600, CPU instructions).
 use Rattle.std.specs.Prelude.{ℕ, List, [], ◌∷◌, Option, Some, None, codes, if◌then◌else◌}
 use Rattle.definitions.specs.Characters.{is_among}
-use Rattle.operations.specs.declared.central.code.Code.{Code}
-use Rattle.operations.specs.declared.central.code.Code.TheVariants.{Short, Long}
-use Rattle.operations.specs.declared.central.patterns.OperandPattern.{OperandPattern}
+use Rattle.operations.specs.declared.central.{code.Code.Code, code.Code.TheVariants.{Short, Long}, patterns.OperandPattern.OperandPattern, patterns.SumPattern.SumPattern}
 use Rattle.operations.specs.declared.central.patterns.OperandPattern.TheVariants as operand
-use Rattle.operations.specs.declared.central.patterns.SumPattern.{SumPattern}
 use Rattle.operations.specs.declared.central.patterns.SumPattern.TheVariants as registers
 
 -- K and n once, where they stand for several digits

@@ -1,14 +1,8 @@
 -- What the rows of an operation make of an operand, by the digit that the operation's name has (COMPASS 60492600, CPU instructions).
-use Rattle.std.specs.Prelude.{ℕ, ◌-◌, ◌==◌, List, [], ◌∷◌, Option, Some, None, nat_le, length, if◌then◌else◌}
-use Rattle.std.specs.List.{slice_split}
-use Rattle.definitions.specs.Characters.{comma, zero_digit}
-use Rattle.definitions.specs.Pieces.{Piece}
+use Rattle.std.specs.{Prelude.{ℕ, ◌-◌, ◌==◌, List, [], ◌∷◌, Option, Some, None, nat_le, length, if◌then◌else◌}, List.slice_split}
+use Rattle.definitions.specs.{Characters.{comma, zero_digit}, Pieces.Piece, CentralTable.SumRow, Matching.{RegisterDigits, no_ijk, is_octal_digit, matched, Field, NoField, Match, is_plain_field, Instruction, Sum, instruction_of, matched_instruction, subfields_matched, sum_code, sum_instruction}, declared.number_base.NumberBase.NumberBase}
 use Rattle.definitions.specs.CentralTable as table
-use Rattle.definitions.specs.CentralTable.{SumRow}
-use Rattle.definitions.specs.Matching.{RegisterDigits, no_ijk, is_octal_digit, matched, Field, NoField, Match, is_plain_field, Instruction, Sum, instruction_of, matched_instruction, subfields_matched, sum_code, sum_instruction}
-use Rattle.definitions.specs.declared.number_base.NumberBase.{NumberBase}
-use Rattle.operations.specs.declared.central.registers_found.RegistersFound.{RegistersFound}
-use Rattle.operations.specs.Joins.RegistersFound.{digits_as}
+use Rattle.operations.specs.{declared.central.registers_found.RegistersFound.RegistersFound, Joins.RegistersFound.digits_as}
 
 -- the rest of a text against the rest of a pattern, where what is before them fits
 abbrev pub matched_behind : Option RegistersFound → List ℕ → List ℕ → Option RegisterDigits

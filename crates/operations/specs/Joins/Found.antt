@@ -1,16 +1,10 @@
 -- What an operand gives while it is matched, in the words of the definitions.
 use Rattle.std.specs.Prelude.{ℕ, ◌≡◌, List, Option, Some, None}
-use Rattle.definitions.specs.Pieces.{Piece}
-use Rattle.definitions.specs.Matching.{Field, NoField, OfK, OfN, Match, Instruction, central_of, instruction_of, subfield_matched}
-use Rattle.definitions.specs.declared.number_base.NumberBase.{NumberBase}
-use Rattle.expr_forms.specs.Joins.Operands.{IsOperand}
-use Rattle.expr_forms.specs.Joins.Shapes.{instruction_as}
-use Rattle.expr_forms.specs.declared.operands.Operand.{Operand}
-use Rattle.expr_forms.specs.declared.shapes.Shape.{Shape}
-use Rattle.operations.specs.Joins.RegistersFound.{digits_as}
+use Rattle.definitions.specs.{Pieces.Piece, Matching.{Field, NoField, OfK, OfN, Match, Instruction, central_of, instruction_of, subfield_matched}, declared.number_base.NumberBase.NumberBase}
+use Rattle.expr_forms.specs.{Joins.Operands.IsOperand, Joins.Shapes.instruction_as, declared.operands.Operand.Operand, declared.shapes.Shape.Shape}
+use Rattle.operations.specs.Joins.{RegistersFound.digits_as, CodeTexts.code_text}
 use Rattle.operations.specs.declared.central.found.CentralField as fields
 use Rattle.operations.specs.declared.central.found.CentralField.TheVariants as field
-use Rattle.operations.specs.Joins.CodeTexts.{code_text}
 use Rattle.operations.specs.declared.central.found.Found as founds
 use Rattle.operations.specs.declared.central.found.Fitted as fitteds
 

@@ -1,9 +1,6 @@
 -- The kind of a deck, found statement by statement (COMPASS 60492600, ABS, PERIPH).
 use Rattle.std.specs.Prelude.{List, [], ◌∷◌, Option, Some, None, if◌then◌else◌}
-use Rattle.definitions.specs.Fields.{Fields}
-use Rattle.definitions.specs.Operations.{Operation, pseudo_instructions, pseudo_among, is_neutral}
-use Rattle.definitions.specs.DeckKinds.{kind_made}
-use Rattle.definitions.specs.declared.deck_kind.DeckKind.{DeckKind}
+use Rattle.definitions.specs.{Fields.Fields, Operations.{Operation, pseudo_instructions, pseudo_among, is_neutral}, DeckKinds.kind_made, declared.deck_kind.DeckKind.DeckKind}
 
 -- the kind that an operation makes, where it is not neutral
 abbrev pub kind_made_by : Option Operation → Option DeckKind

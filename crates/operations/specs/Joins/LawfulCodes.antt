@@ -1,12 +1,7 @@
 -- Codes that are written in octal digits (ours).
-use Rattle.std.specs.Prelude.{ℕ, List, Option, Some, None, Bool, true, ◌&&◌, nat_lt, nat_le, length}
-use Rattle.std.specs.List.{list_all}
+use Rattle.std.specs.{Prelude.{ℕ, List, Option, Some, None, Bool, true, ◌&&◌, nat_lt, nat_le, length}, List.list_all}
 use Rattle.definitions.specs.Matching.{RegisterDigits, code_digits}
-use Rattle.operations.specs.declared.row.Row.{Row}
-use Rattle.operations.specs.declared.central.code.Code.{Code}
-use Rattle.operations.specs.declared.central.code.OperandForm.{OperandForm}
-use Rattle.operations.specs.declared.central.code.SumForm.{SumForm}
-use Rattle.operations.specs.Joins.CodeTexts.{code_text}
+use Rattle.operations.specs.{declared.row.Row.Row, declared.central.code.Code.Code, declared.central.code.OperandForm.OperandForm, declared.central.code.SumForm.SumForm, Joins.CodeTexts.code_text}
 
 -- the greatest registers
 abbrev pub sevens : RegisterDigits

@@ -1,8 +1,7 @@
 -- The name under which a table has an operation (ours): its two letters, and i in place of a digit, or a blank.
 use Rattle.std.specs.Prelude.{ℕ, List, [], ◌∷◌, Option, Some, None, filter, if◌then◌else◌}
 use Rattle.definitions.specs.Matching.{is_octal_digit}
-use Rattle.operations.specs.declared.row.Row.{Row}
-use Rattle.operations.specs.Joins.SortedNames.{name_number, has_number}
+use Rattle.operations.specs.{declared.row.Row.Row, Joins.SortedNames.{name_number, has_number}}
 
 -- the name of an operation, if it can have one: that of BX6 is BXi
 abbrev pub name_of : List ℕ → Option (List ℕ)

@@ -1,7 +1,6 @@
 -- Patterns that are compared with the text of a subfield itself, without its pieces (ours).
 use Rattle.std.specs.Prelude.{ℕ, ◌==◌, List, [], ◌∷◌, Bool, true, not, ◌&&◌, ◌||◌, codes}
-use Rattle.definitions.specs.Characters.{is_digit, same_text, blank, equals}
-use Rattle.definitions.specs.Matching.{is_ijk}
+use Rattle.definitions.specs.{Characters.{is_digit, same_text, blank, equals}, Matching.is_ijk}
 use Rattle.operations.specs.Joins.RegisterPieces.{is_of_run}
 
 -- a pattern where an item may stand in a text: it begins with no place of a digit, no digit and no blank

@@ -2,9 +2,7 @@
 use Rattle.std.specs.Prelude.{ℕ, List, [], Option, option_map}
 use Rattle.definitions.specs.PeripheralTable as table
 use Rattle.definitions.specs.PeripheralTable.{PeripheralForm, PeripheralRow}
-use Rattle.operations.specs.declared.peripheral.code.Code.{Code}
-use Rattle.operations.specs.declared.peripheral.code.Form.{Form}
-use Rattle.operations.specs.declared.peripheral.code.Form.TheVariants.{Ignored, Short, ShortJump, Shift, Wide, Long}
+use Rattle.operations.specs.declared.peripheral.code.{Code.Code, Form.Form, Form.TheVariants.{Ignored, Short, ShortJump, Shift, Wide, Long}}
 
 -- a form, as the definitions name it
 abbrev pub form_as : Form → PeripheralForm

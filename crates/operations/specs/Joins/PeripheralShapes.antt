@@ -1,14 +1,9 @@
 -- Operands of peripheral instructions, found for the code's instructions (6600 reference 60100000, peripheral instructions).
 use Rattle.std.specs.Prelude.{◌≡◌, List, [], ◌∷◌, Option, Some, None, Bool, true, false}
-use Rattle.definitions.specs.Expressions.{Expression}
+use Rattle.definitions.specs.{Expressions.Expression, PeripheralTable.{PeripheralForm, PeripheralRow}, declared.letter.Letter.Letter, declared.letter.Letter.TheVariants.{O, V}}
 use Rattle.definitions.specs.PeripheralTable as table
-use Rattle.definitions.specs.PeripheralTable.{PeripheralForm, PeripheralRow}
 use Rattle.definitions.specs.Operands as operand
-use Rattle.definitions.specs.declared.letter.Letter.{Letter}
-use Rattle.definitions.specs.declared.letter.Letter.TheVariants.{O, V}
-use Rattle.expr_forms.specs.declared.shapes.Shape.{Shape}
-use Rattle.expr_forms.specs.declared.shapes.Field.{Field}
-use Rattle.expr_forms.specs.Joins.Shapes.{HasForm, IsPeripheral}
+use Rattle.expr_forms.specs.{declared.shapes.Shape.Shape, declared.shapes.Field.Field, Joins.Shapes.{HasForm, IsPeripheral}}
 
 -- an operand of a peripheral instruction, with the digits and the field of a shape
 abbrev pub IsFound : Shape → operand.Operand → Type 0

@@ -1,10 +1,7 @@
 -- A table of peripheral instructions as the definitions have it.
 use Rattle.std.specs.Prelude.{ℕ, ◌==◌, List, [], ◌∷◌, Option, Some, None, map, filter}
 use Rattle.definitions.specs.PeripheralTable.{PeripheralRow}
-use Rattle.operations.specs.declared.row.Row.{Row}
-use Rattle.operations.specs.Joins.SortedNames.{name_number}
-use Rattle.operations.specs.declared.peripheral.code.Code.{Code}
-use Rattle.operations.specs.Joins.PeripheralCodes.{row_as}
+use Rattle.operations.specs.{declared.row.Row.Row, Joins.SortedNames.name_number, declared.peripheral.code.Code.Code, Joins.PeripheralCodes.row_as}
 
 -- the rows of a table
 abbrev pub rows_as : List (Row Code) → List PeripheralRow

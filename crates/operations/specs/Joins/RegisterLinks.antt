@@ -1,7 +1,6 @@
 -- A pattern of registers against the elements of an expression (COMPASS 60492600, CPU instructions).
 use Rattle.std.specs.Prelude.{ℕ, ◌==◌, List, [], ◌∷◌, Option, Some, None, if◌then◌else◌}
-use Rattle.definitions.specs.Expressions.{Element, ARegister, Operator, Times, Divide, Add, Subtract, OperatorElement}
-use Rattle.definitions.specs.Matching.{RegisterDigits, with_ijk}
+use Rattle.definitions.specs.{Expressions.{Element, ARegister, Operator, Times, Divide, Add, Subtract, OperatorElement}, Matching.{RegisterDigits, with_ijk}}
 
 -- the character of an operator
 abbrev pub operator_character : Operator → ℕ

@@ -1,9 +1,6 @@
 -- A pattern of registers against the pieces of a subfield (COMPASS 60492600, CPU instructions), without the text in between.
-use Rattle.std.specs.Prelude.{ℕ, ◌-◌, ◌==◌, List, [], ◌∷◌, Option, Some, None, Bool, true, false, not, ◌&&◌, ◌||◌, codes, is_none, if◌then◌else◌}
-use Rattle.std.specs.List.{list_all}
-use Rattle.definitions.specs.Characters.{same_text, is_among}
-use Rattle.definitions.specs.Pieces.{Mark, Comma, Plus, Minus, Star, Slash, Equals, Piece, IsMark, IsCountedItem, Plain, mark_of}
-use Rattle.definitions.specs.Matching.{RegisterDigits, is_ijk, with_ijk, is_octal_digit}
+use Rattle.std.specs.{Prelude.{ℕ, ◌-◌, ◌==◌, List, [], ◌∷◌, Option, Some, None, Bool, true, false, not, ◌&&◌, ◌||◌, codes, is_none, if◌then◌else◌}, List.list_all}
+use Rattle.definitions.specs.{Characters.{same_text, is_among}, Pieces.{Mark, Comma, Plus, Minus, Star, Slash, Equals, Piece, IsMark, IsCountedItem, Plain, mark_of}, Matching.{RegisterDigits, is_ijk, with_ijk, is_octal_digit}}
 
 -- the character of a mark
 abbrev pub mark_character : Mark → ℕ

@@ -1,6 +1,5 @@
 -- Tables sorted by names of three characters (ours).
-use Rattle.std.specs.Prelude.{ℕ, ◌+◌, ◌*◌, ◌==◌, List, [], ◌∷◌, Bool, true, ◌&&◌, nat_le, nat_lt, slice_index, length, filter}
-use Rattle.std.specs.List.{list_all}
+use Rattle.std.specs.{Prelude.{ℕ, ◌+◌, ◌*◌, ◌==◌, List, [], ◌∷◌, Bool, true, ◌&&◌, nat_le, nat_lt, slice_index, length, filter}, List.list_all}
 use Rattle.operations.specs.declared.row.Row.{Row}
 
 -- three characters as one number

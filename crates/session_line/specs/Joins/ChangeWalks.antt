@@ -1,10 +1,8 @@
 -- The changes of edits that are kept, one after the other (ours).
-use Rattle.std.specs.Prelude.{ℕ, suc, ◌==◌, List, [], ◌∷◌, flat_map, map}
-use Rattle.std.specs.List.{prefix_len}
+use Rattle.std.specs.{Prelude.{ℕ, suc, ◌==◌, List, [], ◌∷◌, flat_map, map}, List.prefix_len}
 use Rattle.desk_core.specs.declared.past.KeptEdit.{KeptEdit}
 use Rattle.session_commands.specs.Lines.{line_in_batch}
-use Rattle.session_line.specs.ChangeLines.{change_with, lines_of_change}
-use Rattle.session_line.specs.Replies.{line_of}
+use Rattle.session_line.specs.{ChangeLines.{change_with, lines_of_change}, Replies.line_of}
 
 -- how many of the first edits made this version
 abbrev pub run_len : ℕ → List KeptEdit → ℕ

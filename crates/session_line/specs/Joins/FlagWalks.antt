@@ -1,10 +1,8 @@
 -- The statements of a deck that are shown, from the lines of its object, and the lines of a map that are shown, one after the other (ours).
 use Rattle.std.specs.Prelude.{ℕ, suc, ◌+◌, ◌==◌, is_none, List, [], ◌∷◌, ◌++◌, drop, length, map, take, if◌then◌else◌}
-use Rattle.definitions.specs.Cards.{Card}
-use Rattle.definitions.specs.Characters.{line_feed}
+use Rattle.definitions.specs.{Cards.Card, Characters.line_feed}
 use Rattle.deck_objects.specs.declared.lines.Line.{Line}
-use Rattle.session_line.specs.Errors.{Flag, flag_of, flag_text, shows_line}
-use Rattle.session_line.specs.Replies.{line_of, text_of_lines}
+use Rattle.session_line.specs.{Errors.{Flag, flag_of, flag_text, shows_line}, Replies.{line_of, text_of_lines}}
 use Rattle.session_commands.specs.declared.views.ErrorsView.{ErrorsView}
 
 -- those that are shown of statements that have these cards, of which so many stand before

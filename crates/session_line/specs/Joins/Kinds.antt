@@ -1,8 +1,7 @@
 -- The calls that sessions make, and the kinds of replies that fit each (ours).
 use Rattle.std.specs.Prelude.{Bool, true, false}
-use Rattle.desk_core.specs.declared.calls.Call.{Call}
+use Rattle.desk_core.specs.declared.{calls.Call.Call, replies.Reply.Reply}
 use Rattle.desk_core.specs.declared.calls.Call.TheVariants as call
-use Rattle.desk_core.specs.declared.replies.Reply.{Reply}
 use Rattle.desk_core.specs.declared.replies.Reply.TheVariants as reply
 
 -- whether a session makes this call

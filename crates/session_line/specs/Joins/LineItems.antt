@@ -1,10 +1,7 @@
 -- What is known of the lines behind a first one while they are read: the edits of a batch, or the cards of a put (ours).
 use Rattle.std.specs.Prelude.{ℕ, ◌≡◌, Bool, true, false, List, [], ◌∷◌, ◌++◌, Option, Result, Ok, Err, IsOk, length}
 use Rattle.session_commands.specs.declared.refusals.Refusal.{Refusal}
-use Rattle.session_line.specs.declared.line_items.ItemsRead.{ItemsRead}
-use Rattle.session_line.specs.declared.line_items.ItemsRead.TheVariants.{Whole, Lacking, Faulty}
-use Rattle.session_line.specs.Tasks.{items_from}
-use Rattle.session_line.specs.Taking.{TakesLines}
+use Rattle.session_line.specs.{declared.line_items.ItemsRead.ItemsRead, declared.line_items.ItemsRead.TheVariants.{Whole, Lacking, Faulty}, Tasks.items_from, Taking.TakesLines}
 
 -- the items, or that there was no memory for them, or the first refusal
 abbrev pub IsRead : {A : Type 0} → Result (List A) Refusal → ItemsRead A → Type 0

@@ -1,17 +1,11 @@
 -- What is listed of the fields of a statement.
 use Rattle.std.specs.Prelude.{ℕ, ◌≡◌, ◌+◌, ◌-◌, ◌*◌, ◌/◌, List, [], ◌∷◌, Bool, true, false, map, length, take, drop}
-use Rattle.definitions.specs.Kinds.{word_bits, units}
-use Rattle.definitions.specs.Operands.{Operand}
+use Rattle.definitions.specs.{Kinds.{word_bits, units}, Operands.Operand, Operations.Operation, StatementItems.{Item, known}, declared.deck_kind.DeckKind.DeckKind}
 use Rattle.definitions.specs.Operations as op
-use Rattle.definitions.specs.Operations.{Operation}
-use Rattle.definitions.specs.StatementItems.{Item, known}
-use Rattle.definitions.specs.declared.deck_kind.DeckKind.{DeckKind}
-use Rattle.statement_coder.specs.Joins.Items.{item_as, items_as}
+use Rattle.statement_coder.specs.{Joins.Items.{item_as, items_as}, Joins.WordItems.listed_fields, declared.sizing.Sizing.Sizing}
 use Rattle.statement_coder.specs.declared.items.Item as code
-use Rattle.statement_coder.specs.Joins.WordItems.{listed_fields}
 use Rattle.statement_coder.specs.declared.coded.CodedItems as told
 use Rattle.statement_coder.specs.declared.coded.CodedItems.TheVariants as items
-use Rattle.statement_coder.specs.declared.sizing.Sizing.{Sizing}
 
 -- a list of which nothing before its old end is changed
 abbrev pub IsKept : List code.Item → List code.Item → Type 0

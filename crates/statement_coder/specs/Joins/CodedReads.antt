@@ -1,26 +1,9 @@
 -- What is coded of an operand that was read, once all symbols and literals have their values and all blocks their places.
 use Rattle.std.specs.Prelude.{ℕ, ◌≡◌, List, Result}
-use Rattle.definitions.specs.Expressions.{Literal}
-use Rattle.definitions.specs.Forms.{Form}
-use Rattle.definitions.specs.Lengths.{BlockRow}
-use Rattle.definitions.specs.Letters.{in_order, letters_of}
-use Rattle.definitions.specs.Literals.{literal_form}
-use Rattle.definitions.specs.Settled.{Settled, defined, read_of}
-use Rattle.definitions.specs.Settling.{View}
-use Rattle.definitions.specs.StatementItems.{items_of}
+use Rattle.definitions.specs.{Expressions.Literal, Forms.Form, Lengths.BlockRow, Letters.{in_order, letters_of}, Literals.literal_form, Settled.{Settled, defined, read_of}, Settling.View, StatementItems.items_of, declared.deck_kind.DeckKind.DeckKind, declared.letter.Letter.Letter}
 use Rattle.definitions.specs.Statements as statements
-use Rattle.definitions.specs.declared.deck_kind.DeckKind.{DeckKind}
-use Rattle.definitions.specs.declared.letter.Letter.{Letter}
-use Rattle.statement_coder.specs.Joins.Items.{deck_with}
-use Rattle.statement_coder.specs.Joins.CodedItems.{AreTold}
-use Rattle.statement_coder.specs.Joins.ReadOperands.{IsReadOperand}
-use Rattle.statement_coder.specs.Joins.Sizings.{IsSizing}
-use Rattle.statement_coder.specs.Joins.StatementsRead.{IsRead}
-use Rattle.statement_coder.specs.declared.coded.Coded.{Coded}
+use Rattle.statement_coder.specs.{Joins.Items.deck_with, Joins.CodedItems.AreTold, Joins.ReadOperands.IsReadOperand, Joins.Sizings.IsSizing, Joins.StatementsRead.IsRead, declared.coded.Coded.Coded, declared.read_operands.ReadOperand.ReadOperand, declared.sizing.Sizing.Sizing, declared.statement.Statement.Statement}
 use Rattle.statement_coder.specs.declared.items.Item as code
-use Rattle.statement_coder.specs.declared.read_operands.ReadOperand.{ReadOperand}
-use Rattle.statement_coder.specs.declared.sizing.Sizing.{Sizing}
-use Rattle.statement_coder.specs.declared.statement.Statement.{Statement}
 
 -- the fields that are listed, with the list before and after it, are the definitions' of every settled statement that was so read and sized
 abbrev pub AreCodedItems : ReadOperand → Sizing → View → (Literal → Result Form Letter) → List BlockRow → Coded → List code.Item → List code.Item → Type 0

@@ -1,11 +1,8 @@
 -- What a statement defines, in the words of the definitions.
 use Rattle.std.specs.Prelude.{ℕ, ◌≡◌, ⊤, List, [], ◌∷◌, Bool, true, false}
-use Rattle.definitions.specs.Forms.{Form}
-use Rattle.definitions.specs.Operands.{Operand, NamesOperand}
+use Rattle.definitions.specs.{Forms.Form, Operands.{Operand, NamesOperand}, Operations.Operation, Settling.{View, externals}}
 use Rattle.definitions.specs.Operations as op
-use Rattle.definitions.specs.Operations.{Operation}
 use Rattle.definitions.specs.Settled as settled
-use Rattle.definitions.specs.Settling.{View, externals}
 use Rattle.statement_coder.specs.declared.definitions_made.Definition.{Definition}
 use Rattle.statement_coder.specs.declared.definitions_made.Definition.TheVariants as definition
 use Rattle.statement_coder.specs.declared.definitions_made.Defines as code

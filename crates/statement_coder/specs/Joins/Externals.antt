@@ -1,7 +1,6 @@
 -- What makes the names of an EXT faulty, whatever their order.
 use Rattle.std.specs.Prelude.{ℕ, List, [], ◌∷◌, Option, Some, None, Bool, true, false, ◌||◌, is_some}
-use Rattle.definitions.specs.Characters.{same_text}
-use Rattle.definitions.specs.Settling.{View}
+use Rattle.definitions.specs.{Characters.same_text, Settling.View}
 
 -- whether one of these is no lawful name
 abbrev pub has_unlawful : List (Option (List ℕ)) → Bool

@@ -1,13 +1,7 @@
 -- The fields behind the digits of an instruction, by the kind of field.
 use Rattle.std.specs.Prelude.{List, [], ◌∷◌, drop, Result}
-use Rattle.definitions.specs.Expressions.{Expression}
-use Rattle.definitions.specs.Forms.{Form}
-use Rattle.definitions.specs.Kinds.{address_bits}
-use Rattle.definitions.specs.Settled.{Settled}
-use Rattle.definitions.specs.StatementItems.{Item, Context, known, expression_item, whole_counted_item, small_value, count_of, shift_of, displacement_of, second_value}
-use Rattle.definitions.specs.declared.letter.Letter.{Letter}
-use Rattle.expr_forms.specs.Joins.Shapes.{long_values}
-use Rattle.expr_forms.specs.declared.shapes.Field.{Field}
+use Rattle.definitions.specs.{Expressions.Expression, Forms.Form, Kinds.address_bits, Settled.Settled, StatementItems.{Item, Context, known, expression_item, whole_counted_item, small_value, count_of, shift_of, displacement_of, second_value}, declared.letter.Letter.Letter}
+use Rattle.expr_forms.specs.{Joins.Shapes.long_values, declared.shapes.Field.Field}
 use Rattle.expr_forms.specs.declared.shapes.Field.TheVariants as field
 
 -- the value of an expression by the rule of 6 bits

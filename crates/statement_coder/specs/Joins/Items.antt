@@ -1,11 +1,6 @@
 -- Fields of the code, in the words of the definitions.
 use Rattle.std.specs.Prelude.{ℕ, ◌≡◌, List, [], ◌∷◌, ◌++◌, Option, Some, None}
-use Rattle.definitions.specs.Forms.{Names}
-use Rattle.definitions.specs.Settled.{Settled}
-use Rattle.definitions.specs.Lengths.{BlockRow}
-use Rattle.definitions.specs.StatementItems.{Content, Known, Linked, Item, Context, final_names}
-use Rattle.definitions.specs.declared.deck_kind.DeckKind.{DeckKind}
-use Rattle.definitions.specs.declared.letter.Letter.{Letter}
+use Rattle.definitions.specs.{Forms.Names, Settled.Settled, Lengths.BlockRow, StatementItems.{Content, Known, Linked, Item, Context, final_names}, declared.deck_kind.DeckKind.DeckKind, declared.letter.Letter.Letter}
 use Rattle.statement_coder.specs.declared.items.Content as contents
 use Rattle.statement_coder.specs.declared.items.Content.TheVariants as content
 use Rattle.statement_coder.specs.declared.items.Item as code

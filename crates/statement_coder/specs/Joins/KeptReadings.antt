@@ -2,10 +2,9 @@
 use Rattle.std.specs.Prelude.{Bool, true, false, Option, Some, None, MatchOption, ⊤}
 use Rattle.definitions.specs.Operands.{Operand}
 use Rattle.expr_forms.specs.Joins.Kept.{shape_of}
-use Rattle.statement_coder.specs.Joins.Readings.{IsReading}
+use Rattle.statement_coder.specs.{Joins.Readings.IsReading, declared.readings.Reading.Reading}
 use Rattle.statement_coder.specs.declared.kept_readings.KeptReading as code
 use Rattle.statement_coder.specs.declared.kept_readings.KeptReading.TheVariants as kept
-use Rattle.statement_coder.specs.declared.readings.Reading.{Reading}
 use Rattle.statement_coder.specs.declared.readings.Reading.TheVariants as reading
 
 -- what was read, if it was kept

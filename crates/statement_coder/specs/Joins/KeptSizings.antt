@@ -1,14 +1,10 @@
 -- Sizings that are kept in few bytes, and what they are.
 use Rattle.std.specs.Prelude.{◌≡◌, ◌⊎◌, false, None}
-use Rattle.definitions.specs.Counters.{counters_at}
-use Rattle.definitions.specs.Forms.{Form, absolute}
-use Rattle.statement_coder.specs.Joins.Definitions.{made_as}
+use Rattle.definitions.specs.{Counters.counters_at, Forms.{Form, absolute}}
+use Rattle.statement_coder.specs.{Joins.Definitions.made_as, declared.kept_sizing.Held.Held, declared.usual_sizing.UsualSizing.UsualSizing, declared.sizing.Sizing.Sizing}
 use Rattle.statement_coder.specs.declared.definitions_made.Defines as code
 use Rattle.statement_coder.specs.declared.definitions_made.Defines.TheVariants as defines
-use Rattle.statement_coder.specs.declared.kept_sizing.Held.{Held}
 use Rattle.statement_coder.specs.declared.kept_sizing.Held.TheVariants as held
-use Rattle.statement_coder.specs.declared.usual_sizing.UsualSizing.{UsualSizing}
-use Rattle.statement_coder.specs.declared.sizing.Sizing.{Sizing}
 use Rattle.use_blocks.specs.declared.effects.BlockChange.TheVariants as change
 use Rattle.use_blocks.specs.declared.effects.LocationSetting.TheVariants as setting
 

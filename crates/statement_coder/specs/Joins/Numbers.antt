@@ -1,8 +1,6 @@
 -- What blocks and externals are worth once blocks have their places.
 use Rattle.std.specs.Prelude.{List, Option, Some, ℤ, pos}
-use Rattle.definitions.specs.Forms.{Relocation, Part, Added}
-use Rattle.definitions.specs.Lengths.{BlockRow, base_in}
-use Rattle.definitions.specs.StatementItems.{part_value}
+use Rattle.definitions.specs.{Forms.{Relocation, Part, Added}, Lengths.{BlockRow, base_in}, StatementItems.part_value}
 
 -- a part of a form, where externals are 0
 abbrev pub part_number : List BlockRow → Option Part → ℤ

@@ -2,8 +2,7 @@
 use Rattle.std.specs.Prelude.{◌≡◌}
 use Rattle.definitions.specs.Settled.{Settled}
 use Rattle.operations.specs.Joins.OperationsAs.{operation_as}
-use Rattle.statement_coder.specs.Joins.Readings.{IsReading}
-use Rattle.statement_coder.specs.declared.read_operands.ReadOperand.{ReadOperand}
+use Rattle.statement_coder.specs.{Joins.Readings.IsReading, declared.read_operands.ReadOperand.ReadOperand}
 
 -- the operation and the operand of a settled statement
 pub record IsReadOperand (read : ReadOperand) (settled : Settled) : Type 0 where

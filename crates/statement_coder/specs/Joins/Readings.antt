@@ -1,15 +1,8 @@
 -- What was read in a variable field, in the words of the definitions.
-use Rattle.std.specs.Prelude.{ℕ, ◌≡◌, ◌*◌, ◌/◌, ⊤, Bool, true, false, List, [], Option, Some, None, MatchOption, flat_map, length}
-use Rattle.std.specs.List.{AllByRecursion}
-use Rattle.definitions.specs.Kinds.{word_bits}
-use Rattle.definitions.specs.Literals.{datum_literals}
+use Rattle.std.specs.{Prelude.{ℕ, ◌≡◌, ◌*◌, ◌/◌, ⊤, Bool, true, false, List, [], Option, Some, None, MatchOption, flat_map, length}, List.AllByRecursion}
+use Rattle.definitions.specs.{Kinds.word_bits, Literals.datum_literals, Symbols.is_linked_name, declared.deck_kind.DeckKind.DeckKind}
 use Rattle.definitions.specs.Operands as definitions
-use Rattle.definitions.specs.Symbols.{is_linked_name}
-use Rattle.definitions.specs.declared.deck_kind.DeckKind.{DeckKind}
-use Rattle.expr_forms.specs.Joins.Readings.{use_as}
-use Rattle.expr_forms.specs.Joins.Shapes.{instruction_as, IsPeripheral}
-use Rattle.expr_forms.specs.declared.dis_fields.DisText.{DisText}
-use Rattle.expr_forms.specs.declared.shapes.Shape.{Shape}
+use Rattle.expr_forms.specs.{Joins.Readings.use_as, Joins.Shapes.{instruction_as, IsPeripheral}, declared.dis_fields.DisText.DisText, declared.shapes.Shape.Shape}
 use Rattle.statement_coder.specs.declared.readings.Reading as code
 use Rattle.statement_coder.specs.declared.readings.Reading.TheVariants as reading
 

@@ -1,18 +1,10 @@
 -- What a statement is once the state before it is known, in the words of the definitions.
 use Rattle.std.specs.Prelude.{◌≡◌}
-use Rattle.definitions.specs.Statements.{Statement}
-use Rattle.definitions.specs.Operands.{Operand, operand_of}
-use Rattle.definitions.specs.Settled.{ReadStatement, Settled}
-use Rattle.definitions.specs.Counters.{counters_at}
-use Rattle.definitions.specs.EarlyValues.{early_names, early_value}
-use Rattle.definitions.specs.Letters.{in_order}
-use Rattle.definitions.specs.Settling.{View, Seen, place_of, settled_with}
-use Rattle.definitions.specs.declared.deck_kind.DeckKind.{DeckKind}
+use Rattle.definitions.specs.{Statements.Statement, Operands.{Operand, operand_of}, Settled.{ReadStatement, Settled}, Counters.counters_at, EarlyValues.{early_names, early_value}, Letters.in_order, Settling.{View, Seen, place_of, settled_with}, declared.deck_kind.DeckKind.DeckKind}
 use Rattle.operations.specs.Joins.OperationsAs.{operation_as}
 use Rattle.use_blocks.specs.Joins.EffectsAs.{change_as, setting_as}
-use Rattle.statement_coder.specs.Joins.Definitions.{defined_by, IsOfExt}
+use Rattle.statement_coder.specs.{Joins.Definitions.{defined_by, IsOfExt}, declared.sizing.Sizing.Sizing}
 use Rattle.statement_coder.specs.declared.statement.Statement as statements
-use Rattle.statement_coder.specs.declared.sizing.Sizing.{Sizing}
 
 -- a statement that was read, with its operand
 abbrev pub read_as : statements.Statement → Statement → Operand → ReadStatement

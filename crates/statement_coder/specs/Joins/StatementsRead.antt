@@ -1,10 +1,6 @@
 -- What is read of a statement's cards, in the words of the definitions.
 use Rattle.std.specs.Prelude.{◌≡◌, List}
-use Rattle.definitions.specs.Cards.{Card}
-use Rattle.definitions.specs.Fields.{fields_of}
-use Rattle.definitions.specs.Operations.{operation_of}
-use Rattle.definitions.specs.Statements.{is_stray}
-use Rattle.definitions.specs.declared.deck_kind.DeckKind.{DeckKind}
+use Rattle.definitions.specs.{Cards.Card, Fields.fields_of, Operations.operation_of, Statements.is_stray, declared.deck_kind.DeckKind.DeckKind}
 use Rattle.operations.specs.Joins.OperationsAs.{operation_as}
 use Rattle.statement_coder.specs.declared.statement.Statement.{Statement}
 

@@ -1,11 +1,6 @@
 -- Fields as a list has them: what fills several words is listed word by word.
 use Rattle.std.specs.Prelude.{ℕ, ◌/◌, ◌%◌, ◌^◌, ◌==◌, List, [], ◌∷◌, Bool, ◌&&◌, nat_lt, map, flat_map, if◌then◌else◌}
-use Rattle.definitions.specs.Kinds.{word_bits}
-use Rattle.definitions.specs.Operands.{Operand, WordsOperand, TextOperand}
-use Rattle.definitions.specs.StatementItems.{Content, Known, Item, known}
-use Rattle.definitions.specs.Words.{cut}
-use Rattle.definitions.specs.declared.deck_kind.DeckKind.{DeckKind}
-use Rattle.definitions.specs.declared.letter.Letter.{Letter}
+use Rattle.definitions.specs.{Kinds.word_bits, Operands.{Operand, WordsOperand, TextOperand}, StatementItems.{Content, Known, Item, known}, Words.cut, declared.deck_kind.DeckKind.DeckKind, declared.letter.Letter.Letter}
 
 -- whether bits fill several words whole
 abbrev pub is_several : ℕ → ℕ → ℕ → Bool

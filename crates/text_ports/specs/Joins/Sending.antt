@@ -1,8 +1,6 @@
 -- Bytes that go to a writer: all of them, or up to a fault (ours).
-use Rattle.std.specs.Prelude.{ℕ, ◌<◌, List, Option, Result, Ok, Err, length, take}
-use Rattle.std.specs.Io.KnownBytes.{Appends}
-use Rattle.text_ports.specs.Faults.{count_up}
-use Rattle.text_ports.specs.declared.writing.Broken.{Broken}
+use Rattle.std.specs.{Prelude.{ℕ, ◌<◌, List, Option, Result, Ok, Err, length, take}, Io.KnownBytes.Appends}
+use Rattle.text_ports.specs.{Faults.count_up, declared.writing.Broken.Broken}
 
 -- all the bytes went out; or exactly the first `sent` of them, not all
 abbrev pub Sends : {T : Type 0} → Option (List ℕ) → Option (List ℕ) → List ℕ → Result T Broken → Type 0

@@ -1,9 +1,6 @@
 -- The words that each block reached, as the code changes them (ours).
-use Rattle.std.specs.Prelude.{ℕ, List, Option, Some, None, Bool, max, map, if◌then◌else◌}
-use Rattle.std.specs.List.{list_any}
-use Rattle.definitions.specs.Characters.{same_text}
-use Rattle.definitions.specs.Settled.{BlockChange, NoChange, Opens, Closes}
-use Rattle.definitions.specs.Lengths.{BlockLength}
+use Rattle.std.specs.{Prelude.{ℕ, List, Option, Some, None, Bool, max, map, if◌then◌else◌}, List.list_any}
+use Rattle.definitions.specs.{Characters.same_text, Settled.{BlockChange, NoChange, Opens, Closes}, Lengths.BlockLength}
 
 -- the lengths that stand under names in a map
 abbrev pub lengths_shown : List (List ℕ × ℕ) → List BlockLength

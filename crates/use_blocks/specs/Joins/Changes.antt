@@ -1,9 +1,6 @@
 -- Changes of a state, in parts.
 use Rattle.std.specs.Prelude.{ℕ, ◌≡◌, ⊤, Bool, true, false, List, map, ◌&&◌}
-use Rattle.definitions.specs.DeckKinds.{or_number_base}
-use Rattle.definitions.specs.Settled.{BlockChange, NoChange, Opens, Closes}
-use Rattle.definitions.specs.Blocks.{block_in_use, is_accepted}
-use Rattle.definitions.specs.Laws.States.{UsedBlock, BlockState, Effect, names_of_blocks, block_named, block_behind, blocks_behind, names_behind}
+use Rattle.definitions.specs.{DeckKinds.or_number_base, Settled.{BlockChange, NoChange, Opens, Closes}, Blocks.{block_in_use, is_accepted}, Laws.States.{UsedBlock, BlockState, Effect, names_of_blocks, block_named, block_behind, blocks_behind, names_behind}}
 
 -- the block in use
 abbrev pub block_now : BlockState → UsedBlock

@@ -1,6 +1,5 @@
 -- Effects of the code, in the words of the definitions.
-use Rattle.definitions.specs.Settled.{BlockChange, NoChange, Opens, Closes, LocationSetting, Unchanged, Counts, Ended}
-use Rattle.definitions.specs.Laws.States.{Effect}
+use Rattle.definitions.specs.{Settled.{BlockChange, NoChange, Opens, Closes, LocationSetting, Unchanged, Counts, Ended}, Laws.States.Effect}
 use Rattle.use_blocks.specs.declared.effects.BlockChange as changes
 use Rattle.use_blocks.specs.declared.effects.BlockChange.TheVariants as change
 use Rattle.use_blocks.specs.declared.effects.LocationSetting as settings

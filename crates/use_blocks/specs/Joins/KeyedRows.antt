@@ -1,10 +1,6 @@
 -- The rows of a deck in a map: each block's stands under its name, that of the literals under none.
-use Rattle.std.specs.Prelude.{ℕ, ◌≡◌, ⊤, List, [], ◌∷◌, Option, Some, None, map, if◌then◌else◌}
-use Rattle.std.specs.Map.{lookup}
-use Rattle.std.specs.Option.{option_eq, option_map_or}
-use Rattle.definitions.specs.Characters.{same_text}
-use Rattle.definitions.specs.Blocks.{literals_block}
-use Rattle.definitions.specs.Lengths.{BlockRow}
+use Rattle.std.specs.{Prelude.{ℕ, ◌≡◌, ⊤, List, [], ◌∷◌, Option, Some, None, map, if◌then◌else◌}, Map.lookup, Option.{option_eq, option_map_or}}
+use Rattle.definitions.specs.{Characters.same_text, Blocks.literals_block, Lengths.BlockRow}
 
 -- a row, and what it stands under
 abbrev pub KeyedRow : Type 0

@@ -1,7 +1,5 @@
 -- Names as keys of a map: two are the same where they have the same characters, and then they are hashed alike.
-use Rattle.std.specs.Prelude.{ℕ, ◌≡◌, List, [], ◌∷◌, true}
-use Rattle.std.proofs.Common.{ap}
-use Rattle.std.specs.Cmp.{IsEquivalence, decided}
+use Rattle.std.{specs.Prelude.{ℕ, ◌≡◌, List, [], ◌∷◌, true}, proofs.Common.ap, specs.Cmp.{IsEquivalence, decided}}
 use Rattle.definitions.specs.Characters.{same_text}
 use Rattle.expr_forms.proofs.NameLaws.{same_text-Decides}
 

@@ -1,9 +1,6 @@
 -- How a state lies in memory: its blocks, and the indexes of the open ones, latest last.
-use Rattle.std.specs.Prelude.{ℕ, ◌≡◌, ◌-◌, ◌<◌, ◌≤◌, ⊤, List, [], ◌∷◌, ◌++◌, Bool, false, not, length, slice_index_or, Vec, vec_len, vec_capacity}
-use Rattle.std.specs.List.{AllByRecursion}
-use Rattle.definitions.specs.Characters.{same_text}
-use Rattle.definitions.specs.Blocks.{nominal, is_named}
-use Rattle.definitions.specs.Laws.States.{UsedBlock, fresh_block, names_of_blocks}
+use Rattle.std.specs.{Prelude.{ℕ, ◌≡◌, ◌-◌, ◌<◌, ◌≤◌, ⊤, List, [], ◌∷◌, ◌++◌, Bool, false, not, length, slice_index_or, Vec, vec_len, vec_capacity}, List.AllByRecursion}
+use Rattle.definitions.specs.{Characters.same_text, Blocks.{nominal, is_named}, Laws.States.{UsedBlock, fresh_block, names_of_blocks}}
 
 -- the block at an index
 abbrev pub block_at : List UsedBlock → ℕ → UsedBlock

@@ -1,5 +1,4 @@
-use Rattle.asm_main.specs.Inputs.{cut_fault}
-use Rattle.asm_main.proofs.FaultLaws.{IsFaultOf-cut}
+use Rattle.asm_main.{specs.Inputs.cut_fault, proofs.FaultLaws.IsFaultOf-cut}
 use Rattle.deck_cuts.proofs.CutLaws.{IfErr-passed}
 use Rattle.asm_main.proofs.deck_input.add_read.Goals as goal
 

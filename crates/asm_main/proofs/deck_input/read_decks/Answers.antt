@@ -1,11 +1,7 @@
 use Rattle.std.proofs.Common.{ℕ, ◌+◌, ◌∙◌, List, refl, sym, ap, subst, arith}
-use Rattle.definitions.specs.InputLines.{Line}
-use Rattle.definitions.specs.DeckInput.{Decks, with_line}
-use Rattle.deck_cuts.specs.Cuts.{newest_first}
-use Rattle.asm_main.specs.Inputs.{IsFaultOf, IsSoundBefore}
-use Rattle.asm_main.proofs.FaultLaws.{IsFaultOf-count, IsFaultOf-before_writing}
-use Rattle.deck_cuts.proofs.CutLaws.{IfErr-passed}
-use Rattle.asm_main.proofs.ReadSteps.{IsReadSoFar-none, IsReadSoFar-line, IsReadSoFar-few, IsReadSoFar-decks, ReadsToFault-so_far, ReadsSound-so_far, IsSoundBefore-line, AreDecksOf-so_far, too_long-so_far, cut-so_far, refused-so_far}
+use Rattle.definitions.specs.{InputLines.Line, DeckInput.{Decks, with_line}}
+use Rattle.deck_cuts.{specs.Cuts.newest_first, proofs.CutLaws.IfErr-passed}
+use Rattle.asm_main.{specs.Inputs.{IsFaultOf, IsSoundBefore}, proofs.FaultLaws.{IsFaultOf-count, IsFaultOf-before_writing}, proofs.ReadSteps.{IsReadSoFar-none, IsReadSoFar-line, IsReadSoFar-few, IsReadSoFar-decks, ReadsToFault-so_far, ReadsSound-so_far, IsSoundBefore-line, AreDecksOf-so_far, too_long-so_far, cut-so_far, refused-so_far}}
 use Rattle.asm_main.proofs.deck_input.read_decks.Goals as goal
 
 pub loop-before-init : goal.loop-before-init

@@ -1,11 +1,8 @@
 use Rattle.std.proofs.Common.{◌+◌, List, subst}
 use Rattle.text_ports.proofs.SendSteps.{IsPart}
-use Rattle.definitions.specs.Build.{image_of}
-use Rattle.definitions.specs.DeckInput.{Deck}
+use Rattle.definitions.specs.{Build.image_of, DeckInput.Deck}
 use Rattle.deck_linker.proofs.ListedLaws.{part-behind-all}
-use Rattle.asm_main.specs.Joins.Outputs.{front_to, text_to, text_where}
-use Rattle.asm_main.specs.Joins.Ways.{decks_of}
-use Rattle.asm_main.specs.declared.texts.Chosen.{Chosen}
+use Rattle.asm_main.specs.{Joins.Outputs.{front_to, text_to, text_where}, Joins.Ways.decks_of, declared.texts.Chosen.Chosen}
 use Rattle.asm_main.proofs.texts.write_chosen.Goals as goal
 
 pub returns-in-Err-clause-sends : goal.returns-in-Err-clause-sends

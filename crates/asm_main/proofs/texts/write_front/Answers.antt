@@ -1,9 +1,7 @@
 use Rattle.std.proofs.Common.{◌∙◌, ℕ, List, ap, subst}
 use Rattle.text_ports.proofs.SendSteps.{IsPart}
-use Rattle.deck_linker.specs.Publishing.{listings, map_of}
-use Rattle.deck_linker.proofs.ListedLaws.{part-behind-all}
-use Rattle.asm_main.specs.Joins.Outputs.{text_where}
-use Rattle.asm_main.specs.Joins.Ways.{decks_of}
+use Rattle.deck_linker.{specs.Publishing.{listings, map_of}, proofs.ListedLaws.part-behind-all}
+use Rattle.asm_main.specs.Joins.{Outputs.text_where, Ways.decks_of}
 use Rattle.asm_main.proofs.texts.write_front.Goals as goal
 
 pub returns-in-Err-clause-sends : goal.returns-in-Err-clause-sends

@@ -1,6 +1,4 @@
-use Rattle.std.proofs.Common.{ap₂, ◌&&◌, sym, ◌∙◌}
-use Rattle.std.specs.Prelude.{is_some}
-use Rattle.std.proofs.lemmas.List.Folds.{list_all_more}
+use Rattle.std.{proofs.Common.{ap₂, ◌&&◌, sym, ◌∙◌}, specs.Prelude.is_some, proofs.lemmas.List.Folds.list_all_more}
 use Rattle.definitions.specs.Characters.{display_code_of}
 use Rattle.cards.proofs.card.are_lawful.Goals as goal
 

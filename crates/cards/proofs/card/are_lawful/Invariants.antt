@@ -1,6 +1,4 @@
-use Rattle.std.proofs.Common.{◌≡◌, take}
-use Rattle.std.specs.Prelude.{is_some}
-use Rattle.std.specs.List.{list_all}
+use Rattle.std.{proofs.Common.{◌≡◌, take}, specs.Prelude.is_some, specs.List.list_all}
 use Rattle.definitions.specs.Characters.{display_code_of}
 use Rattle.cards.proofs.card.are_lawful.Given as goal
 

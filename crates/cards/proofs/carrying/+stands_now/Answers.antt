@@ -1,10 +1,5 @@
-use Rattle.std.proofs.Common.{ℕ, ◌-◌, ◌∙◌, Ok, Err, get_or, ap, sym, arith}
-use Rattle.std.proofs.lemmas.List.{get_or_default}
-use Rattle.std.proofs.lemmas.Result.{err_from_is_err_and}
-use Rattle.cards.specs.declared.carrying.Touched.{Touched}
-use Rattle.cards.specs.declared.carrying.Origin.TheVariants.{Same, Own, Further, Nearer}
-use Rattle.cards.specs.Carrying.{seen_before, one_further, one_nearer}
-use Rattle.cards.proofs.CarrySteps.{stands-latest}
+use Rattle.std.proofs.{Common.{ℕ, ◌-◌, ◌∙◌, Ok, Err, get_or, ap, sym, arith}, lemmas.List.get_or_default, lemmas.Result.err_from_is_err_and}
+use Rattle.cards.{specs.declared.carrying.Touched.Touched, specs.declared.carrying.Origin.TheVariants.{Same, Own, Further, Nearer}, specs.Carrying.{seen_before, one_further, one_nearer}, proofs.CarrySteps.stands-latest}
 use Rattle.cards.proofs.carrying.+stands_now.Goals as goal
 
 pub returns-in-Same-clause-place : goal.returns-in-Same-clause-place

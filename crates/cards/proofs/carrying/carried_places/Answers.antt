@@ -1,13 +1,5 @@
-use Rattle.std.proofs.Common.{ℕ, ◌≡◌, ◌<◌, ◌∙◌, List, length, get_or, Result, Err, ap, sym, arith}
-use Rattle.std.proofs.Math.ListN.{length-set}
-use Rattle.std.proofs.lemmas.List.{get_or_default}
-use Rattle.std.proofs.lemmas.Result.{err_from_is_err_and}
-use Rattle.cards.specs.declared.edits.Edit.{Edit}
-use Rattle.cards.specs.declared.edits.Edit.TheVariants.{Remove}
-use Rattle.cards.specs.declared.carrying.Touched.{Touched}
-use Rattle.cards.specs.Carrying.{seen_before}
-use Rattle.cards.specs.Joins.CarrySteps.{carried_to}
-use Rattle.cards.proofs.CarrySteps.{carries-on, carries-none, near-more}
+use Rattle.std.proofs.{Common.{ℕ, ◌≡◌, ◌<◌, ◌∙◌, List, length, get_or, Result, Err, ap, sym, arith}, Math.ListN.length-set, lemmas.List.get_or_default, lemmas.Result.err_from_is_err_and}
+use Rattle.cards.{specs.declared.edits.Edit.Edit, specs.declared.edits.Edit.TheVariants.Remove, specs.declared.carrying.Touched.Touched, specs.Carrying.seen_before, specs.Joins.CarrySteps.carried_to, proofs.CarrySteps.{carries-on, carries-none, near-more}}
 use Rattle.cards.proofs.carrying.carried_places.Goals as goal
 
 pub returns-in_err-places : goal.returns-in_err-places

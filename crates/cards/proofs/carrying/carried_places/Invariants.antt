@@ -1,7 +1,5 @@
 use Rattle.std.proofs.Common.{◌≡◌, length}
-use Rattle.cards.specs.Carrying.{seen_before, carried}
-use Rattle.cards.specs.Joins.CarrySteps.{AreNear}
-use Rattle.cards.proofs.CarrySteps.{so_far}
+use Rattle.cards.{specs.Carrying.{seen_before, carried}, specs.Joins.CarrySteps.AreNear, proofs.CarrySteps.so_far}
 use Rattle.cards.proofs.carrying.carried_places.Given as goal
 
 -- what is carried so far and what is left is the whole

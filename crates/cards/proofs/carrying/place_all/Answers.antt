@@ -1,9 +1,5 @@
-use Rattle.std.proofs.Common.{ℕ, ◌≡◌, ◌+◌, ◌∙◌, suc, List, take, get_or, slice_set, ap, sym, arith}
-use Rattle.std.proofs.lemmas.List.{get_or_default}
-use Rattle.cards.specs.declared.edits.Edit.{Edit}
-use Rattle.cards.specs.Carrying.{placed}
-use Rattle.cards.specs.Joins.CarrySteps.{placed_all}
-use Rattle.cards.proofs.CarrySteps.{placed-none, moved-more}
+use Rattle.std.proofs.{Common.{ℕ, ◌≡◌, ◌+◌, ◌∙◌, suc, List, take, get_or, slice_set, ap, sym, arith}, lemmas.List.get_or_default}
+use Rattle.cards.{specs.declared.edits.Edit.Edit, specs.Carrying.placed, specs.Joins.CarrySteps.placed_all, proofs.CarrySteps.{placed-none, moved-more}}
 use Rattle.cards.proofs.carrying.place_all.Goals as goal
 
 pub loop-count-init : goal.loop-count-init

@@ -1,6 +1,5 @@
 use Rattle.std.proofs.Common.{ℕ, ◌+◌, ◌∙◌, ap, sym, drop, arith}
-use Rattle.cards.specs.Counts.{fault_from}
-use Rattle.cards.proofs.FaultLaws.{applies-at, fault-at-place}
+use Rattle.cards.{specs.Counts.fault_from, proofs.FaultLaws.{applies-at, fault-at-place}}
 use Rattle.cards.proofs.faults.fault_from.Goals as goal
 
 pub returns-in-Some : goal.returns-in-Some

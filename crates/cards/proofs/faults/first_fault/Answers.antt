@@ -1,6 +1,5 @@
 use Rattle.std.proofs.Common.{◌∙◌, ap, sym, ℕ}
-use Rattle.cards.specs.Counts.{fault_from}
-use Rattle.cards.proofs.FaultLaws.{first-fault}
+use Rattle.cards.{specs.Counts.fault_from, proofs.FaultLaws.first-fault}
 use Rattle.cards.proofs.faults.first_fault.Goals as goal
 
 pub returns : goal.returns

@@ -1,5 +1,4 @@
-use Rattle.std.proofs.Common.{◌≡◌, ◌+◌, ◌==◌, drop}
-use Rattle.std.specs.List.{prefix_len}
+use Rattle.std.{proofs.Common.{◌≡◌, ◌+◌, ◌==◌, drop}, specs.List.prefix_len}
 use Rattle.definitions.specs.Characters.{blank}
 use Rattle.cards.proofs.field_parts.blanks_len.Given as goal
 

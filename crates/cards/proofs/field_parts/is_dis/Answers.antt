@@ -1,6 +1,4 @@
-use Rattle.std.proofs.Common.{◌∙◌, ap}
-use Rattle.std.proofs.lemmas.Bool.Decides.{same_from_decides, Decides-eqb}
-use Rattle.std.proofs.lemmas.Slice.Eq.{slice_eq-Decides}
+use Rattle.std.proofs.{Common.{◌∙◌, ap}, lemmas.Bool.Decides.{same_from_decides, Decides-eqb}, lemmas.Slice.Eq.slice_eq-Decides}
 use Rattle.definitions.specs.Characters.{same_text}
 use Rattle.cards.proofs.PartLaws.{same_text-Decides}
 use Rattle.cards.proofs.field_parts.is_dis.Goals as goal

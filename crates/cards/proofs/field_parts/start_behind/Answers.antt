@@ -1,7 +1,5 @@
-use Rattle.std.proofs.Common.{◌∙◌, ◌+◌, ◌==◌, ap, drop, arith}
-use Rattle.std.specs.List.{prefix_len}
-use Rattle.definitions.specs.Characters.{blank}
-use Rattle.definitions.specs.Fields.{without_blanks}
+use Rattle.std.{proofs.Common.{◌∙◌, ◌+◌, ◌==◌, ap, drop, arith}, specs.List.prefix_len}
+use Rattle.definitions.specs.{Characters.blank, Fields.without_blanks}
 use Rattle.cards.proofs.PartLaws.{behind_blanks, in_time-early, in_time-late}
 use Rattle.cards.proofs.field_parts.start_behind.Goals as goal
 

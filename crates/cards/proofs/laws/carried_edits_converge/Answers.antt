@@ -1,7 +1,4 @@
-use Rattle.cards.specs.Carrying.{seen_before}
-use Rattle.cards.specs.Converging.{edits_in}
-use Rattle.cards.proofs.FaultLaws.{have-places}
-use Rattle.cards.proofs.Batches.{seen-tells, converges}
+use Rattle.cards.{specs.Carrying.seen_before, specs.Converging.edits_in, proofs.FaultLaws.have-places, proofs.Batches.{seen-tells, converges}}
 use Rattle.cards.proofs.laws.carried_edits_converge.Goals as goal
 
 pub returns : goal.returns

@@ -1,5 +1,4 @@
-use Rattle.cards.specs.Carrying.{seen_before}
-use Rattle.cards.proofs.Touches.{seen-true, touched-true}
+use Rattle.cards.{specs.Carrying.seen_before, proofs.Touches.{seen-true, touched-true}}
 use Rattle.cards.proofs.laws.touched_cards_were_changed.Goals as goal
 
 pub returns : goal.returns

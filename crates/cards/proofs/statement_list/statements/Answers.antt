@@ -1,7 +1,6 @@
 use Rattle.std.proofs.Common.{sym, ◌∙◌}
-use Rattle.cards.proofs.SpanSteps.{IsSplit-begins, IsSplit-continues, IsShort-begins, IsShort-continues}
+use Rattle.cards.proofs.{SpanSteps.{IsSplit-begins, IsSplit-continues, IsShort-begins, IsShort-continues}, statement_list.statements.Goals.{then-not-is_continued_by+in_ok-push_from, else-not-is_continued_by}}
 use Rattle.cards.proofs.statement_list.statements.Goals as goal
-use Rattle.cards.proofs.statement_list.statements.Goals.{then-not-is_continued_by+in_ok-push_from, else-not-is_continued_by}
 
 pub loop-k-preserved : goal.loop-k-preserved
 loop-k-preserved c =

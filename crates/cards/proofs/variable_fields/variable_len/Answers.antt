@@ -1,5 +1,4 @@
-use Rattle.cards.specs.Joins.Readings.{extent_at}
-use Rattle.cards.proofs.ReadingLaws.{extent-next}
+use Rattle.cards.{specs.Joins.Readings.extent_at, proofs.ReadingLaws.extent-next}
 use Rattle.cards.proofs.variable_fields.variable_len.Goals as goal
 
 pub loop-i-preserved : goal.loop-i-preserved

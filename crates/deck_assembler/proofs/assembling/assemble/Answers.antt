@@ -1,7 +1,5 @@
 use Rattle.std.proofs.Common.{◌+◌, List, ℕ, length, reverse, OnOk, sym, subst}
-use Rattle.definitions.specs.Cards.{Card}
-use Rattle.definitions.specs.DeckKinds.{up_to_end}
-use Rattle.definitions.specs.Statements.{statements_of}
+use Rattle.definitions.specs.{Cards.Card, DeckKinds.up_to_end, Statements.statements_of}
 use Rattle.statement_coder.specs.Meters.{RisesBy}
 use Rattle.deck_assembler.proofs.ResultLaws.{on_ok_any}
 use Rattle.deck_assembler.proofs.assembling.assemble.Goals as goal

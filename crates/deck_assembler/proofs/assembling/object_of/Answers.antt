@@ -1,7 +1,5 @@
 use Rattle.std.proofs.Common.{List, subst}
-use Rattle.definitions.specs.Cards.{Card}
-use Rattle.definitions.specs.DeckInput.{Deck}
-use Rattle.definitions.specs.Objects.{object_of}
+use Rattle.definitions.specs.{Cards.Card, DeckInput.Deck, Objects.object_of}
 use Rattle.deck_objects.specs.Joins.PartsOf.{ArePartsOf}
 use Rattle.deck_assembler.proofs.assembling.object_of.Goals as goal
 

@@ -1,6 +1,5 @@
-use Rattle.std.proofs.Common.{◌∙◌, ap, sym, rules}
+use Rattle.std.proofs.{Common.{◌∙◌, ap, sym, rules}, lemmas.Option.slice_get_read}
 use Rattle.definitions.specs.Characters.{same_text}
-use Rattle.std.proofs.lemmas.Option.{slice_get_read}
 use Rattle.deck_assembler.proofs.BlockLaws.{named-some}
 use Rattle.deck_assembler.proofs.block_index.is_at.Goals as goal
 

@@ -1,7 +1,6 @@
 use Rattle.std.proofs.Common.{sym, subst}
 use Rattle.deck_objects.specs.declared.lines.LineFields.{LineFields}
-use Rattle.deck_assembler.specs.Joins.CopiedFields.{AreListedAlike}
-use Rattle.deck_assembler.proofs.CopiedLaws.{listed-put}
+use Rattle.deck_assembler.{specs.Joins.CopiedFields.AreListedAlike, proofs.CopiedLaws.listed-put}
 use Rattle.deck_assembler.proofs.copied_lines.copied_list.Goals as goal
 
 pub returns-clause-copied : goal.returns-clause-copied

@@ -1,6 +1,5 @@
 use Rattle.std.proofs.Common.{◌≡◌, ◌++◌, take, map}
-use Rattle.statement_coder.specs.Joins.CodedItems.{IsKept}
-use Rattle.statement_coder.specs.Joins.Items.{item_as}
+use Rattle.statement_coder.specs.Joins.{CodedItems.IsKept, Items.item_as}
 use Rattle.deck_assembler.proofs.copied_lines.put_all.Given as goal
 
 -- the fields so far stand behind those that there were

@@ -1,16 +1,10 @@
 -- A statement that enters names adds them to the entries; any other leaves them as they are.
-use Rattle.std.proofs.Common.{◌∙◌, ap, ap₂, sym, subst}
-use Rattle.definitions.specs.Entries.{entries_by}
+use Rattle.std.proofs.{Common.{◌∙◌, ap, ap₂, sym, subst}, lemmas.Result.on_ok_weaker}
+use Rattle.definitions.specs.{Entries.entries_by, Settling.{settle, settled_all}, Operands.operand_of}
 use Rattle.definitions.specs.Operations as op
-use Rattle.definitions.specs.Settling.{settle, settled_all}
 use Rattle.statement_coder.specs.Joins.Readings.{IsReading}
-use Rattle.definitions.specs.Operands.{operand_of}
 use Rattle.operations.specs.Joins.OperationsAs.{operation_as}
-use Rattle.deck_assembler.specs.Joins.FirstSymbols.{symbol_in}
-use Rattle.deck_assembler.specs.Joins.SharedNames.{enters}
-use Rattle.deck_assembler.specs.Joins.Walks.{whole_of, all_settled}
-use Rattle.std.proofs.lemmas.Result.{on_ok_weaker}
-use Rattle.deck_assembler.proofs.WalkLaws.{settle-codable, enters-step, silent-noted}
+use Rattle.deck_assembler.{specs.Joins.FirstSymbols.symbol_in, specs.Joins.SharedNames.enters, specs.Joins.Walks.{whole_of, all_settled}, proofs.WalkLaws.{settle-codable, enters-step, silent-noted}}
 use Rattle.deck_assembler.proofs.deck_names.enter.Goals as goal
 
 pub returns-then-enters : goal.returns-then-enters

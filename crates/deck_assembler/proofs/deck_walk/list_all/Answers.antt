@@ -1,7 +1,5 @@
 use Rattle.std.proofs.Common.{◌≡◌, ◌∙◌, ◌+◌, ◌<◌, ◌∷◌, length, drop, get_or, subst, add-one, drop-cons}
-use Rattle.deck_assembler.specs.Joins.DeckWalks.{IsListing}
-use Rattle.deck_assembler.proofs.DeckWalkLaws.{listing-step}
-use Rattle.deck_assembler.proofs.WalkLaws.{stood-step}
+use Rattle.deck_assembler.{specs.Joins.DeckWalks.IsListing, proofs.DeckWalkLaws.listing-step, proofs.WalkLaws.stood-step}
 use Rattle.deck_assembler.proofs.deck_walk.list_all.Goals as goal
 
 pub loop-count-preserved : goal.loop-count-preserved

@@ -1,6 +1,5 @@
 use Rattle.std.proofs.Common.{drop}
-use Rattle.deck_assembler.specs.Joins.Walks.{IsWhole, Whole}
-use Rattle.deck_assembler.specs.Joins.DeckWalks.{IsListing}
+use Rattle.deck_assembler.specs.Joins.{Walks.{IsWhole, Whole}, DeckWalks.IsListing}
 use Rattle.deck_assembler.proofs.deck_walk.list_all.Given as goal
 
 -- the statements so far are listed

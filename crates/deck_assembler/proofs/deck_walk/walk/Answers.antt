@@ -1,12 +1,5 @@
 use Rattle.std.proofs.Common.{List, sym, subst}
-use Rattle.deck_assembler.specs.Joins.DeckParts.{DeckPiece, sized_in}
-use Rattle.deck_assembler.specs.Joins.Walks.{whole_of}
-use Rattle.deck_assembler.specs.Joins.DeckWalks.{IsListing}
-use Rattle.deck_assembler.specs.Joins.DueCodes.{IsWalkedAnew, IsWalkedDue}
-use Rattle.deck_assembler.specs.Joins.FormerLines.{IsWalkedBeside}
-use Rattle.deck_assembler.proofs.DueCodeLaws.{due-begins}
-use Rattle.deck_assembler.proofs.ReboundLaws.{anew-begins}
-use Rattle.deck_assembler.proofs.DeckWalkLaws.{walk-listing, walk-noted}
+use Rattle.deck_assembler.{specs.Joins.DeckParts.{DeckPiece, sized_in}, specs.Joins.Walks.whole_of, specs.Joins.DeckWalks.IsListing, specs.Joins.DueCodes.{IsWalkedAnew, IsWalkedDue}, specs.Joins.FormerLines.IsWalkedBeside, proofs.DueCodeLaws.due-begins, proofs.ReboundLaws.anew-begins, proofs.DeckWalkLaws.{walk-listing, walk-noted}}
 use Rattle.deck_assembler.proofs.deck_walk.walk.Goals as goal
 
 pub returns-clause-done : goal.returns-clause-done

@@ -1,6 +1,5 @@
 use Rattle.std.proofs.Common.{◌≡◌, length}
-use Rattle.deck_assembler.specs.Joins.FirstSymbols.{symbol_in, with_externals}
-use Rattle.deck_assembler.specs.Joins.SharedNames.{with_new}
+use Rattle.deck_assembler.specs.Joins.{FirstSymbols.{symbol_in, with_externals}, SharedNames.with_new}
 use Rattle.deck_assembler.proofs.definitions_kept.define_externals.Given as goal
 
 -- the names that are left make the symbols of all, and the externals

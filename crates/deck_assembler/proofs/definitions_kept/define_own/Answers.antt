@@ -1,12 +1,10 @@
 -- No location field is a name.
-use Rattle.std.proofs.Common.{◌≡◌, ◌==◌, ℕ, true, List, [], ◌∷◌, length, refl, sym, arith}
-use Rattle.std.proofs.lemmas.Bool.Decides.{nat_tests}
+use Rattle.std.proofs.{Common.{◌≡◌, ◌==◌, ℕ, true, List, [], ◌∷◌, length, refl, sym, arith}, lemmas.Bool.Decides.nat_tests}
 use Rattle.definitions.specs.Operands as operands
 use Rattle.definitions.specs.Settling.{View}
 use Rattle.statement_coder.specs.declared.definitions_made.Defines as made
 use Rattle.statement_coder.specs.declared.definitions_made.Defines.TheVariants as defines
-use Rattle.deck_assembler.specs.Joins.FirstSymbols.{symbol_in, with_defined}
-use Rattle.deck_assembler.proofs.DefinitionLaws.{or_form-none}
+use Rattle.deck_assembler.{specs.Joins.FirstSymbols.{symbol_in, with_defined}, proofs.DefinitionLaws.or_form-none}
 use Rattle.deck_assembler.proofs.definitions_kept.define_own.Goals as goal
 
 nameless : (what : made.Defines) (v : View) → v ≡ with_defined [] operands.Unread what v

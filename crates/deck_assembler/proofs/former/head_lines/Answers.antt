@@ -1,9 +1,7 @@
 use Rattle.std.proofs.Common.{◌≡◌, ◌∙◌, ◌++◌, List, [], ◌∷◌, length, take, true≢false, append-nil, append_assoc, refl, sym, ap, subst, arith}
 use Rattle.deck_objects.specs.declared.lines.Line.{Line}
-use Rattle.deck_assembler.specs.Joins.Heads.{AreHeadLines, cards_of_lines}
-use Rattle.deck_assembler.proofs.HeadLineLaws.{cards-append, take-more}
+use Rattle.deck_assembler.{specs.Joins.Heads.{AreHeadLines, cards_of_lines}, proofs.HeadLineLaws.{cards-append, take-more}, proofs.former.head_lines.Goals.{in_default, in-Some+then-not-is_of_head}}
 use Rattle.deck_assembler.proofs.former.head_lines.Goals as goal
-use Rattle.deck_assembler.proofs.former.head_lines.Goals.{in_default, in-Some+then-not-is_of_head}
 
 no-lines : (lines : List Line) → length lines ≡ 0 → lines ≡ []
 no-lines [] e = refl

@@ -1,11 +1,6 @@
 use Rattle.std.proofs.Common.{◌∙◌, ◌++◌, List, [], ◌∷◌, true≢false, append-nil, append_assoc, refl, sym, ap, subst, arith}
-use Rattle.deck_assembler.specs.Joins.Agreements.{left}
-use Rattle.deck_assembler.specs.Joins.Heads.{AreHead}
-use Rattle.deck_assembler.specs.Joins.Meetings.{cards_of}
-use Rattle.deck_assembler.specs.declared.sized_statement.SizedStatement.{SizedStatement}
-use Rattle.deck_assembler.proofs.PieceMeetings.{cards_of-append}
+use Rattle.deck_assembler.{specs.Joins.Agreements.left, specs.Joins.Heads.AreHead, specs.Joins.Meetings.cards_of, specs.declared.sized_statement.SizedStatement.SizedStatement, proofs.PieceMeetings.cards_of-append, proofs.head_deck.taken_head.Goals.{in-None, in-Some+then-not-is_of_head}}
 use Rattle.deck_assembler.proofs.head_deck.taken_head.Goals as goal
-use Rattle.deck_assembler.proofs.head_deck.taken_head.Goals.{in-None, in-Some+then-not-is_of_head}
 
 pub statements-preserved : goal.statements-preserved
 statements-preserved c =

@@ -1,8 +1,5 @@
 use Rattle.std.proofs.Common.{◌≡◌, ◌++◌, List, length}
-use Rattle.deck_assembler.specs.Joins.Agreements.{left}
-use Rattle.deck_assembler.specs.Joins.Heads.{AreHead}
-use Rattle.deck_assembler.specs.Joins.Meetings.{cards_of}
-use Rattle.deck_assembler.specs.declared.sized_statement.SizedStatement.{SizedStatement}
+use Rattle.deck_assembler.specs.{Joins.Agreements.left, Joins.Heads.AreHead, Joins.Meetings.cards_of, declared.sized_statement.SizedStatement.SizedStatement}
 use Rattle.deck_assembler.proofs.head_deck.taken_head.Given as goal
 
 -- what goes on with the statements that are left goes on with those that were taken

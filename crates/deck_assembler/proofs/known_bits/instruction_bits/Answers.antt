@@ -1,5 +1,4 @@
-use Rattle.std.proofs.Common.{[], ◌∷◌}
-use Rattle.std.proofs.lemmas.Option.{IfSome_then}
+use Rattle.std.proofs.{Common.{[], ◌∷◌}, lemmas.Option.IfSome_then}
 use Rattle.statement_coder.specs.Joins.Items.{item_as, option_items}
 use Rattle.deck_assembler.proofs.known_bits.instruction_bits.Goals as goal
 

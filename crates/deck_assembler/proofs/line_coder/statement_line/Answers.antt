@@ -1,14 +1,7 @@
 use Rattle.std.proofs.Common.{◌≡◌, ◌∙◌, ap, sym, refl, subst}
-use Rattle.definitions.specs.Letters.{in_order, letters_of}
-use Rattle.definitions.specs.Settled.{defined}
-use Rattle.definitions.specs.Settling.{View, settle, settled_all}
-use Rattle.definitions.specs.StatementItems.{items_of}
-use Rattle.statement_coder.specs.Joins.Items.{deck_with}
-use Rattle.statement_coder.specs.Joins.CodedItems.{AreTold, stores_zeros}
-use Rattle.definitions.proofs.FillLaws.{settle-fill}
-use Rattle.deck_assembler.specs.Joins.KeptFields.{IsTold}
-use Rattle.deck_assembler.specs.Joins.Walks.{context_in, whole_of, all_settled}
-use Rattle.deck_assembler.proofs.ShortLaws.{settle-short}
+use Rattle.definitions.{specs.Letters.{in_order, letters_of}, specs.Settled.defined, specs.Settling.{View, settle, settled_all}, specs.StatementItems.items_of, proofs.FillLaws.settle-fill}
+use Rattle.statement_coder.specs.Joins.{Items.deck_with, CodedItems.{AreTold, stores_zeros}}
+use Rattle.deck_assembler.{specs.Joins.KeptFields.IsTold, specs.Joins.Walks.{context_in, whole_of, all_settled}, proofs.ShortLaws.settle-short}
 use Rattle.deck_assembler.proofs.line_coder.statement_line.Goals as goal
 
 pub returns-clause-line : goal.returns-clause-line

@@ -1,7 +1,5 @@
-use Rattle.std.proofs.Common.{subst}
-use Rattle.std.proofs.lemmas.Result.{on_ok_weaker}
-use Rattle.statement_coder.specs.Joins.CodedItems.{AreTold}
-use Rattle.statement_coder.specs.declared.coded.CodedItems.{CodedItems}
+use Rattle.std.proofs.{Common.subst, lemmas.Result.on_ok_weaker}
+use Rattle.statement_coder.specs.{Joins.CodedItems.AreTold, declared.coded.CodedItems.CodedItems}
 use Rattle.deck_assembler.proofs.line_fields.line_fields.Goals as goal
 
 pub returns-in-Listed-clause-before : goal.returns-in-Listed-clause-before

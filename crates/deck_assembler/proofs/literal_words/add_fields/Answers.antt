@@ -1,8 +1,7 @@
 use Rattle.std.proofs.Common.{◌∙◌, ap, sym, flat_map}
 use Rattle.definitions.specs.Literals.{with_literals}
 use Rattle.expr_forms.specs.Joins.Readings.{bit_field_as}
-use Rattle.deck_assembler.specs.Joins.LiteralsRead.{bit_literals}
-use Rattle.deck_assembler.proofs.LiteralSteps.{with_literals-append}
+use Rattle.deck_assembler.{specs.Joins.LiteralsRead.bit_literals, proofs.LiteralSteps.with_literals-append}
 use Rattle.deck_assembler.proofs.literal_words.add_fields.Goals as goal
 
 pub fields-preserved : goal.fields-preserved

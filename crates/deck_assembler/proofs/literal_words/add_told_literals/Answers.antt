@@ -1,7 +1,6 @@
 -- An operand without a literal adds none.
-use Rattle.std.proofs.Common.{ap, sym, ◌∙◌}
+use Rattle.std.proofs.{Common.{ap, sym, ◌∙◌}, lemmas.Result.on_ok_weaker}
 use Rattle.definitions.specs.Literals.{with_literals}
-use Rattle.std.proofs.lemmas.Result.{on_ok_weaker}
 use Rattle.deck_assembler.proofs.literal_words.add_told_literals.Goals as goal
 
 pub returns-then-sized : goal.returns-then-sized

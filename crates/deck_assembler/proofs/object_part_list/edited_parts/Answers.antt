@@ -1,9 +1,5 @@
 use Rattle.std.proofs.Common.{◌∙◌, [], length, reverse, refl, ap, sym, subst, arith}
-use Rattle.deck_assembler.specs.Joins.DueCodes.{IsDueBeside}
-use Rattle.deck_assembler.specs.Joins.FormerLines.{AreChosen, IsBeside}
-use Rattle.deck_assembler.specs.Joins.Formers.{known_in}
-use Rattle.deck_assembler.proofs.FormerLaws.{begin-beside, begin-due, has-lines}
-use Rattle.deck_assembler.proofs.ResultLaws.{on_ok_one}
+use Rattle.deck_assembler.{specs.Joins.DueCodes.IsDueBeside, specs.Joins.FormerLines.{AreChosen, IsBeside}, specs.Joins.Formers.known_in, proofs.FormerLaws.{begin-beside, begin-due, has-lines}, proofs.ResultLaws.on_ok_one}
 use Rattle.deck_assembler.proofs.object_part_list.edited_parts.Goals as goal
 
 pub parts_beside-requires-clause-beside : goal.parts_beside-requires-clause-beside

@@ -1,21 +1,7 @@
-use Rattle.std.proofs.Common.{◌≡◌, ◌∙◌, ◌+◌, ◌≤◌, [], Option, reverse, refl, ap₂, sym, subst, arith}
-use Rattle.std.specs.Prelude.{IfSome}
-use Rattle.std.proofs.lemmas.List.{length-reverse}
-use Rattle.definitions.specs.DeckKinds.{up_to_end, behind_end}
-use Rattle.definitions.specs.Lengths.{rows_of}
-use Rattle.definitions.specs.Laws.Rebound.{context_from}
-use Rattle.definitions.specs.Statements.{statements_of}
+use Rattle.std.{proofs.Common.{◌≡◌, ◌∙◌, ◌+◌, ◌≤◌, [], Option, reverse, refl, ap₂, sym, subst, arith}, specs.Prelude.IfSome, proofs.lemmas.List.length-reverse}
+use Rattle.definitions.specs.{DeckKinds.{up_to_end, behind_end}, Lengths.rows_of, Laws.Rebound.context_from, Statements.statements_of}
 use Rattle.deck_objects.specs.declared.object.ObjectParts.{ObjectParts}
-use Rattle.deck_assembler.specs.Joins.DeckParts.{sized_in}
-use Rattle.deck_assembler.specs.Joins.DueCodes.{IsDueBeside}
-use Rattle.deck_assembler.specs.Joins.Formers.{known_in}
-use Rattle.deck_assembler.specs.Joins.Rebindings.{AreBindings}
-use Rattle.deck_assembler.specs.declared.former_lines.FormerLines.{FormerLines}
-use Rattle.deck_assembler.proofs.DueCodeCounts.{anew-of-deck, due-of-deck}
-use Rattle.deck_assembler.specs.Joins.Walks.{Whole, IsWhole}
-use Rattle.deck_assembler.proofs.FormerLaws.{chosen-beside}
-use Rattle.deck_assembler.proofs.PartLaws.{AreMade, parts-of}
-use Rattle.deck_assembler.proofs.PieceCounts.{sized-length}
+use Rattle.deck_assembler.{specs.Joins.DeckParts.sized_in, specs.Joins.DueCodes.IsDueBeside, specs.Joins.Formers.known_in, specs.Joins.Rebindings.AreBindings, specs.declared.former_lines.FormerLines.FormerLines, proofs.DueCodeCounts.{anew-of-deck, due-of-deck}, specs.Joins.Walks.{Whole, IsWhole}, proofs.FormerLaws.chosen-beside, proofs.PartLaws.{AreMade, parts-of}, proofs.PieceCounts.sized-length}
 use Rattle.deck_assembler.proofs.object_part_list.parts_beside.Goals as goal
 
 pub returns-in_err-made-clause-coded : goal.returns-in_err-made-clause-coded

@@ -1,6 +1,5 @@
 use Rattle.std.proofs.Common.{refl}
-use Rattle.deck_assembler.proofs.ResultLaws.{on_ok_one}
-use Rattle.deck_assembler.proofs.PieceLaws.{last-pushed}
+use Rattle.deck_assembler.proofs.{ResultLaws.on_ok_one, PieceLaws.last-pushed}
 use Rattle.deck_assembler.proofs.pieces.push_onto_last.Goals as goal
 
 pub returns-in-Some : goal.returns-in-Some

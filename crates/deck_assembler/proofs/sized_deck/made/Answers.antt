@@ -1,16 +1,10 @@
 -- What is kept of a deck is what its cards make.
 use Rattle.std.proofs.Common.{◌≡◌, ◌∙◌, ◌+◌, ◌≤◌, All, List, length, refl, sym, ap, arith, subst}
 use Rattle.cards.specs.Joins.Spans.{IsSpan}
-use Rattle.definitions.specs.DeckKinds.{up_to_end, kind_of_statements}
-use Rattle.definitions.specs.Statements.{Statement}
+use Rattle.definitions.specs.{DeckKinds.{up_to_end, kind_of_statements}, Statements.Statement}
 use Rattle.statement_coder.specs.Meters.{RisesBy}
-use Rattle.deck_assembler.specs.Joins.Formers.{known_in}
-use Rattle.deck_assembler.specs.Joins.OldDecks.{StandsInFront}
-use Rattle.deck_assembler.specs.Joins.Tails.{HasTailIfAny, HasTailWithin}
-use Rattle.deck_assembler.specs.Stays.{RisesAnew}
+use Rattle.deck_assembler.{specs.Joins.Formers.known_in, specs.Joins.OldDecks.StandsInFront, specs.Joins.Tails.{HasTailIfAny, HasTailWithin}, specs.Stays.RisesAnew, proofs.DeckLaws.{all-statements, all-numbered, all-behind, deck-made, counts_of}, proofs.FrontLaws.{front-in, stands-still}}
 use Rattle.deck_assembler.specs.declared.old_deck.Stage.TheVariants as stages
-use Rattle.deck_assembler.proofs.DeckLaws.{all-statements, all-numbered, all-behind, deck-made, counts_of}
-use Rattle.deck_assembler.proofs.FrontLaws.{front-in, stands-still}
 use Rattle.deck_assembler.proofs.sized_deck.made.Goals as goal
 
 pub take_up_to_end-requires-clause-numbered : goal.take_up_to_end-requires-clause-numbered

@@ -1,15 +1,9 @@
 -- The kind that is found among the first statements is that of all.
-use Rattle.std.proofs.Common.{◌≡◌, ◌+◌, ◌∷◌, suc, List, length, drop, sym, ap, ◌∙◌, arith}
-use Rattle.std.specs.Prelude.{reverse, is_some, true}
-use Rattle.std.proofs.Math.Seq.{take-length}
+use Rattle.std.{proofs.Common.{◌≡◌, ◌+◌, ◌∷◌, suc, List, length, drop, sym, ap, ◌∙◌, arith}, specs.Prelude.{reverse, is_some, true}, proofs.Math.Seq.take-length}
 use Rattle.cards.specs.Joins.Spans.{statements_at}
-use Rattle.definitions.specs.Cards.{Card}
-use Rattle.definitions.specs.Fields.{fields_of}
-use Rattle.definitions.specs.Statements.{Statement}
+use Rattle.definitions.specs.{Cards.Card, Fields.fields_of, Statements.Statement}
 use Rattle.operations.specs.Joins.KindsFound.{kind_found}
-use Rattle.deck_assembler.specs.Joins.FirstStatements.{first_statements, all_statements, fields_in}
-use Rattle.deck_assembler.proofs.EndLaws.{first-step, all-split}
-use Rattle.deck_assembler.proofs.KindLaws.{found-behind, kind-up_to_end}
+use Rattle.deck_assembler.{specs.Joins.FirstStatements.{first_statements, all_statements, fields_in}, proofs.EndLaws.{first-step, all-split}, proofs.KindLaws.{found-behind, kind-up_to_end}}
 use Rattle.deck_assembler.proofs.up_to_end.kind_of.Goals as goal
 
 pub returns-then-is_found : goal.returns-then-is_found

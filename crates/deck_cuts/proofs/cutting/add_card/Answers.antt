@@ -1,8 +1,6 @@
 use Rattle.std.proofs.Common.{◌≡◌, OnOk, IfErr, sym, subst}
 use Rattle.definitions.specs.DeckInput.{Input, Decks}
-use Rattle.deck_cuts.specs.declared.cutting.CardRole.TheVariants.{Begins, Continues}
-use Rattle.deck_cuts.specs.Cuts.{newest_first, IsFaultOf}
-use Rattle.deck_cuts.proofs.CutSteps.{with_card-role}
+use Rattle.deck_cuts.{specs.declared.cutting.CardRole.TheVariants.{Begins, Continues}, specs.Cuts.{newest_first, IsFaultOf}, proofs.CutSteps.with_card-role}
 use Rattle.deck_cuts.proofs.cutting.add_card.Goals as goal
 
 pub returns-in-Begins-clause-ok : goal.returns-in-Begins-clause-ok

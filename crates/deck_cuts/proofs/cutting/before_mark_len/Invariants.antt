@@ -1,5 +1,4 @@
-use Rattle.std.proofs.Common.{◌≡◌, ◌+◌, ◌==◌, ◌&&◌, not, drop}
-use Rattle.std.specs.List.{prefix_len}
+use Rattle.std.{proofs.Common.{◌≡◌, ◌+◌, ◌==◌, ◌&&◌, not, drop}, specs.List.prefix_len}
 use Rattle.definitions.specs.Characters.{blank, comma}
 use Rattle.deck_cuts.proofs.cutting.before_mark_len.Given as goal
 

@@ -1,9 +1,6 @@
 use Rattle.std.proofs.Common.{◌∙◌, List, [], ◌∷◌, ◌++◌, length, sym, ap, ap₂, arith}
-use Rattle.definitions.specs.DeckInput.{Decks, is_taken}
-use Rattle.definitions.specs.DeckInput.{Deck}
-use Rattle.deck_cuts.specs.Cuts.{newest_first}
-use Rattle.deck_cuts.proofs.CutSteps.{begun_deck-made, begun_named-taken, begun_named-many, begun_named-more}
-use Rattle.deck_cuts.proofs.CutLaws.{IsFaultOf-memory}
+use Rattle.definitions.specs.DeckInput.{Decks, is_taken, Deck}
+use Rattle.deck_cuts.{specs.Cuts.newest_first, proofs.CutSteps.{begun_deck-made, begun_named-taken, begun_named-many, begun_named-more}, proofs.CutLaws.IsFaultOf-memory}
 use Rattle.deck_cuts.proofs.cutting.begin_deck.Goals as goal
 
 pub returns-then-is_taken-clause-err : goal.returns-then-is_taken-clause-err

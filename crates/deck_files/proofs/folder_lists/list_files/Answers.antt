@@ -1,6 +1,5 @@
 use Rattle.std.proofs.Common.{ℕ, List, refl, subst}
-use Rattle.deck_files.specs.FolderLists.{lacking}
-use Rattle.deck_files.specs.Steps.{Decks, Holds, TakesStep}
+use Rattle.deck_files.specs.{FolderLists.lacking, Steps.{Decks, Holds, TakesStep}}
 use Rattle.deck_files.proofs.folder_lists.list_files.Goals as goal
 
 -- the folder listed them, and no memory was left for all rows

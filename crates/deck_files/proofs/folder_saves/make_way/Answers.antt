@@ -1,8 +1,5 @@
 use Rattle.std.proofs.Common.{[], ◌∷◌}
-use Rattle.deck_files.specs.Steps.{Look, Refused, Found}
-use Rattle.deck_files.specs.FolderSaves.{untouched}
-use Rattle.deck_files.proofs.FolderSteps.{fault-of-new}
-use Rattle.deck_files.proofs.SaveFaults.{gives-free, gives-over, stays-over}
+use Rattle.deck_files.{specs.Steps.{Look, Refused, Found}, specs.FolderSaves.untouched, proofs.FolderSteps.fault-of-new, proofs.SaveFaults.{gives-free, gives-over, stays-over}}
 use Rattle.deck_files.proofs.folder_saves.make_way.Goals as goal
 
 -- nothing stands there

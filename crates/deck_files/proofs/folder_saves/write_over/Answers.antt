@@ -1,7 +1,5 @@
 use Rattle.std.proofs.Common.{◌⊎◌, IfErr, sym, subst}
-use Rattle.deck_files.specs.declared.deck_shelf.SaveOver.{SaveOver}
-use Rattle.deck_files.specs.FolderSaves.{BarsWay, IsFaultOfFolder}
-use Rattle.deck_files.specs.Steps.{ChangesOnly}
+use Rattle.deck_files.specs.{declared.deck_shelf.SaveOver.SaveOver, FolderSaves.{BarsWay, IsFaultOfFolder}, Steps.ChangesOnly}
 use Rattle.deck_files.proofs.folder_saves.write_over.Goals as goal
 
 -- a known file alone is written over

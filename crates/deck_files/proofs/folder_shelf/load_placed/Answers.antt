@@ -1,5 +1,4 @@
-use Rattle.deck_files.specs.Folders.{deck_path}
-use Rattle.deck_files.proofs.FolderSteps.{fails-noting}
+use Rattle.deck_files.{specs.Folders.deck_path, proofs.FolderSteps.fails-noting}
 use Rattle.deck_files.proofs.folder_shelf.load_placed.Goals as goal
 
 -- no memory was left to note the file

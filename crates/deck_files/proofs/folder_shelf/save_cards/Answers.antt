@@ -1,7 +1,5 @@
 use Rattle.std.proofs.Common.{ℕ, List, ◌∙◌, subst}
-use Rattle.deck_files.specs.DeckFiles.{file_of}
-use Rattle.deck_files.specs.FolderSaves.{IsFaultOfNew}
-use Rattle.deck_files.proofs.SaveFaults.{stays-unmade}
+use Rattle.deck_files.{specs.DeckFiles.file_of, specs.FolderSaves.IsFaultOfNew, proofs.SaveFaults.stays-unmade}
 use Rattle.deck_files.proofs.folder_shelf.save_cards.Goals as goal
 
 -- no file was made anew

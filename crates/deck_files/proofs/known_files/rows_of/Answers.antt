@@ -1,7 +1,5 @@
 use Rattle.std.proofs.Common.{◌∙◌, Some, ap, sym}
-use Rattle.deck_files.specs.declared.known_rows.Known.{Known}
-use Rattle.deck_files.specs.Files.{with_named}
-use Rattle.deck_files.proofs.RowSteps.{rows-cut, rows-long, rows-no_row, rows-row}
+use Rattle.deck_files.{specs.declared.known_rows.Known.Known, specs.Files.with_named, proofs.RowSteps.{rows-cut, rows-long, rows-no_row, rows-row}}
 use Rattle.deck_files.proofs.known_files.rows_of.Goals as goal
 
 -- a line that is no row

@@ -1,9 +1,7 @@
-use Rattle.std.proofs.Common.{ℕ, ◌≡◌, ◌+◌, ◌∙◌, ap, length, rules}
-use Rattle.std.proofs.lemmas.Result.{err_from_is_err_and}
+use Rattle.std.proofs.{Common.{ℕ, ◌≡◌, ◌+◌, ◌∙◌, ap, length, rules}, lemmas.Result.err_from_is_err_and}
 use Rattle.definitions.specs.InputLines.{without_cr}
 use Rattle.cards.specs.declared.card.CardFault.TheVariants as card
-use Rattle.deck_files.specs.declared.load_fault.LoadFault.TheVariants.{BadLine}
-use Rattle.deck_files.proofs.LoadSteps.{IsLoaded-more, LoadsSummed-end, LoadsFault-cut, LoadsFault-long, LoadsFault-read, LoadsFault-line, shown-line}
+use Rattle.deck_files.{specs.declared.load_fault.LoadFault.TheVariants.BadLine, proofs.LoadSteps.{IsLoaded-more, LoadsSummed-end, LoadsFault-cut, LoadsFault-long, LoadsFault-read, LoadsFault-line, shown-line}}
 use Rattle.deck_files.proofs.loading.load_summed.Goals as goal
 
 pub loop-cards-preserved : goal.loop-cards-preserved

@@ -1,6 +1,5 @@
 use Rattle.std.proofs.Common.{[], ◌∷◌}
-use Rattle.deck_files.specs.Steps.{Keep, TakeAfter, Refused, Done}
-use Rattle.deck_files.proofs.FolderSteps.{fault-of-new, takes-join}
+use Rattle.deck_files.{specs.Steps.{Keep, TakeAfter, Refused, Done}, proofs.FolderSteps.{fault-of-new, takes-join}}
 use Rattle.deck_files.proofs.new_files.fill.Goals as goal
 
 -- owner and mode were refused

@@ -1,5 +1,4 @@
-use Rattle.deck_files.specs.FolderSaves.{IsNew, filled, put_in_place, second_of}
-use Rattle.deck_files.proofs.FolderSteps.{fault-of-new, only-join, only-more, takes-join}
+use Rattle.deck_files.{specs.FolderSaves.{IsNew, filled, put_in_place, second_of}, proofs.FolderSteps.{fault-of-new, only-join, only-more, takes-join}}
 use Rattle.deck_files.proofs.new_files.finish.Goals as goal
 
 -- the file was filled and put in place

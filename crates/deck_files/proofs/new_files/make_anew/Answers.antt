@@ -1,6 +1,5 @@
 use Rattle.std.proofs.Common.{◌∙◌}
-use Rattle.deck_files.specs.FolderSaves.{second_of}
-use Rattle.deck_files.proofs.SaveFaults.{makes-anew, takes-away}
+use Rattle.deck_files.{specs.FolderSaves.second_of, proofs.SaveFaults.{makes-anew, takes-away}}
 use Rattle.deck_files.proofs.new_files.make_anew.Goals as goal
 
 pub returns-in-Ok-finish-clause-made : goal.returns-in-Ok-finish-clause-made

@@ -1,7 +1,5 @@
 use Rattle.std.proofs.Common.{[], ◌∷◌, inl, inr, refl}
-use Rattle.deck_files.specs.Steps.{Make, Refused}
-use Rattle.deck_files.specs.FolderSaves.{IsNew, refused_tries}
-use Rattle.deck_files.proofs.FolderSteps.{ChangeAmong-tries, takes-join}
+use Rattle.deck_files.{specs.Steps.{Make, Refused}, specs.FolderSaves.{IsNew, refused_tries}, proofs.FolderSteps.{ChangeAmong-tries, takes-join}}
 use Rattle.deck_files.proofs.new_files.make_unused.Goals as goal
 
 -- no memory was left for a path

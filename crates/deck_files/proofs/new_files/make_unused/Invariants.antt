@@ -1,5 +1,4 @@
-use Rattle.deck_files.specs.FolderSaves.{refused_tries}
-use Rattle.deck_files.specs.Steps.{TakesSteps}
+use Rattle.deck_files.specs.{FolderSaves.refused_tries, Steps.TakesSteps}
 use Rattle.deck_files.proofs.new_files.make_unused.Given as goal
 
 -- each name so far was refused

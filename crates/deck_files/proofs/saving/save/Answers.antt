@@ -1,7 +1,5 @@
-use Rattle.std.proofs.Common.{◌∙◌, [], ap}
-use Rattle.std.proofs.lemmas.List.{get_or_read}
-use Rattle.deck_files.specs.DeckFiles.{line_of_card}
-use Rattle.deck_files.proofs.SaveSteps.{Appends-part}
+use Rattle.std.proofs.{Common.{◌∙◌, [], ap}, lemmas.List.get_or_read}
+use Rattle.deck_files.{specs.DeckFiles.line_of_card, proofs.SaveSteps.Appends-part}
 use Rattle.deck_files.proofs.saving.save.Goals as goal
 
 pub returns-in-Err-clause-prefix : goal.returns-in-Err-clause-prefix

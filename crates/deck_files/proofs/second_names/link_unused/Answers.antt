@@ -1,7 +1,5 @@
 use Rattle.std.proofs.Common.{[], ◌∷◌, inl, inr, refl}
-use Rattle.deck_files.specs.Steps.{Link, Refused}
-use Rattle.deck_files.specs.FolderSaves.{IsNew, refused_links}
-use Rattle.deck_files.proofs.FolderSteps.{ChangeAmong-links, takes-join}
+use Rattle.deck_files.{specs.Steps.{Link, Refused}, specs.FolderSaves.{IsNew, refused_links}, proofs.FolderSteps.{ChangeAmong-links, takes-join}}
 use Rattle.deck_files.proofs.second_names.link_unused.Goals as goal
 
 -- no memory was left for a path

@@ -1,5 +1,4 @@
-use Rattle.deck_files.specs.FolderSaves.{refused_links}
-use Rattle.deck_files.specs.Steps.{TakesSteps}
+use Rattle.deck_files.specs.{FolderSaves.refused_links, Steps.TakesSteps}
 use Rattle.deck_files.proofs.second_names.link_unused.Given as goal
 
 -- each name so far was refused

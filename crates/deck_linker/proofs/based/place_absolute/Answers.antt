@@ -1,7 +1,5 @@
 use Rattle.std.proofs.Common.{◌≡◌, ◌∙◌, Bool, ap, sym}
-use Rattle.definitions.specs.DeckInput.{Deck}
-use Rattle.definitions.specs.Layout.{Based, has_beyond}
-use Rattle.definitions.specs.Objects.{object_of}
+use Rattle.definitions.specs.{DeckInput.Deck, Layout.{Based, has_beyond}, Objects.object_of}
 use Rattle.deck_linker.proofs.PlaceLaws.{placed-absolute}
 use Rattle.deck_linker.proofs.based.place_absolute.Goals as goal
 

@@ -1,6 +1,5 @@
 use Rattle.std.proofs.Common.{◌≡◌, ◌∙◌, ◌+◌, ◌<◌, ◌≤◌, ap, sym, arith, rules}
-use Rattle.definitions.specs.Layout.{deck_length}
-use Rattle.definitions.specs.Objects.{object_of}
+use Rattle.definitions.specs.{Layout.deck_length, Objects.object_of}
 use Rattle.deck_linker.proofs.PlaceLaws.{placed-past, placed-standing, end-past, end-standing}
 use Rattle.deck_linker.proofs.based.place_rel.Goals as goal
 

@@ -1,6 +1,5 @@
 -- None of the lines so far does.
-use Rattle.std.proofs.Common.{◌≡◌, drop}
-use Rattle.std.specs.List.{list_any}
+use Rattle.std.{proofs.Common.{◌≡◌, drop}, specs.List.list_any}
 use Rattle.deck_linker.specs.Joins.Beyond.{listed_beyond}
 use Rattle.deck_linker.proofs.beyond.any_listed_beyond.Given as goal
 

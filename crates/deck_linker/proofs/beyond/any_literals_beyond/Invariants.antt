@@ -1,6 +1,5 @@
 -- None of the blocks so far is.
-use Rattle.std.proofs.Common.{◌≡◌, drop}
-use Rattle.std.specs.List.{list_any}
+use Rattle.std.{proofs.Common.{◌≡◌, drop}, specs.List.list_any}
 use Rattle.deck_linker.specs.Joins.Beyond.{literals_row_beyond}
 use Rattle.deck_linker.proofs.beyond.any_literals_beyond.Given as goal
 

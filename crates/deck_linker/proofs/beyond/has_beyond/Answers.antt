@@ -1,6 +1,5 @@
 use Rattle.std.proofs.Common.{◌∙◌, subst, sym}
-use Rattle.definitions.proofs.BlockLaws.{object-blocks}
-use Rattle.definitions.specs.Objects.{object_of}
+use Rattle.definitions.{proofs.BlockLaws.object-blocks, specs.Objects.object_of}
 use Rattle.deck_listing.specs.Joins.Walking.{DoNamesDiffer}
 use Rattle.deck_linker.proofs.BeyondSteps.{parts-beyond}
 use Rattle.deck_linker.proofs.beyond.has_beyond.Goals as goal

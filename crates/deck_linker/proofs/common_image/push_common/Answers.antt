@@ -1,6 +1,5 @@
 use Rattle.std.proofs.Common.{◌≡◌, ◌<◌, ◌∙◌, Some, None, ap, subst, sym}
-use Rattle.deck_linker.specs.Joins.CommonWords.{common_place}
-use Rattle.deck_linker.proofs.CommonSteps.{no_place, place-within}
+use Rattle.deck_linker.{specs.Joins.CommonWords.common_place, proofs.CommonSteps.{no_place, place-within}}
 use Rattle.deck_linker.proofs.common_image.push_common.Goals as goal
 
 pub push_placed-requires-clause-place : goal.push_placed-requires-clause-place

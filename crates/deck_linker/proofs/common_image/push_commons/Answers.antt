@@ -1,8 +1,6 @@
-use Rattle.std.proofs.Common.{refl}
-use Rattle.std.specs.Prelude.{flat_map}
+use Rattle.std.{proofs.Common.refl, specs.Prelude.flat_map}
 use Rattle.definitions.specs.Image.{common_section_by}
-use Rattle.deck_linker.proofs.CommonSteps.{place-there}
-use Rattle.deck_linker.proofs.LineLaws.{text-step}
+use Rattle.deck_linker.proofs.{CommonSteps.place-there, LineLaws.text-step}
 use Rattle.deck_linker.proofs.common_image.push_commons.Goals as goal
 
 pub push_common-requires-clause-there : goal.push_common-requires-clause-there

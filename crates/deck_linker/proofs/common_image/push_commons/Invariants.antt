@@ -1,6 +1,5 @@
 -- The sections so far, and those of the common blocks that are left.
-use Rattle.std.proofs.Common.{◌≡◌, ◌++◌, drop}
-use Rattle.std.specs.Prelude.{flat_map}
+use Rattle.std.{proofs.Common.{◌≡◌, ◌++◌, drop}, specs.Prelude.flat_map}
 use Rattle.definitions.specs.Image.{common_section_by}
 use Rattle.deck_linker.proofs.common_image.push_commons.Given as goal
 

@@ -1,18 +1,8 @@
-use Rattle.std.proofs.Common.{◌≡◌, ◌∙◌, List, false, ap, sym, subst}
-use Rattle.std.specs.Prelude.{reverse}
-use Rattle.std.specs.List.{AllZip}
-use Rattle.std.proofs.lemmas.Result.{on_ok_weaker}
-use Rattle.definitions.proofs.BlockLaws.{object-blocks}
-use Rattle.definitions.specs.Lengths.{BlockRow}
-use Rattle.definitions.specs.LinkValues.{linking_of}
-use Rattle.definitions.specs.Objects.{Object}
-use Rattle.definitions.specs.declared.deck_kind.DeckKind.{DeckKind}
+use Rattle.std.{proofs.Common.{◌≡◌, ◌∙◌, List, false, ap, sym, subst}, specs.Prelude.reverse, specs.List.AllZip, proofs.lemmas.Result.on_ok_weaker}
+use Rattle.definitions.{proofs.BlockLaws.object-blocks, specs.Lengths.BlockRow, specs.LinkValues.linking_of, specs.Objects.Object, specs.declared.deck_kind.DeckKind.DeckKind}
 use Rattle.deck_objects.specs.Joins.CodedLines.{AreCoded}
-use Rattle.deck_listing.specs.Joins.BlockWords.{AreBlockWords, AreWordsOf}
-use Rattle.deck_listing.specs.Joins.Walking.{DoNamesDiffer}
-use Rattle.deck_linker.specs.Joins.CommonWords.{has_row}
-use Rattle.deck_linker.proofs.CommonSteps.{StoresNowhere, deck-none, deck-rows}
-use Rattle.deck_linker.proofs.ElsewhereLaws.{stored-nowhere}
+use Rattle.deck_listing.specs.Joins.{BlockWords.{AreBlockWords, AreWordsOf}, Walking.DoNamesDiffer}
+use Rattle.deck_linker.{specs.Joins.CommonWords.has_row, proofs.CommonSteps.{StoresNowhere, deck-none, deck-rows}, proofs.ElsewhereLaws.stored-nowhere}
 use Rattle.deck_linker.proofs.common_words.put_deck.Goals as goal
 
 pub put_rows-requires-clause-names : goal.put_rows-requires-clause-names

@@ -1,7 +1,5 @@
-use Rattle.std.proofs.Common.{◌+◌, ◌<◌, length, subst, take, arith}
-use Rattle.std.proofs.lemmas.List.{take_all}
-use Rattle.deck_linker.specs.Joins.CommonWords.{AreMade, over_deck, over_decks}
-use Rattle.deck_linker.proofs.CommonSteps.{decks-more, made-both, made-none, made-same}
+use Rattle.std.proofs.{Common.{◌+◌, ◌<◌, length, subst, take, arith}, lemmas.List.take_all}
+use Rattle.deck_linker.{specs.Joins.CommonWords.{AreMade, over_deck, over_decks}, proofs.CommonSteps.{decks-more, made-both, made-none, made-same}}
 use Rattle.deck_linker.proofs.common_words.put_decks.Goals as goal
 
 pub loop-based-init : goal.loop-based-init

@@ -1,7 +1,5 @@
-use Rattle.std.proofs.Common.{◌≡◌, ◌<◌, ◌∙◌, Some, None, ap, subst, sym}
-use Rattle.std.proofs.lemmas.Result.{on_ok_weaker}
-use Rattle.deck_linker.specs.Joins.CommonWords.{common_place}
-use Rattle.deck_linker.proofs.CommonSteps.{place-within, row-none, row-put}
+use Rattle.std.proofs.{Common.{◌≡◌, ◌<◌, ◌∙◌, Some, None, ap, subst, sym}, lemmas.Result.on_ok_weaker}
+use Rattle.deck_linker.{specs.Joins.CommonWords.common_place, proofs.CommonSteps.{place-within, row-none, row-put}}
 use Rattle.deck_linker.proofs.common_words.put_row.Goals as goal
 
 pub put_over-requires-clause-within : goal.put_over-requires-clause-within

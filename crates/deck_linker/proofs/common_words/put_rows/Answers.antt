@@ -1,14 +1,7 @@
-use Rattle.std.proofs.Common.{◌+◌, ◌^◌, ◌<◌, ◌∙◌, List, Some, ap, length, sym, subst, take, arith}
-use Rattle.std.proofs.lemmas.List.{take_all}
-use Rattle.std.proofs.lemmas.Option.{slice_get-get_or}
-use Rattle.std.proofs.lemmas.Slice.Zip.{AllZip-long}
+use Rattle.std.proofs.{Common.{◌+◌, ◌^◌, ◌<◌, ◌∙◌, List, Some, ap, length, sym, subst, take, arith}, lemmas.List.take_all, lemmas.Option.slice_get-get_or, lemmas.Slice.Zip.AllZip-long}
 use Rattle.definitions.specs.LinkValues.{linking_of}
-use Rattle.deck_listing.specs.Joins.Filling.{DoSpansRise, as_stored}
-use Rattle.deck_listing.specs.declared.packing.word_spans.WordSpan.{WordSpan}
-use Rattle.deck_listing.specs.Joins.BlockWords.{AreWordsOf}
-use Rattle.deck_listing.proofs.BlockSteps.{zip-at}
-use Rattle.deck_linker.specs.Joins.CommonWords.{AreMade, over_row, over_rows}
-use Rattle.deck_linker.proofs.CommonSteps.{made-both, made-none, made-same, rows-more}
+use Rattle.deck_listing.{specs.Joins.Filling.{DoSpansRise, as_stored}, specs.declared.packing.word_spans.WordSpan.WordSpan, specs.Joins.BlockWords.AreWordsOf, proofs.BlockSteps.zip-at}
+use Rattle.deck_linker.{specs.Joins.CommonWords.{AreMade, over_row, over_rows}, proofs.CommonSteps.{made-both, made-none, made-same, rows-more}}
 use Rattle.deck_linker.proofs.common_words.put_rows.Goals as goal
 
 pub loop-index-init : goal.loop-index-init

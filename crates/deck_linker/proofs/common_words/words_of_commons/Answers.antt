@@ -1,6 +1,5 @@
 use Rattle.std.proofs.Common.{◌∙◌, ap, length, subst}
-use Rattle.deck_linker.proofs.CommonSteps.{all-made, none-rise}
-use Rattle.deck_linker.specs.Joins.CommonWords.{AreMade, over_decks}
+use Rattle.deck_linker.{proofs.CommonSteps.{all-made, none-rise}, specs.Joins.CommonWords.{AreMade, over_decks}}
 use Rattle.deck_linker.proofs.common_words.words_of_commons.Goals as goal
 
 pub put_decks-requires-clause-lists : goal.put_decks-requires-clause-lists

@@ -1,9 +1,7 @@
 use Rattle.std.proofs.Common.{ℕ, ◌≡◌, List, ℤ, Option, None, sym, ap, ◌∙◌}
 use Rattle.indexmap.specs.IndexMap.{get}
-use Rattle.definitions.specs.Characters.{same_text}
-use Rattle.definitions.specs.LinkValues.{or_value}
-use Rattle.deck_linker.specs.Joins.Placing.{entry_alone}
-use Rattle.deck_linker.proofs.EntryLaws.{entered-new, entered-again, none-is}
+use Rattle.definitions.specs.{Characters.same_text, LinkValues.or_value}
+use Rattle.deck_linker.{specs.Joins.Placing.entry_alone, proofs.EntryLaws.{entered-new, entered-again, none-is}}
 use Rattle.deck_linker.proofs.entry_table.enter.Goals as goal
 
 pub returns-in_ok-insert : goal.returns-in_ok-insert

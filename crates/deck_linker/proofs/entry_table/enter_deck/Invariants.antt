@@ -1,8 +1,7 @@
 -- What is entered with the entries that are left.
 use Rattle.std.proofs.Common.{ℕ, ◌≡◌, List, drop}
 use Rattle.indexmap.specs.IndexMap.{get}
-use Rattle.definitions.specs.Characters.{same_text}
-use Rattle.definitions.specs.LinkValues.{entered_in, or_value}
+use Rattle.definitions.specs.{Characters.same_text, LinkValues.{entered_in, or_value}}
 use Rattle.deck_linker.proofs.entry_table.enter_deck.Given as goal
 
 abbrev pub invariant-loop-entry : goal.invariant-loop-entry

@@ -1,11 +1,7 @@
-use Rattle.std.proofs.Common.{◌≡◌, ◌∙◌, ◌++◌, List, ℕ, ap}
-use Rattle.std.specs.Prelude.{flat_map}
-use Rattle.std.proofs.lemmas.Result.{IfOk-weaker}
+use Rattle.std.{proofs.Common.{◌≡◌, ◌∙◌, ◌++◌, List, ℕ, ap}, specs.Prelude.flat_map, proofs.lemmas.Result.IfOk-weaker}
 use Rattle.definitions.specs.Image.{image_text}
 use Rattle.deck_listing.specs.Joins.Sheets.{room_of, text_of}
-use Rattle.deck_linker.specs.Joins.InPieces.{end_text}
-use Rattle.deck_linker.specs.Joins.Sections.{deck_section}
-use Rattle.deck_linker.proofs.ImageLaws.{two-put}
+use Rattle.deck_linker.{specs.Joins.InPieces.end_text, specs.Joins.Sections.deck_section, proofs.ImageLaws.two-put}
 use Rattle.deck_linker.proofs.image.image.Goals as goal
 
 pub into_text-requires : goal.into_text-requires

@@ -1,9 +1,7 @@
-use Rattle.std.proofs.Common.{◌∙◌, ap, length, refl, subst, sym}
-use Rattle.std.specs.Prelude.{flat_map}
+use Rattle.std.{proofs.Common.{◌∙◌, ap, length, refl, subst, sym}, specs.Prelude.flat_map}
 use Rattle.definitions.specs.LinkValues.{linking_of}
 use Rattle.deck_listing.specs.Joins.BlockWords.{AreBlockWords}
-use Rattle.deck_linker.specs.Joins.Sections.{deck_section}
-use Rattle.deck_linker.proofs.LineLaws.{text-step}
+use Rattle.deck_linker.{specs.Joins.Sections.deck_section, proofs.LineLaws.text-step}
 use Rattle.deck_linker.proofs.image.push_decks.Goals as goal
 
 pub push_deck-requires : goal.push_deck-requires

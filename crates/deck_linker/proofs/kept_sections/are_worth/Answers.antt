@@ -1,7 +1,4 @@
-use Rattle.std.proofs.Common.{◌≡◌, arith, subst, ℤ}
-use Rattle.std.specs.List.{All}
-use Rattle.std.proofs.lemmas.List.{take_all}
-use Rattle.std.proofs.lemmas.List.Elements.{All-more}
+use Rattle.std.{proofs.Common.{◌≡◌, arith, subst, ℤ}, specs.List.All, proofs.lemmas.List.take_all, proofs.lemmas.List.Elements.All-more}
 use Rattle.definitions.specs.Forms.{Relocation}
 use Rattle.deck_listing.specs.KeptSections.{worth_in}
 use Rattle.deck_linker.proofs.kept_sections.are_worth.Goals as goal

@@ -1,6 +1,5 @@
 -- The values so far are worth what stands with them.
-use Rattle.std.proofs.Common.{◌≡◌, take, ℤ}
-use Rattle.std.specs.List.{All}
+use Rattle.std.{proofs.Common.{◌≡◌, take, ℤ}, specs.List.All}
 use Rattle.definitions.specs.Forms.{Relocation}
 use Rattle.deck_listing.specs.KeptSections.{worth_in}
 use Rattle.deck_linker.proofs.kept_sections.are_worth.Given as goal

@@ -1,14 +1,6 @@
-use Rattle.std.proofs.Common.{[], ◌<◌, ◌∙◌, ◌∷◌, List, ap, arith, length, length-append, subst, sym}
-use Rattle.std.specs.Prelude.{slice_index_or, slice_set}
-use Rattle.std.proofs.lemmas.List.{set-get_or}
-use Rattle.definitions.specs.DeckInput.{Deck}
-use Rattle.definitions.specs.Layout.{Based}
-use Rattle.definitions.specs.Objects.{object_of}
-use Rattle.deck_linker.specs.Joins.UnfitLines.{AreKnownToFit}
-use Rattle.deck_linker.specs.Publishing.{section_of}
-use Rattle.deck_linker.proofs.KnownFitLaws.{known-more}
-use Rattle.deck_linker.proofs.SectionLaws.{map-step}
-use Rattle.deck_linker.proofs.TakenLaws.{same-at}
+use Rattle.std.{proofs.Common.{[], ◌<◌, ◌∙◌, ◌∷◌, List, ap, arith, length, length-append, subst, sym}, specs.Prelude.{slice_index_or, slice_set}, proofs.lemmas.List.set-get_or}
+use Rattle.definitions.specs.{DeckInput.Deck, Layout.Based, Objects.object_of}
+use Rattle.deck_linker.{specs.Joins.UnfitLines.AreKnownToFit, specs.Publishing.section_of, proofs.KnownFitLaws.known-more, proofs.SectionLaws.map-step, proofs.TakenLaws.same-at}
 use Rattle.deck_linker.proofs.kept_sections.sections_of.Goals as goal
 
 pub deck_section-requires : goal.deck_section-requires

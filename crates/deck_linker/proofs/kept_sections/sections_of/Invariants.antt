@@ -1,8 +1,7 @@
 -- The sections so far, and those of the decks that are left; of the decks so far it is known what is stated of
 -- them; the objects are as they were.
 use Rattle.std.proofs.Common.{◌≡◌, ◌++◌, drop, length, map}
-use Rattle.deck_linker.specs.Joins.UnfitLines.{AreKnownToFit}
-use Rattle.deck_linker.specs.Publishing.{section_of}
+use Rattle.deck_linker.specs.{Joins.UnfitLines.AreKnownToFit, Publishing.section_of}
 use Rattle.deck_linker.proofs.kept_sections.sections_of.Given as goal
 
 abbrev pub invariant-loop-index : goal.invariant-loop-index

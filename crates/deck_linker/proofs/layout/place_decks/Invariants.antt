@@ -1,8 +1,6 @@
 -- The decks so far, and behind them those of the objects that are left.
-use Rattle.std.proofs.Common.{◌≡◌, ◌≤◌, ◌++◌, map}
-use Rattle.std.specs.Vec.Iter.{into_iter_items}
-use Rattle.definitions.specs.Layout.{based_from, end_of_decks, first_base}
-use Rattle.definitions.specs.Objects.{object_of}
+use Rattle.std.{proofs.Common.{◌≡◌, ◌≤◌, ◌++◌, map}, specs.Vec.Iter.into_iter_items}
+use Rattle.definitions.specs.{Layout.{based_from, end_of_decks, first_base}, Objects.object_of}
 use Rattle.deck_linker.proofs.layout.place_decks.Given as goal
 
 abbrev pub invariant-loop-object : goal.invariant-loop-object

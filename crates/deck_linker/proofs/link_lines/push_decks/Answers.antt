@@ -1,5 +1,4 @@
-use Rattle.std.proofs.Common.{◌<◌, ◌∙◌, Some, ap, arith, length, sym}
-use Rattle.std.proofs.lemmas.Option.{slice_get-get_or}
+use Rattle.std.proofs.{Common.{◌<◌, ◌∙◌, Some, ap, arith, length, sym}, lemmas.Option.slice_get-get_or}
 use Rattle.deck_linker.proofs.LinkLineLaws.{decks-step}
 use Rattle.deck_linker.proofs.link_lines.push_decks.Goals as goal
 

@@ -1,7 +1,6 @@
 -- The lines of the decks that are left complete those of all.
 use Rattle.std.proofs.Common.{◌≡◌, drop}
-use Rattle.deck_linker.specs.Joins.DeckLines.{lines_of_decks}
-use Rattle.deck_linker.specs.Joins.Lines.{with_lines}
+use Rattle.deck_linker.specs.Joins.{DeckLines.lines_of_decks, Lines.with_lines}
 use Rattle.deck_linker.proofs.link_lines.push_decks.Given as goal
 
 abbrev pub invariant-loop-place : goal.invariant-loop-place

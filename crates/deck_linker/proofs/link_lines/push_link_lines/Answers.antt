@@ -1,5 +1,4 @@
-use Rattle.deck_linker.proofs.TextLaws.{on_ok_along}
-use Rattle.deck_linker.proofs.LinkLineLaws.{all-lines}
+use Rattle.deck_linker.proofs.{TextLaws.on_ok_along, LinkLineLaws.all-lines}
 use Rattle.deck_linker.proofs.link_lines.push_link_lines.Goals as goal
 
 pub returns : goal.returns

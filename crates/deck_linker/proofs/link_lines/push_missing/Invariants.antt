@@ -1,7 +1,6 @@
 -- The lines of the externals that are left complete those of all.
 use Rattle.std.proofs.Common.{◌≡◌, drop}
-use Rattle.definitions.specs.LinkValues.{entry_names}
-use Rattle.definitions.specs.LinkLines.{missing_lines}
+use Rattle.definitions.specs.{LinkValues.entry_names, LinkLines.missing_lines}
 use Rattle.deck_linker.specs.Joins.Lines.{with_lines}
 use Rattle.deck_linker.proofs.link_lines.push_missing.Given as goal
 

@@ -1,8 +1,6 @@
 use Rattle.std.proofs.Common.{List, subst}
 use Rattle.definitions.specs.Layout.{Based}
-use Rattle.deck_linker.specs.Joins.InPieces.{DoFit}
-use Rattle.deck_linker.specs.Joins.Sections.{deck_section}
-use Rattle.deck_linker.proofs.InPieceLaws.{fit-weaker}
+use Rattle.deck_linker.{specs.Joins.InPieces.DoFit, specs.Joins.Sections.deck_section, proofs.InPieceLaws.fit-weaker}
 use Rattle.deck_linker.proofs.linked_decks.image_room.Goals as goal
 
 pub returns-clause-fit : goal.returns-clause-fit

@@ -1,6 +1,4 @@
-use Rattle.std.proofs.Common.{◌∷◌, [], ap, sym, subst, take, ◌∙◌, ◌++◌, arith}
-use Rattle.std.specs.List.{AllZip}
-use Rattle.std.proofs.lemmas.List.{take_all, take_more}
+use Rattle.std.{proofs.Common.{◌∷◌, [], ap, sym, subst, take, ◌∙◌, ◌++◌, arith}, specs.List.AllZip, proofs.lemmas.List.{take_all, take_more}}
 use Rattle.deck_listing.proofs.BlockSteps.{zip-more}
 use Rattle.deck_linker.specs.Joins.InPieces.{AreDeckWords}
 use Rattle.deck_linker.proofs.linked_decks.words_of_decks.Goals as goal

@@ -1,5 +1,4 @@
-use Rattle.std.proofs.Common.{take}
-use Rattle.std.specs.List.{AllZip}
+use Rattle.std.{proofs.Common.take, specs.List.AllZip}
 use Rattle.deck_linker.specs.Joins.InPieces.{AreDeckWords}
 use Rattle.deck_linker.proofs.linked_decks.words_of_decks.Given as goal
 

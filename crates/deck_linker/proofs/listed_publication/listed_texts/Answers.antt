@@ -1,12 +1,6 @@
-use Rattle.std.proofs.Common.{◌≡◌, ◌∙◌, List, ap, map, subst}
-use Rattle.std.specs.Prelude.{IfOk}
-use Rattle.definitions.specs.DeckInput.{Deck}
-use Rattle.definitions.specs.Layout.{Based, Layout, first_base, layout_of}
-use Rattle.definitions.specs.Map.{map_text}
-use Rattle.definitions.specs.Objects.{object_of}
-use Rattle.deck_linker.specs.Joins.InPieces.{end_text}
-use Rattle.deck_linker.specs.Joins.Listed.{sections_in}
-use Rattle.deck_linker.proofs.PlaceLaws.{objects-based}
+use Rattle.std.{proofs.Common.{◌≡◌, ◌∙◌, List, ap, map, subst}, specs.Prelude.IfOk}
+use Rattle.definitions.specs.{DeckInput.Deck, Layout.{Based, Layout, first_base, layout_of}, Map.map_text, Objects.object_of}
+use Rattle.deck_linker.{specs.Joins.InPieces.end_text, specs.Joins.Listed.sections_in, proofs.PlaceLaws.objects-based}
 use Rattle.deck_linker.proofs.listed_publication.listed_texts.Goals as goal
 
 pub texts_in-requires : goal.texts_in-requires

@@ -1,6 +1,5 @@
 -- The lines so far, and those of the common blocks that are left.
-use Rattle.std.proofs.Common.{◌≡◌, ◌++◌, drop}
-use Rattle.std.specs.Prelude.{flat_map}
+use Rattle.std.{proofs.Common.{◌≡◌, ◌++◌, drop}, specs.Prelude.flat_map}
 use Rattle.definitions.specs.Map.{common_line}
 use Rattle.deck_linker.proofs.map.push_commons.Given as goal
 

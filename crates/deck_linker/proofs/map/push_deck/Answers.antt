@@ -1,7 +1,6 @@
 use Rattle.std.proofs.Common.{◌∙◌, ap}
 use Rattle.definitions.specs.Kinds.{kind_text}
-use Rattle.deck_linker.proofs.TextLaws.{on_ok_along}
-use Rattle.deck_linker.proofs.MapLaws.{deck-written}
+use Rattle.deck_linker.proofs.{TextLaws.on_ok_along, MapLaws.deck-written}
 use Rattle.deck_linker.proofs.map.push_deck.Goals as goal
 
 pub returns : goal.returns

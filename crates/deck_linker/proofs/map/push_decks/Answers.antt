@@ -1,5 +1,4 @@
-use Rattle.std.proofs.Common.{refl}
-use Rattle.std.specs.Prelude.{flat_map}
+use Rattle.std.{proofs.Common.refl, specs.Prelude.flat_map}
 use Rattle.definitions.specs.Map.{deck_line}
 use Rattle.deck_linker.proofs.LineLaws.{text-step}
 use Rattle.deck_linker.proofs.map.push_decks.Goals as goal

@@ -1,6 +1,5 @@
 -- The lines so far, and those of the decks that are left.
-use Rattle.std.proofs.Common.{◌≡◌, ◌++◌, drop}
-use Rattle.std.specs.Prelude.{flat_map}
+use Rattle.std.{proofs.Common.{◌≡◌, ◌++◌, drop}, specs.Prelude.flat_map}
 use Rattle.definitions.specs.Map.{deck_line}
 use Rattle.deck_linker.proofs.map.push_decks.Given as goal
 

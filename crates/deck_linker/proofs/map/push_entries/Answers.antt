@@ -1,7 +1,6 @@
 use Rattle.std.proofs.Common.{refl}
 use Rattle.definitions.specs.Map.{entry_lines}
-use Rattle.deck_linker.specs.Joins.MapLines.{new_entry}
-use Rattle.deck_linker.proofs.LineLaws.{text-step}
+use Rattle.deck_linker.{specs.Joins.MapLines.new_entry, proofs.LineLaws.text-step}
 use Rattle.deck_linker.proofs.map.push_entries.Goals as goal
 
 pub loop-entry-preserved : goal.loop-entry-preserved

@@ -1,6 +1,5 @@
 use Rattle.std.proofs.Common.{◌∙◌}
-use Rattle.deck_linker.proofs.TextLaws.{on_ok_along}
-use Rattle.deck_linker.proofs.MapLaws.{entry-written}
+use Rattle.deck_linker.proofs.{TextLaws.on_ok_along, MapLaws.entry-written}
 use Rattle.deck_linker.proofs.map.push_entry.Goals as goal
 
 pub returns : goal.returns

@@ -1,5 +1,4 @@
-use Rattle.deck_linker.proofs.TextLaws.{on_ok_along}
-use Rattle.deck_linker.proofs.MapLaws.{place-written}
+use Rattle.deck_linker.proofs.{TextLaws.on_ok_along, MapLaws.place-written}
 use Rattle.deck_linker.proofs.map.push_place.Goals as goal
 
 pub returns : goal.returns

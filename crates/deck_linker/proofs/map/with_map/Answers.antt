@@ -1,9 +1,6 @@
-use Rattle.std.proofs.Common.{ℕ, List, ◌++◌, ◌∙◌, ap}
-use Rattle.std.specs.Prelude.{codes}
-use Rattle.definitions.specs.Listing.{line}
-use Rattle.deck_linker.specs.Joins.Lines.{Written, with_lines}
-use Rattle.definitions.specs.LinkLines.{link_lines}
-use Rattle.deck_linker.proofs.MapLaws.{map-whole, links-counted}
+use Rattle.std.{proofs.Common.{ℕ, List, ◌++◌, ◌∙◌, ap}, specs.Prelude.codes}
+use Rattle.definitions.specs.{Listing.line, LinkLines.link_lines}
+use Rattle.deck_linker.{specs.Joins.Lines.{Written, with_lines}, proofs.MapLaws.{map-whole, links-counted}}
 use Rattle.deck_linker.proofs.map.with_map.Goals as goal
 
 pub returns-clause-text : goal.returns-clause-text

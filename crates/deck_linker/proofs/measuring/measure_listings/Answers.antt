@@ -1,9 +1,6 @@
-use Rattle.std.proofs.Common.{◌+◌, ◌∙◌, List, ap, arith, drop, length, subst, sym, ℕ}
+use Rattle.std.proofs.{Common.{◌+◌, ◌∙◌, List, ap, arith, drop, length, subst, sym, ℕ}, lemmas.List.take_all}
 use Rattle.definitions.specs.DeckInput.{Deck}
-use Rattle.deck_linker.specs.Joins.InPieces.{DoFit, deck_text}
-use Rattle.std.proofs.lemmas.List.{take_all}
-use Rattle.deck_linker.proofs.InPieceLaws.{fit-more, left-split}
-use Rattle.deck_linker.proofs.ListedLaws.{listings-flat}
+use Rattle.deck_linker.{specs.Joins.InPieces.{DoFit, deck_text}, proofs.InPieceLaws.{fit-more, left-split}, proofs.ListedLaws.listings-flat}
 use Rattle.deck_linker.proofs.measuring.measure_listings.Goals as goal
 
 pub loop-object-preserved : goal.loop-object-preserved

@@ -1,7 +1,6 @@
 -- The bytes so far and those of the listings that are left, and that those so far fit.
 use Rattle.std.proofs.Common.{◌≡◌, ◌+◌, ◌≤◌, drop, length, take}
-use Rattle.deck_linker.specs.Joins.InPieces.{DoFit, deck_text}
-use Rattle.deck_linker.specs.Publishing.{listings}
+use Rattle.deck_linker.specs.{Joins.InPieces.{DoFit, deck_text}, Publishing.listings}
 use Rattle.deck_linker.proofs.measuring.measure_listings.Given as goal
 
 abbrev pub invariant-loop-object : goal.invariant-loop-object

@@ -1,8 +1,5 @@
-use Rattle.std.proofs.Common.{◌<◌, arith, subst, length}
-use Rattle.deck_linker.specs.Joins.InPieces.{DoFit}
-use Rattle.deck_linker.specs.Joins.Sections.{deck_section}
-use Rattle.std.proofs.lemmas.List.{take_all}
-use Rattle.deck_linker.proofs.InPieceLaws.{fit-more, left-split, words-at, words-within}
+use Rattle.std.proofs.{Common.{◌<◌, arith, subst, length}, lemmas.List.take_all}
+use Rattle.deck_linker.{specs.Joins.InPieces.DoFit, specs.Joins.Sections.deck_section, proofs.InPieceLaws.{fit-more, left-split, words-at, words-within}}
 use Rattle.deck_linker.proofs.measuring.measure_sections.Goals as goal
 
 pub bounds-words-index : goal.bounds-words-index

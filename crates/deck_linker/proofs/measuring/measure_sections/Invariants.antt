@@ -1,8 +1,6 @@
 -- The bytes so far and those of the sections that are left, and that those so far fit.
-use Rattle.std.proofs.Common.{◌≡◌, ◌+◌, ◌≤◌, drop, length, take}
-use Rattle.std.specs.Prelude.{flat_map}
-use Rattle.deck_linker.specs.Joins.InPieces.{DoFit}
-use Rattle.deck_linker.specs.Joins.Sections.{deck_section}
+use Rattle.std.{proofs.Common.{◌≡◌, ◌+◌, ◌≤◌, drop, length, take}, specs.Prelude.flat_map}
+use Rattle.deck_linker.specs.Joins.{InPieces.DoFit, Sections.deck_section}
 use Rattle.deck_linker.proofs.measuring.measure_sections.Given as goal
 
 abbrev pub invariant-loop-index : goal.invariant-loop-index

@@ -1,10 +1,6 @@
-use Rattle.std.proofs.Common.{◌≡◌, ◌∙◌, ℕ, List, ap, length}
-use Rattle.std.proofs.lemmas.Result.{IfOk-weaker}
-use Rattle.std.proofs.lemmas.Slice.Zip.{AllZip-long}
+use Rattle.std.proofs.{Common.{◌≡◌, ◌∙◌, ℕ, List, ap, length}, lemmas.Result.IfOk-weaker, lemmas.Slice.Zip.AllZip-long}
 use Rattle.definitions.specs.LinkValues.{linking_of}
-use Rattle.deck_listing.proofs.SheetSteps.{grown}
-use Rattle.deck_listing.specs.Joins.BlockWords.{AreWordsOf}
-use Rattle.deck_listing.specs.Joins.Sheets.{room_of, text_of}
+use Rattle.deck_listing.{proofs.SheetSteps.grown, specs.Joins.BlockWords.AreWordsOf, specs.Joins.Sheets.{room_of, text_of}}
 use Rattle.deck_linker.specs.Joins.Sections.{deck_section}
 use Rattle.deck_linker.proofs.measuring.section_len.Goals as goal
 

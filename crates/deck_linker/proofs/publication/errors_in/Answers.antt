@@ -1,7 +1,5 @@
 use Rattle.std.proofs.Common.{◌∙◌, ap}
-use Rattle.definitions.specs.DeckInput.{Deck}
-use Rattle.definitions.specs.Listing.{errors_of}
-use Rattle.definitions.specs.Objects.{object_of}
+use Rattle.definitions.specs.{DeckInput.Deck, Listing.errors_of, Objects.object_of}
 use Rattle.deck_linker.proofs.PublishLaws.{errors-step}
 use Rattle.deck_linker.proofs.publication.errors_in.Goals as goal
 

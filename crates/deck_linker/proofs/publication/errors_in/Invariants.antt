@@ -1,8 +1,6 @@
 -- The flagged statements so far, and those of the decks that are left.
-use Rattle.std.proofs.Common.{◌≡◌, ◌+◌, drop}
-use Rattle.std.specs.Prelude.{map}
-use Rattle.definitions.specs.Build.{errors_in}
-use Rattle.definitions.specs.Objects.{object_of}
+use Rattle.std.{proofs.Common.{◌≡◌, ◌+◌, drop}, specs.Prelude.map}
+use Rattle.definitions.specs.{Build.errors_in, Objects.object_of}
 use Rattle.deck_linker.proofs.publication.errors_in.Given as goal
 
 abbrev pub invariant-loop-object : goal.invariant-loop-object

@@ -1,9 +1,6 @@
 use Rattle.std.proofs.Common.{refl, ◌++◌, ◌∙◌, ap}
-use Rattle.definitions.specs.DeckInput.{Deck}
-use Rattle.definitions.specs.Listing.{deck_listing}
-use Rattle.definitions.specs.Objects.{object_of}
-use Rattle.deck_linker.specs.Publishing.{listings}
-use Rattle.deck_linker.proofs.LineLaws.{text-step}
+use Rattle.definitions.specs.{DeckInput.Deck, Listing.deck_listing, Objects.object_of}
+use Rattle.deck_linker.{specs.Publishing.listings, proofs.LineLaws.text-step}
 use Rattle.deck_linker.proofs.publication.listings.Goals as goal
 
 pub loop-object-preserved : goal.loop-object-preserved

@@ -1,9 +1,5 @@
-use Rattle.std.proofs.Common.{◌++◌, ◌∙◌, sym, length-append}
-use Rattle.std.specs.Prelude.{flat_map}
-use Rattle.deck_linker.specs.Joins.InPieces.{end_text}
-use Rattle.deck_linker.specs.Publishing.{listings}
-use Rattle.deck_linker.specs.Joins.Sections.{deck_section}
-use Rattle.deck_linker.proofs.ListedLaws.{part-behind-all}
+use Rattle.std.{proofs.Common.{◌++◌, ◌∙◌, sym, length-append}, specs.Prelude.flat_map}
+use Rattle.deck_linker.{specs.Joins.InPieces.end_text, specs.Publishing.listings, specs.Joins.Sections.deck_section, proofs.ListedLaws.part-behind-all}
 use Rattle.deck_linker.proofs.sending.send_all.Goals as goal
 
 pub returns-in-Err-clause-sends : goal.returns-in-Err-clause-sends

@@ -1,5 +1,4 @@
-use Rattle.deck_linker.specs.Publishing.{listings}
-use Rattle.deck_linker.proofs.ListedLaws.{part-behind-all}
+use Rattle.deck_linker.{specs.Publishing.listings, proofs.ListedLaws.part-behind-all}
 use Rattle.deck_linker.proofs.sending.send_front.Goals as goal
 
 pub returns-in-Err-clause-sends : goal.returns-in-Err-clause-sends

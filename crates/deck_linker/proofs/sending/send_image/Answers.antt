@@ -1,11 +1,7 @@
-use Rattle.std.proofs.Common.{List, ◌+◌, ◌++◌, ℕ, subst}
-use Rattle.std.specs.Prelude.{flat_map}
+use Rattle.std.{proofs.Common.{List, ◌+◌, ◌++◌, ℕ, subst}, specs.Prelude.flat_map}
 use Rattle.definitions.specs.Layout.{Based}
 use Rattle.text_ports.proofs.SendSteps.{IsPart}
-use Rattle.deck_linker.specs.Joins.InPieces.{end_text}
-use Rattle.deck_linker.specs.Joins.Sections.{deck_section}
-use Rattle.deck_linker.proofs.InPieceLaws.{clear-again, clear-text}
-use Rattle.deck_linker.proofs.ListedLaws.{part-behind-all}
+use Rattle.deck_linker.{specs.Joins.InPieces.end_text, specs.Joins.Sections.deck_section, proofs.InPieceLaws.{clear-again, clear-text}, proofs.ListedLaws.part-behind-all}
 use Rattle.deck_linker.proofs.sending.send_image.Goals as goal
 
 pub returns-in-Err-clause-sends : goal.returns-in-Err-clause-sends

@@ -1,9 +1,7 @@
 use Rattle.std.proofs.Common.{◌+◌, ◌++◌, ◌∙◌, ap, arith}
 use Rattle.definitions.specs.DeckInput.{Deck}
 use Rattle.deck_listing.specs.Joins.Sheets.{text_of}
-use Rattle.deck_linker.specs.Joins.InPieces.{deck_text}
-use Rattle.deck_linker.proofs.InPieceLaws.{clear-again, clear-fits, clear-text, fit-at}
-use Rattle.deck_linker.proofs.ListedLaws.{Appends-listing, listing-sent, listings-within, part-listing}
+use Rattle.deck_linker.{specs.Joins.InPieces.deck_text, proofs.InPieceLaws.{clear-again, clear-fits, clear-text, fit-at}, proofs.ListedLaws.{Appends-listing, listing-sent, listings-within, part-listing}}
 use Rattle.deck_linker.proofs.sending.send_listings.Goals as goal
 
 pub send-requires : goal.send-requires

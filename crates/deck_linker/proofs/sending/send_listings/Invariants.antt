@@ -1,6 +1,5 @@
 -- Exactly the listings so far went out, the writer has not failed, and the sheet is clear.
-use Rattle.std.proofs.Common.{◌≡◌, length, take}
-use Rattle.std.specs.Io.KnownBytes.{Appends}
+use Rattle.std.{proofs.Common.{◌≡◌, length, take}, specs.Io.KnownBytes.Appends}
 use Rattle.deck_linker.specs.Publishing.{listings}
 use Rattle.deck_linker.proofs.sending.send_listings.Given as goal
 

@@ -1,8 +1,7 @@
 use Rattle.std.proofs.Common.{◌+◌, ◌<◌, ◌∙◌, ap, arith, length}
 use Rattle.text_ports.proofs.SendSteps.{Appends-text, part-text}
 use Rattle.deck_listing.specs.Joins.Sheets.{text_of}
-use Rattle.deck_linker.specs.Joins.Sections.{deck_section}
-use Rattle.deck_linker.proofs.InPieceLaws.{clear-again, clear-fits, clear-text, fit-at, rows-long, sent-more, sent-within, words-at, words-within}
+use Rattle.deck_linker.{specs.Joins.Sections.deck_section, proofs.InPieceLaws.{clear-again, clear-fits, clear-text, fit-at, rows-long, sent-more, sent-within, words-at, words-within}}
 use Rattle.deck_linker.proofs.sending.send_sections.Goals as goal
 
 pub bounds-words-index : goal.bounds-words-index

@@ -1,7 +1,5 @@
 -- Exactly the sections so far went out, the writer has not failed, and the sheet is clear.
-use Rattle.std.proofs.Common.{◌≡◌, length, take}
-use Rattle.std.specs.Prelude.{flat_map}
-use Rattle.std.specs.Io.KnownBytes.{Appends}
+use Rattle.std.{proofs.Common.{◌≡◌, length, take}, specs.Prelude.flat_map, specs.Io.KnownBytes.Appends}
 use Rattle.deck_linker.specs.Joins.Sections.{deck_section}
 use Rattle.deck_linker.proofs.sending.send_sections.Given as goal
 

@@ -1,9 +1,7 @@
-use Rattle.std.proofs.Common.{ap, refl, subst, sym}
-use Rattle.std.proofs.lemmas.Result.{on_ok_weaker}
+use Rattle.std.proofs.{Common.{ap, refl, subst, sym}, lemmas.Result.on_ok_weaker}
 use Rattle.definitions.specs.Forms.{Block, External}
 use Rattle.expr_forms.specs.Joins.FormsAs.{relocation_as}
-use Rattle.deck_linker.specs.Joins.TakenValues.{IsTaken}
-use Rattle.deck_linker.proofs.TakenLaws.{taken-common, taken-external}
+use Rattle.deck_linker.{specs.Joins.TakenValues.IsTaken, proofs.TakenLaws.{taken-common, taken-external}}
 use Rattle.deck_linker.proofs.taken_values.take.Goals as goal
 
 pub returns-in-External : goal.returns-in-External

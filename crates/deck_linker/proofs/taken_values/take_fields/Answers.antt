@@ -1,5 +1,4 @@
-use Rattle.std.proofs.Common.{subst, arith}
-use Rattle.std.proofs.lemmas.List.{take_all}
+use Rattle.std.proofs.{Common.{subst, arith}, lemmas.List.take_all}
 use Rattle.deck_listing.specs.KeptSections.{DoFieldsFollow}
 use Rattle.deck_linker.proofs.TakenLaws.{fields-more}
 use Rattle.deck_linker.proofs.taken_values.take_fields.Goals as goal

@@ -1,7 +1,5 @@
 use Rattle.std.proofs.Common.{subst}
-use Rattle.deck_listing.specs.KeptSections.{DoFieldsFollow}
-use Rattle.deck_listing.proofs.FitLaws.{fit-elsewhere}
-use Rattle.deck_listing.proofs.KeptLaws.{section-same}
+use Rattle.deck_listing.{specs.KeptSections.DoFieldsFollow, proofs.FitLaws.fit-elsewhere, proofs.KeptLaws.section-same}
 use Rattle.deck_linker.proofs.taken_values.taken_values.Goals as goal
 
 pub returns-clause-section : goal.returns-clause-section

@@ -1,6 +1,5 @@
 use Rattle.std.proofs.Common.{arith, flat_map}
-use Rattle.deck_linker.specs.Publishing.{lines_in}
-use Rattle.deck_linker.proofs.ListedLaws.{count-split, lines-append, lines-within}
+use Rattle.deck_linker.{specs.Publishing.lines_in, proofs.ListedLaws.{count-split, lines-append, lines-within}}
 use Rattle.deck_linker.proofs.text_parts.parts_lines.Goals as goal
 
 pub overflow_add-lines : goal.overflow_add-lines

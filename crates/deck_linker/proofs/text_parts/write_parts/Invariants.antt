@@ -1,5 +1,4 @@
-use Rattle.std.proofs.Common.{◌≡◌, flat_map, length, take}
-use Rattle.std.specs.Io.KnownBytes.{Appends}
+use Rattle.std.{proofs.Common.{◌≡◌, flat_map, length, take}, specs.Io.KnownBytes.Appends}
 use Rattle.deck_linker.proofs.text_parts.write_parts.Given as goal
 
 -- exactly the texts so far went out, and the writer has not failed

@@ -1,8 +1,6 @@
-use Rattle.std.proofs.Common.{◌≡◌, ap, arith, length}
-use Rattle.std.specs.Prelude.{flat_map, nat_eq, reverse}
+use Rattle.std.{proofs.Common.{◌≡◌, ap, arith, length}, specs.Prelude.{flat_map, nat_eq, reverse}}
 use Rattle.definitions.specs.LinkLines.{unfit_addresses}
-use Rattle.deck_linker.specs.Joins.Lines.{Written}
-use Rattle.deck_linker.proofs.LineLaws.{with_lines-count}
+use Rattle.deck_linker.{specs.Joins.Lines.Written, proofs.LineLaws.with_lines-count}
 use Rattle.deck_linker.proofs.unfit_fields.do_all_fit.Goals as goal
 
 pub returns : goal.returns

@@ -1,12 +1,7 @@
-use Rattle.std.proofs.Common.{◌∙◌, List, ap, subst, sym}
-use Rattle.std.specs.Prelude.{reverse}
+use Rattle.std.{proofs.Common.{◌∙◌, List, ap, subst, sym}, specs.Prelude.reverse}
 use Rattle.definitions.specs.declared.deck_kind.DeckKind.{DeckKind}
-use Rattle.deck_objects.specs.Joins.CodedLines.{AreCoded}
-use Rattle.deck_objects.specs.declared.lines.Line.{Line}
-use Rattle.deck_linker.specs.Joins.Lines.{with_lines}
-use Rattle.deck_linker.specs.Joins.UnfitLines.{AllAreKept, unfit_lines}
-use Rattle.deck_linker.proofs.TextLaws.{on_ok_along}
-use Rattle.deck_linker.proofs.UnfitLaws.{unfit-lines, all-kept}
+use Rattle.deck_objects.specs.{Joins.CodedLines.AreCoded, declared.lines.Line.Line}
+use Rattle.deck_linker.{specs.Joins.Lines.with_lines, specs.Joins.UnfitLines.{AllAreKept, unfit_lines}, proofs.TextLaws.on_ok_along, proofs.UnfitLaws.{unfit-lines, all-kept}}
 use Rattle.deck_linker.proofs.unfit_fields.push_unfit.Goals as goal
 
 pub push_unfit_lines-requires : goal.push_unfit_lines-requires

@@ -1,6 +1,5 @@
 -- The lines of the fields that are left complete those of all.
-use Rattle.std.proofs.Common.{◌≡◌, ◌+◌, ◌*◌, ◌≤◌, drop}
-use Rattle.std.specs.Prelude.{map}
+use Rattle.std.{proofs.Common.{◌≡◌, ◌+◌, ◌*◌, ◌≤◌, drop}, specs.Prelude.map}
 use Rattle.definitions.specs.LinkLines.{address_lines, unfit_words}
 use Rattle.statement_coder.specs.Joins.Items.{item_as}
 use Rattle.deck_objects.specs.Joins.LineItems.{AreShort}

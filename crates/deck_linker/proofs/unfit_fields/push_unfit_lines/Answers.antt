@@ -1,8 +1,6 @@
 use Rattle.std.proofs.Common.{refl}
-use Rattle.deck_linker.specs.Joins.UnfitLines.{unfit_of, unfit_lines}
+use Rattle.deck_linker.{specs.Joins.UnfitLines.{unfit_of, unfit_lines}, proofs.LineLaws.lines-step, proofs.UnfitLaws.kept-step}
 use Rattle.deck_objects.specs.declared.lines.Line.{Line}
-use Rattle.deck_linker.proofs.LineLaws.{lines-step}
-use Rattle.deck_linker.proofs.UnfitLaws.{kept-step}
 use Rattle.deck_linker.proofs.unfit_fields.push_unfit_lines.Goals as goal
 
 pub loop-line-preserved : goal.loop-line-preserved

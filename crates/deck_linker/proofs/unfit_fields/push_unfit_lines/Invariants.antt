@@ -1,7 +1,6 @@
 -- The lines of the statements that are left complete those of all.
 use Rattle.std.proofs.Common.{◌≡◌, drop}
-use Rattle.deck_linker.specs.Joins.Lines.{with_lines}
-use Rattle.deck_linker.specs.Joins.UnfitLines.{AllAreKept, unfit_lines}
+use Rattle.deck_linker.specs.Joins.{Lines.with_lines, UnfitLines.{AllAreKept, unfit_lines}}
 use Rattle.deck_linker.proofs.unfit_fields.push_unfit_lines.Given as goal
 
 abbrev pub invariant-loop-line : goal.invariant-loop-line

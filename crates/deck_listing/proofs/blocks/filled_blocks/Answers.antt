@@ -1,9 +1,5 @@
-use Rattle.std.proofs.Common.{◌∷◌, [], Some, ap, sym, subst, take, ◌∙◌, ◌++◌, arith}
-use Rattle.std.specs.List.{AllZip}
-use Rattle.std.proofs.lemmas.List.{take_all, take_more}
-use Rattle.std.proofs.lemmas.Option.{slice_get-get_or}
-use Rattle.deck_listing.specs.Joins.BlockWords.{IsFilledWith}
-use Rattle.deck_listing.proofs.BlockSteps.{zip-more}
+use Rattle.std.{proofs.Common.{◌∷◌, [], Some, ap, sym, subst, take, ◌∙◌, ◌++◌, arith}, specs.List.AllZip, proofs.lemmas.List.{take_all, take_more}, proofs.lemmas.Option.slice_get-get_or}
+use Rattle.deck_listing.{specs.Joins.BlockWords.IsFilledWith, proofs.BlockSteps.zip-more}
 use Rattle.deck_listing.proofs.blocks.filled_blocks.Goals as goal
 
 pub fill-requires : goal.fill-requires

@@ -1,5 +1,4 @@
-use Rattle.std.proofs.Common.{take}
-use Rattle.std.specs.List.{AllZip}
+use Rattle.std.{proofs.Common.take, specs.List.AllZip}
 use Rattle.deck_listing.specs.Joins.BlockWords.{IsFilledWith}
 use Rattle.deck_listing.proofs.blocks.filled_blocks.Given as goal
 

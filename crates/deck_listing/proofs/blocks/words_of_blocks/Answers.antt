@@ -1,10 +1,6 @@
-use Rattle.std.proofs.Common.{sym, subst}
-use Rattle.std.proofs.lemmas.Result.{IfOk-weaker}
-use Rattle.std.proofs.lemmas.Slice.Zip.{AllZip-long}
-use Rattle.definitions.specs.Objects.{object_of}
-use Rattle.definitions.proofs.BlockLaws.{object-blocks}
-use Rattle.deck_listing.specs.Joins.BlockWords.{AreWordsOf}
-use Rattle.deck_listing.specs.Joins.Walking.{DoNamesDiffer}
+use Rattle.std.proofs.{Common.{sym, subst}, lemmas.Result.IfOk-weaker, lemmas.Slice.Zip.AllZip-long}
+use Rattle.definitions.{specs.Objects.object_of, proofs.BlockLaws.object-blocks}
+use Rattle.deck_listing.specs.Joins.{BlockWords.AreWordsOf, Walking.DoNamesDiffer}
 use Rattle.deck_listing.proofs.blocks.words_of_blocks.Goals as goal
 
 pub words_of_parts-requires-clause-names : goal.words_of_parts-requires-clause-names

@@ -1,8 +1,6 @@
-use Rattle.std.proofs.Common.{◌+◌, List, drop, arith, ap, ◌∙◌}
-use Rattle.std.specs.Prelude.{is_none}
+use Rattle.std.{proofs.Common.{◌+◌, List, drop, arith, ap, ◌∙◌}, specs.Prelude.is_none}
 use Rattle.definitions.specs.Cards.{Card}
-use Rattle.deck_listing.specs.Joins.LinesBehind.{begun_by, begun_in}
-use Rattle.deck_listing.proofs.BehindLaws.{begun-next}
+use Rattle.deck_listing.{specs.Joins.LinesBehind.{begun_by, begun_in}, proofs.BehindLaws.begun-next}
 use Rattle.deck_listing.proofs.decks_behind.begun_in.Goals as goal
 
 pub loop-shown-preserved : goal.loop-shown-preserved

@@ -1,6 +1,5 @@
 use Rattle.std.proofs.Common.{◌∙◌, ap₂}
-use Rattle.deck_listing.specs.Joins.LinesBehind.{begun_in}
-use Rattle.deck_listing.proofs.BehindLaws.{begun-all}
+use Rattle.deck_listing.{specs.Joins.LinesBehind.begun_in, proofs.BehindLaws.begun-all}
 use Rattle.deck_listing.proofs.decks_behind.decks_behind.Goals as goal
 
 pub returns : goal.returns

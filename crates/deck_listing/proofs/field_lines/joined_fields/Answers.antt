@@ -1,8 +1,6 @@
-use Rattle.std.proofs.Common.{◌≡◌, ◌+◌, ◌∷◌, ◌∙◌, ap, sym, map, drop}
-use Rattle.std.proofs.lemmas.List.{drop_more}
+use Rattle.std.proofs.{Common.{◌≡◌, ◌+◌, ◌∷◌, ◌∙◌, ap, sym, map, drop}, lemmas.List.drop_more}
 use Rattle.statement_coder.specs.Joins.Items.{item_as}
-use Rattle.deck_listing.specs.Joins.WordLines.{AreJoined}
-use Rattle.deck_listing.proofs.WordLaws.{joined-more}
+use Rattle.deck_listing.{specs.Joins.WordLines.AreJoined, proofs.WordLaws.joined-more}
 use Rattle.deck_listing.proofs.field_lines.joined_fields.Goals as goal
 
 pub loop-item-preserved : goal.loop-item-preserved

@@ -1,8 +1,7 @@
 use Rattle.std.proofs.Common.{◌≡◌, ◌<◌, ◌≤◌, ◌∷◌, ◌∙◌, ap, map, ◌++◌}
 use Rattle.definitions.specs.Kinds.{word_bits}
 use Rattle.statement_coder.specs.Joins.Items.{item_as}
-use Rattle.deck_listing.specs.Joins.WordLines.{DoFillWords}
-use Rattle.deck_listing.proofs.WordLaws.{filled-full, filled-field, text-full, lines_ahead-more}
+use Rattle.deck_listing.{specs.Joins.WordLines.DoFillWords, proofs.WordLaws.{filled-full, filled-field, text-full, lines_ahead-more}}
 use Rattle.deck_listing.proofs.field_lines.push_word_lines.Goals as goal
 
 pub fields-preserved-then-next-word_bits : goal.fields-preserved-then-next-word_bits

@@ -1,7 +1,5 @@
 use Rattle.std.proofs.Common.{◌≡◌, ◌+◌, ◌*◌, ◌/◌, ◌++◌, length, map}
-use Rattle.definitions.specs.Kinds.{word_bits}
-use Rattle.definitions.specs.Listing.{unlinked}
-use Rattle.definitions.specs.Words.{cut, joined, width_of}
+use Rattle.definitions.specs.{Kinds.word_bits, Listing.unlinked, Words.{cut, joined, width_of}}
 use Rattle.statement_coder.specs.Joins.Items.{item_as}
 use Rattle.deck_listing.specs.Joins.WordLines.{DoFillWords, lines_ahead, word_lines}
 use Rattle.deck_listing.proofs.field_lines.push_word_lines.Given as goal

@@ -1,6 +1,5 @@
 use Rattle.std.proofs.Common.{◌≡◌, ◌+◌, map, take}
-use Rattle.definitions.specs.Kinds.{unit_bits}
-use Rattle.definitions.specs.Words.{width_of}
+use Rattle.definitions.specs.{Kinds.unit_bits, Words.width_of}
 use Rattle.statement_coder.specs.Joins.Items.{item_as}
 use Rattle.deck_listing.specs.Joins.Putting.{ArePut}
 use Rattle.deck_listing.proofs.fields.put_fields.Given as goal

@@ -1,10 +1,7 @@
-use Rattle.std.proofs.Common.{ap}
-use Rattle.std.proofs.lemmas.Result.{on_ok_weaker}
+use Rattle.std.proofs.{Common.ap, lemmas.Result.on_ok_weaker}
 use Rattle.definitions.specs.Kinds.{unit_bits}
 use Rattle.statement_coder.specs.Joins.Items.{item_as}
-use Rattle.deck_listing.specs.Joins.Packing.{Packed}
-use Rattle.deck_listing.proofs.PutLaws.{unit_some}
-use Rattle.deck_listing.proofs.PutSteps.{put_one}
+use Rattle.deck_listing.{specs.Joins.Packing.Packed, proofs.PutLaws.unit_some, proofs.PutSteps.put_one}
 use Rattle.deck_listing.proofs.fields.put_item.Goals as goal
 
 pub returns-clause-put : goal.returns-clause-put

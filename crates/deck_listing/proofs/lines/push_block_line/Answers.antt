@@ -1,5 +1,4 @@
-use Rattle.std.proofs.Common.{[], ◌∷◌, ◌∙◌, ap, ◌++◌}
-use Rattle.std.specs.Prelude.{codes}
+use Rattle.std.{proofs.Common.{[], ◌∷◌, ◌∙◌, ap, ◌++◌}, specs.Prelude.codes}
 use Rattle.definitions.specs.Numerals.{octal_of}
 use Rattle.deck_listing.proofs.PushLaws.{seven}
 use Rattle.deck_listing.proofs.lines.push_block_line.Goals as goal

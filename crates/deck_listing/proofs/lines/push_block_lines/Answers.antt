@@ -1,5 +1,4 @@
-use Rattle.std.proofs.Common.{◌+◌, ◌≡◌, ◌∷◌, ◌++◌, ◌∙◌, ap, sym, drop, append_assoc, flat_map}
-use Rattle.std.proofs.lemmas.List.{drop_more}
+use Rattle.std.proofs.{Common.{◌+◌, ◌≡◌, ◌∷◌, ◌++◌, ◌∙◌, ap, sym, drop, append_assoc, flat_map}, lemmas.List.drop_more}
 use Rattle.definitions.specs.Listing.{block_line}
 use Rattle.deck_listing.proofs.lines.push_block_lines.Goals as goal
 

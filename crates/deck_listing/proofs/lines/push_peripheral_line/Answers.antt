@@ -1,5 +1,4 @@
-use Rattle.std.proofs.Common.{[], ◌∷◌}
-use Rattle.std.specs.Prelude.{codes}
+use Rattle.std.{proofs.Common.{[], ◌∷◌}, specs.Prelude.codes}
 use Rattle.definitions.specs.Numerals.{octal_of}
 use Rattle.deck_listing.proofs.PushLaws.{five}
 use Rattle.deck_listing.proofs.lines.push_peripheral_line.Goals as goal

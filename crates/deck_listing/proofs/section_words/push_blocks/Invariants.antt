@@ -1,11 +1,7 @@
-use Rattle.std.proofs.Common.{◌≡◌, ◌++◌, List, take}
-use Rattle.std.specs.List.{AllZip}
-use Rattle.definitions.specs.Cards.{Card}
-use Rattle.definitions.specs.Objects.{Object}
-use Rattle.definitions.specs.Words.{Linking}
+use Rattle.std.{proofs.Common.{◌≡◌, ◌++◌, List, take}, specs.List.AllZip}
+use Rattle.definitions.specs.{Cards.Card, Objects.Object, Words.Linking}
 use Rattle.deck_objects.specs.Joins.PartsOf.{ArePartsOf}
-use Rattle.deck_listing.specs.Joins.BlockWords.{AreWordsOf}
-use Rattle.deck_listing.specs.Joins.ImageWordLines.{lines_of, rows_words}
+use Rattle.deck_listing.specs.Joins.{BlockWords.AreWordsOf, ImageWordLines.{lines_of, rows_words}}
 use Rattle.deck_listing.proofs.section_words.push_blocks.Given as goal
 
 abbrev pub invariant-loop-index : goal.invariant-loop-index

@@ -1,9 +1,6 @@
-use Rattle.std.proofs.Common.{◌++◌, ◌∙◌, List, ap, length, subst, sym}
-use Rattle.std.specs.List.{AllZip}
+use Rattle.std.{proofs.Common.{◌++◌, ◌∙◌, List, ap, length, subst, sym}, specs.List.AllZip}
 use Rattle.definitions.specs.Lengths.{BlockRow}
-use Rattle.deck_listing.specs.Joins.BlockWords.{AreWordsOf}
-use Rattle.deck_listing.specs.Joins.ImageWordLines.{lines_of, rows_words}
-use Rattle.deck_listing.proofs.ImageLineSteps.{all_rows}
+use Rattle.deck_listing.{specs.Joins.BlockWords.AreWordsOf, specs.Joins.ImageWordLines.{lines_of, rows_words}, proofs.ImageLineSteps.all_rows}
 use Rattle.deck_listing.proofs.section_words.push_object_words.Goals as goal
 
 pub push_blocks-requires : goal.push_blocks-requires

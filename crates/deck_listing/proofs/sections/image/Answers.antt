@@ -1,11 +1,6 @@
-use Rattle.std.proofs.Common.{◌≡◌, ◌∙◌, List, ℕ, ap, sym, subst, refl}
-use Rattle.std.proofs.lemmas.Result.{IfOk-weaker}
-use Rattle.definitions.specs.Image.{image_alone}
-use Rattle.definitions.specs.Objects.{object_of}
-use Rattle.deck_listing.specs.Joins.BlockWords.{AreBlockWords}
-use Rattle.deck_listing.proofs.AloneSteps.{alone-linked, nothing, placed}
-use Rattle.deck_listing.specs.Joins.Sheets.{room_of, text_of}
-use Rattle.deck_listing.proofs.SheetSteps.{grown}
+use Rattle.std.proofs.{Common.{◌≡◌, ◌∙◌, List, ℕ, ap, sym, subst, refl}, lemmas.Result.IfOk-weaker}
+use Rattle.definitions.specs.{Image.image_alone, Objects.object_of}
+use Rattle.deck_listing.{specs.Joins.BlockWords.AreBlockWords, proofs.AloneSteps.{alone-linked, nothing, placed}, specs.Joins.Sheets.{room_of, text_of}, proofs.SheetSteps.grown}
 use Rattle.deck_listing.proofs.sections.image.Goals as goal
 
 pub into_text-requires : goal.into_text-requires

@@ -1,6 +1,5 @@
 use Rattle.std.proofs.Common.{◌∙◌, ap, length, sym}
-use Rattle.definitions.specs.LinkValues.{linking_of}
-use Rattle.definitions.specs.Objects.{object_of}
+use Rattle.definitions.specs.{LinkValues.linking_of, Objects.object_of}
 use Rattle.deck_listing.proofs.SectionSteps.{section_put}
 use Rattle.deck_listing.proofs.sections.push_section.Goals as goal
 

@@ -1,7 +1,6 @@
 use Rattle.std.proofs.Common.{◌∙◌, ap}
 use Rattle.definitions.specs.Objects.{object_of}
-use Rattle.deck_listing.specs.Joins.ListedParts.{flagged_lines}
-use Rattle.deck_listing.proofs.ListingLaws.{errors-same}
+use Rattle.deck_listing.{specs.Joins.ListedParts.flagged_lines, proofs.ListingLaws.errors-same}
 use Rattle.deck_listing.proofs.whole.errors.Goals as goal
 
 pub returns : goal.returns

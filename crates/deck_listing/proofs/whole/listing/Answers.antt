@@ -1,9 +1,6 @@
-use Rattle.std.proofs.Common.{◌≡◌, ℕ, List, ◌∙◌, ap}
-use Rattle.std.proofs.lemmas.Result.{IfOk-weaker}
-use Rattle.definitions.specs.Listing.{deck_listing}
-use Rattle.definitions.specs.Objects.{object_of}
-use Rattle.deck_listing.specs.Joins.Sheets.{room_of, text_of}
-use Rattle.deck_listing.proofs.SheetSteps.{grown}
+use Rattle.std.proofs.{Common.{◌≡◌, ℕ, List, ◌∙◌, ap}, lemmas.Result.IfOk-weaker}
+use Rattle.definitions.specs.{Listing.deck_listing, Objects.object_of}
+use Rattle.deck_listing.{specs.Joins.Sheets.{room_of, text_of}, proofs.SheetSteps.grown}
 use Rattle.deck_listing.proofs.whole.listing.Goals as goal
 
 pub into_text-requires : goal.into_text-requires

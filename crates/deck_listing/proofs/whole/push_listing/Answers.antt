@@ -1,8 +1,6 @@
 use Rattle.std.proofs.Common.{◌∙◌, ◌++◌, ap, ap₂}
 use Rattle.definitions.specs.Objects.{object_of}
-use Rattle.deck_listing.specs.Joins.ListedParts.{parts_text}
-use Rattle.deck_listing.proofs.ListableLaws.{parts-listable}
-use Rattle.deck_listing.proofs.ListingLaws.{listing-same}
+use Rattle.deck_listing.{specs.Joins.ListedParts.parts_text, proofs.ListableLaws.parts-listable, proofs.ListingLaws.listing-same}
 use Rattle.deck_listing.proofs.whole.push_listing.Goals as goal
 
 pub push_parts-requires-clause-listable : goal.push_parts-requires-clause-listable

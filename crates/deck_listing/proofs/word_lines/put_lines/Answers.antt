@@ -1,11 +1,7 @@
-use Rattle.std.proofs.Common.{◌≡◌, ℕ, ◌+◌, ◌<◌, List, ◌∷◌, drop, get_or, length, Vec, ap, sym, subst, ◌∙◌, arith}
-use Rattle.std.proofs.lemmas.List.{drop_more}
-use Rattle.deck_listing.specs.Joins.Packing.{Packed}
+use Rattle.std.proofs.{Common.{◌≡◌, ℕ, ◌+◌, ◌<◌, List, ◌∷◌, drop, get_or, length, Vec, ap, sym, subst, ◌∙◌, arith}, lemmas.List.drop_more}
+use Rattle.deck_listing.{specs.Joins.Packing.Packed, specs.Joins.Walking.AreWalked, proofs.WalkSteps.{walked-first, walked-next, walked-on, walked-past}, proofs.word_lines.put_lines.Goals.{in-Some+in_ok-put_coded, in_default}}
 use Rattle.deck_objects.specs.declared.lines.Line.{Line}
-use Rattle.deck_listing.specs.Joins.Walking.{AreWalked}
-use Rattle.deck_listing.proofs.WalkSteps.{walked-first, walked-next, walked-on, walked-past}
 use Rattle.deck_listing.proofs.word_lines.put_lines.Goals as goal
-use Rattle.deck_listing.proofs.word_lines.put_lines.Goals.{in-Some+in_ok-put_coded, in_default}
 
 -- the next line and the rest
 at_line : (lines : List Line) (i : ℕ) (line : Line) → i < length lines → line ≡ get_or lines i line → drop i lines ≡ line ∷ drop (i + 1) lines

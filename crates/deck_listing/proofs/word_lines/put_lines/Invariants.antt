@@ -1,6 +1,5 @@
 use Rattle.std.proofs.Common.{List, drop}
-use Rattle.definitions.specs.Cards.{Card}
-use Rattle.definitions.specs.Objects.{Object}
+use Rattle.definitions.specs.{Cards.Card, Objects.Object}
 use Rattle.deck_objects.specs.Joins.PartsOf.{ArePartsOf}
 use Rattle.deck_listing.specs.Joins.Walking.{AreWalked}
 use Rattle.deck_listing.proofs.word_lines.put_lines.Given as goal

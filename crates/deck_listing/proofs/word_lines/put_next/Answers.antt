@@ -1,14 +1,9 @@
-use Rattle.std.proofs.Common.{◌*◌, List, ◌∙◌, subst, sym}
-use Rattle.std.proofs.lemmas.Result.{on_ok_weaker}
-use Rattle.definitions.specs.Kinds.{unit_bits}
-use Rattle.definitions.specs.Operations.{is_instruction}
-use Rattle.definitions.proofs.TextLaws.{same_text-refl}
+use Rattle.std.proofs.{Common.{◌*◌, List, ◌∙◌, subst, sym}, lemmas.Result.on_ok_weaker}
+use Rattle.definitions.{specs.Kinds.unit_bits, specs.Operations.is_instruction, proofs.TextLaws.same_text-refl}
 use Rattle.statement_coder.specs.declared.items.Item as code
 use Rattle.operations.specs.Joins.OperationsAs.{operation_as}
 use Rattle.deck_objects.specs.Joins.LineItems.{kept_items}
-use Rattle.deck_listing.specs.Joins.Putting.{ArePut, IsReady}
-use Rattle.deck_listing.proofs.LineSteps.{follows-ready}
-use Rattle.deck_listing.proofs.RunSteps.{begun-runs, joined-runs, on_ok_by}
+use Rattle.deck_listing.{specs.Joins.Putting.{ArePut, IsReady}, proofs.LineSteps.follows-ready, proofs.RunSteps.{begun-runs, joined-runs, on_ok_by}}
 use Rattle.deck_listing.proofs.word_lines.put_next.Goals as goal
 
 pub put_line-requires : goal.put_line-requires

@@ -1,8 +1,6 @@
 -- What beginning counts, and what the edits count.
 use Rattle.std.proofs.Common.{◌≡◌, inr, None, Result, Ok, Err, OnOk, ap, arith, rules}
-use Rattle.deck_workers.specs.Joins.Language.{edits_fault, statements_sum}
-use Rattle.deck_workers.specs.Jobs.{start_cards, start_deck}
-use Rattle.deck_workers.proofs.Counts.{counts-edits}
+use Rattle.deck_workers.{specs.Joins.Language.{edits_fault, statements_sum}, specs.Jobs.{start_cards, start_deck}, proofs.Counts.counts-edits}
 use Rattle.deck_workers.proofs.assembling.assembled.Goals as goal
 
 -- what holds in any case

@@ -1,8 +1,7 @@
 use Rattle.std.proofs.Common.{◌∙◌, ℕ, Some, option_map, sym, ap}
 use Rattle.cards.specs.declared.edits.EditFault.{EditFault}
 use Rattle.edit_core.specs.Faults.{record_fault}
-use Rattle.deck_workers.specs.Joins.Language.{RecordFault}
-use Rattle.deck_workers.specs.Jobs.{start_cards}
+use Rattle.deck_workers.specs.{Joins.Language.RecordFault, Jobs.start_cards}
 use Rattle.deck_workers.proofs.assembling.edits_fault.Goals as goal
 
 -- the fault that was found, as one of a record

@@ -1,11 +1,8 @@
 use Rattle.std.proofs.Common.{[], ◌∷◌, sym, subst}
 use Rattle.turn_office.specs.Histories.{entry}
 use Rattle.desk_core.specs.declared.calls.Call.{Call}
-use Rattle.deck_workers.specs.declared.made.Made.{Made}
+use Rattle.deck_workers.{specs.declared.made.Made.Made, specs.Joins.Linking.{Delivers, in_one_call}, specs.Working.Calls, proofs.Seen.{one-call, delivered-by-desk}}
 use Rattle.deck_workers.specs.declared.made.Made.TheVariants as made
-use Rattle.deck_workers.specs.Joins.Linking.{Delivers, in_one_call}
-use Rattle.deck_workers.specs.Working.{Calls}
-use Rattle.deck_workers.proofs.Seen.{one-call, delivered-by-desk}
 use Rattle.deck_workers.proofs.working.deliver.Goals as goal
 
 -- the desk was to publish, where there were many cards

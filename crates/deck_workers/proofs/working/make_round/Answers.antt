@@ -1,9 +1,5 @@
 use Rattle.std.proofs.Common.{refl, sym, ap, subst, Bool, Option, ℕ, ◌∙◌}
-use Rattle.deck_workers.specs.Joins.Rests.{round_with_job, round_without_job, went_well}
-use Rattle.deck_workers.specs.Rounds.{Resting}
-use Rattle.deck_workers.specs.WorkerRounds.{AtOnce}
-use Rattle.deck_workers.specs.Subscribers.{HearsAfter}
-use Rattle.deck_workers.proofs.Seen.{one-call, worked-round}
+use Rattle.deck_workers.{specs.Joins.Rests.{round_with_job, round_without_job, went_well}, specs.Rounds.Resting, specs.WorkerRounds.AtOnce, specs.Subscribers.HearsAfter, proofs.Seen.{one-call, worked-round}}
 use Rattle.deck_workers.proofs.working.make_round.Goals as goal
 
 -- the claim gave no job

@@ -1,7 +1,5 @@
-use Rattle.std.proofs.Common.{ℕ, ◌≡◌, ◌<◌, length, refl, subst, ◌∙◌, arith}
-use Rattle.std.proofs.lemmas.Option.{slice_get_read}
-use Rattle.deck_workers.specs.Joins.Linking.{Offers}
-use Rattle.deck_workers.proofs.Seen.{none-offered, more-offered}
+use Rattle.std.proofs.{Common.{ℕ, ◌≡◌, ◌<◌, length, refl, subst, ◌∙◌, arith}, lemmas.Option.slice_get_read}
+use Rattle.deck_workers.{specs.Joins.Linking.Offers, proofs.Seen.{none-offered, more-offered}}
 use Rattle.deck_workers.proofs.working.offer_objects.Goals as goal
 
 pub loop-place-init : goal.loop-place-init

@@ -1,8 +1,7 @@
 use Rattle.std.proofs.Common.{◌≡◌, ◌∙◌, List, Bool, true, false, ap, inl, inr, sym, subst}
 use Rattle.definitions.specs.DeckInput.{Deck}
 use Rattle.desk_core.specs.Desks.{Publication}
-use Rattle.deck_workers.specs.Joins.Linking.{OffersAll}
-use Rattle.deck_workers.proofs.Seen.{has-published, has-given_up}
+use Rattle.deck_workers.{specs.Joins.Linking.OffersAll, proofs.Seen.{has-published, has-given_up}}
 use Rattle.deck_workers.proofs.working.publish_at_desk.Goals as goal
 
 -- all were offered

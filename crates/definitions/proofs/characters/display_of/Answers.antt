@@ -1,8 +1,5 @@
-use Rattle.std.proofs.Common.{◌≡◌, ◌-◌, sym, arith, get_or, true}
-use Rattle.std.specs.Prelude.{is_some}
-use Rattle.definitions.specs.Characters.{display_code_of}
-use Rattle.definitions.specs.declared.characters.TheConstants.{CODES}
-use Rattle.definitions.proofs.CharacterLaws.{display_code_of-place, character_of-display_code_of}
+use Rattle.std.{proofs.Common.{◌≡◌, ◌-◌, sym, arith, get_or, true}, specs.Prelude.is_some}
+use Rattle.definitions.{specs.Characters.display_code_of, specs.declared.characters.TheConstants.CODES, proofs.CharacterLaws.{display_code_of-place, character_of-display_code_of}}
 use Rattle.definitions.proofs.characters.display_of.Goals as goal
 
 pub returns-then-has_display_code-clause-code : goal.returns-then-has_display_code-clause-code

@@ -1,6 +1,4 @@
-use Rattle.std.proofs.Common.{sym, ap, ◌∙◌, Bool, ◌&&◌}
-use Rattle.std.specs.Prelude.{nat_le}
-use Rattle.std.proofs.lemmas.Bool.{le-leb}
+use Rattle.std.{proofs.Common.{sym, ap, ◌∙◌, Bool, ◌&&◌}, specs.Prelude.nat_le, proofs.lemmas.Bool.le-leb}
 use Rattle.definitions.proofs.CharacterLaws.{is_some-display_code_of}
 use Rattle.definitions.proofs.characters.has_display_code.Goals as goal
 

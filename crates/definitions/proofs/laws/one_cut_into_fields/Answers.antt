@@ -1,7 +1,5 @@
 use Rattle.std.proofs.Common.{sym, subst}
-use Rattle.definitions.specs.Fields.{Fields}
-use Rattle.definitions.specs.Laws.Cuts.{IsCut}
-use Rattle.definitions.proofs.FieldLaws.{cut_only, cut_lawful}
+use Rattle.definitions.{specs.Fields.Fields, specs.Laws.Cuts.IsCut, proofs.FieldLaws.{cut_only, cut_lawful}}
 use Rattle.definitions.proofs.laws.one_cut_into_fields.Goals as goal
 
 -- src/laws.rt:34:1

@@ -1,5 +1,4 @@
-use Rattle.definitions.proofs.WordLaws.{stored_words-below}
-use Rattle.definitions.proofs.LiteralLaws.{literal_words-below}
+use Rattle.definitions.proofs.{WordLaws.stored_words-below, LiteralLaws.literal_words-below}
 use Rattle.definitions.proofs.laws.words_fit.Goals as goal
 
 pub returns-clause-blocks : goal.returns-clause-blocks

@@ -1,6 +1,5 @@
 use Rattle.std.proofs.Common.{refl, ◌∷◌}
-use Rattle.definitions.specs.Settling.{settle, settled_all}
-use Rattle.definitions.proofs.StateSteps.{lengths_of-step, settled_all-in_use}
+use Rattle.definitions.{specs.Settling.{settle, settled_all}, proofs.StateSteps.{lengths_of-step, settled_all-in_use}}
 use Rattle.definitions.proofs.state_laws.lengths_follow.Goals as goal
 
 pub returns-clause-step : goal.returns-clause-step

@@ -1,7 +1,5 @@
 use Rattle.std.proofs.Common.{ap}
-use Rattle.definitions.specs.Settling.{settled_from, settled_all}
-use Rattle.definitions.proofs.StateSteps.{seen_of-state}
-use Rattle.definitions.proofs.ViewLaws.{settled_from-agree}
+use Rattle.definitions.{specs.Settling.{settled_from, settled_all}, proofs.StateSteps.seen_of-state, proofs.ViewLaws.settled_from-agree}
 use Rattle.definitions.proofs.state_laws.states_are_enough.Goals as goal
 
 pub returns-clause-sees : goal.returns-clause-sees

@@ -1,6 +1,5 @@
 use Rattle.std.proofs.Common.{◌∷◌}
-use Rattle.definitions.specs.Settling.{settle, settled_all}
-use Rattle.definitions.proofs.StateSteps.{state_after-step, settled_all-in_use}
+use Rattle.definitions.{specs.Settling.{settle, settled_all}, proofs.StateSteps.{state_after-step, settled_all-in_use}}
 use Rattle.definitions.proofs.state_laws.states_step.Goals as goal
 
 pub returns : goal.returns

@@ -1,8 +1,5 @@
 use Rattle.std.proofs.Common.{ap, sym, ◌∙◌}
-use Rattle.definitions.specs.Settling.{settled_all}
-use Rattle.definitions.specs.Laws.States.{state_after}
-use Rattle.definitions.proofs.StateSteps.{settled_all-in_use}
-use Rattle.definitions.proofs.TailLaws.{tails-agree, settled_all-append}
+use Rattle.definitions.{specs.Settling.settled_all, specs.Laws.States.state_after, proofs.StateSteps.settled_all-in_use, proofs.TailLaws.{tails-agree, settled_all-append}}
 use Rattle.definitions.proofs.state_laws.tails_agree.Goals as goal
 
 pub returns-clause-whole : goal.returns-clause-whole

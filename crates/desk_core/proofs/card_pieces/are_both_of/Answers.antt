@@ -1,11 +1,6 @@
 -- Cards and others are distinguished from pieces, a piece at a time.
-use Rattle.std.proofs.Common.{ℕ, ◌≡◌, ◌+◌, ◌-◌, ◌≤◌, ◌==◌, ◌&&◌, Bool, List, length, take, drop, sym, ap, ap₂, ◌∙◌, arith}
-use Rattle.std.proofs.lemmas.Bool.{and_left}
-use Rattle.std.proofs.lemmas.List.{drop_all, length-drop, length-take-le}
-use Rattle.desk_core.specs.Joins.Language.{Card}
-use Rattle.desk_core.specs.Joins.Pieces.{joined}
-use Rattle.desk_core.specs.Delivering.{same_cards}
-use Rattle.desk_core.proofs.PieceLaws.{same-next, same-short, same-none, both-on, both-end, both-itself}
+use Rattle.std.proofs.{Common.{ℕ, ◌≡◌, ◌+◌, ◌-◌, ◌≤◌, ◌==◌, ◌&&◌, Bool, List, length, take, drop, sym, ap, ap₂, ◌∙◌, arith}, lemmas.Bool.and_left, lemmas.List.{drop_all, length-drop, length-take-le}}
+use Rattle.desk_core.{specs.Joins.Language.Card, specs.Joins.Pieces.joined, specs.Delivering.same_cards, proofs.PieceLaws.{same-next, same-short, same-none, both-on, both-end, both-itself}}
 use Rattle.desk_core.proofs.card_pieces.are_both_of.Goals as goal
 
 pub returns-then-left-len : goal.returns-then-left-len

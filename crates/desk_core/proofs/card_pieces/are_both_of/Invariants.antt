@@ -1,6 +1,5 @@
 use Rattle.std.proofs.Common.{◌≡◌, ◌&&◌, drop, length}
-use Rattle.desk_core.specs.Delivering.{same_cards}
-use Rattle.desk_core.specs.Joins.Pieces.{joined}
+use Rattle.desk_core.specs.{Delivering.same_cards, Joins.Pieces.joined}
 use Rattle.desk_core.proofs.card_pieces.are_both_of.Given as goal
 
 abbrev pub invariant-loop-piece : goal.invariant-loop-piece

@@ -1,6 +1,5 @@
 use Rattle.std.proofs.Common.{◌≡◌, drop, map}
-use Rattle.desk_core.specs.Desks.{deck_of}
-use Rattle.desk_core.specs.Delivering.{same_decks}
+use Rattle.desk_core.specs.{Desks.deck_of, Delivering.same_decks}
 use Rattle.desk_core.proofs.comparing.all_decks_same.Given as goal
 
 abbrev pub invariant-loop-place : goal.invariant-loop-place

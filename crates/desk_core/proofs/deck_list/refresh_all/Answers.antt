@@ -1,7 +1,5 @@
-use Rattle.std.proofs.Common.{◌≡◌, ◌<◌, ◌∙◌, List, ap, arith, get_or, length, map, sym}
-use Rattle.std.proofs.lemmas.List.{get_or-map, length-map}
-use Rattle.desk_core.specs.Desks.{DeskDeck, deck_of}
-use Rattle.desk_core.specs.Joins.Language.{Deck}
+use Rattle.std.proofs.{Common.{◌≡◌, ◌<◌, ◌∙◌, List, ap, arith, get_or, length, map, sym}, lemmas.List.{get_or-map, length-map}}
+use Rattle.desk_core.specs.{Desks.{DeskDeck, deck_of}, Joins.Language.Deck}
 use Rattle.desk_core.proofs.deck_list.refresh_all.Goals as goal
 
 pub refresh-requires : goal.refresh-requires

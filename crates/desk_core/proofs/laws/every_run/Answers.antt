@@ -1,6 +1,4 @@
-use Rattle.desk_core.proofs.EveryRun.{shown_is_build, refused_changes_nothing, is_of_its_changes}
-use Rattle.desk_core.proofs.IdleClaims.{idle_is_published}
-use Rattle.desk_core.proofs.Published.{never_falls}
+use Rattle.desk_core.proofs.{EveryRun.{shown_is_build, refused_changes_nothing, is_of_its_changes}, IdleClaims.idle_is_published, Published.never_falls}
 use Rattle.desk_core.proofs.laws.every_run.Goals as goal
 
 pub returns-clause-shown : goal.returns-clause-shown

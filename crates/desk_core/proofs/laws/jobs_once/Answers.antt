@@ -1,5 +1,4 @@
-use Rattle.desk_core.proofs.JobsOnce.{jobs_are_due}
-use Rattle.desk_core.proofs.EditsOnce.{edits_are_once}
+use Rattle.desk_core.proofs.{JobsOnce.jobs_are_due, EditsOnce.edits_are_once}
 use Rattle.desk_core.proofs.laws.jobs_once.Goals as goal
 
 pub returns-clause-due : goal.returns-clause-due

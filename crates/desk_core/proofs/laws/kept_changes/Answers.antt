@@ -1,5 +1,4 @@
-use Rattle.desk_core.proofs.CardsThen.{cards_then, shown_then, told_then}
-use Rattle.desk_core.proofs.PastAlways.{led_there}
+use Rattle.desk_core.proofs.{CardsThen.{cards_then, shown_then, told_then}, PastAlways.led_there}
 use Rattle.desk_core.proofs.laws.kept_changes.Goals as goal
 
 pub returns-clause-cards : goal.returns-clause-cards

@@ -1,5 +1,4 @@
-use Rattle.desk_core.proofs.UndoTakesBack.{brings_back, latest_back}
-use Rattle.desk_core.proofs.UndoneChanges.{undone}
+use Rattle.desk_core.proofs.{UndoTakesBack.{brings_back, latest_back}, UndoneChanges.undone}
 use Rattle.desk_core.proofs.laws.undo_takes_back.Goals as goal
 
 pub returns-clause-back : goal.returns-clause-back

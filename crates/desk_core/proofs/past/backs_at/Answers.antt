@@ -1,8 +1,5 @@
 use Rattle.std.proofs.Common.{◌≡◌, ◌∙◌, ◌-◌, ℕ, List, take, drop, ap, ap₂, subst}
-use Rattle.desk_core.specs.declared.past.Back.{Back}
-use Rattle.desk_core.specs.Past.{behind}
-use Rattle.desk_core.specs.Joins.Stored.{kept_both, backs_from}
-use Rattle.desk_core.proofs.PastSteps.{backs-between}
+use Rattle.desk_core.{specs.declared.past.Back.Back, specs.Past.behind, specs.Joins.Stored.{kept_both, backs_from}, proofs.PastSteps.backs-between}
 use Rattle.desk_core.proofs.past.backs_at.Goals as goal
 
 pub returns : goal.returns

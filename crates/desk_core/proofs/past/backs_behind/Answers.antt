@@ -1,10 +1,5 @@
-use Rattle.std.proofs.Common.{◌≡◌, ◌∙◌, drop, List, ap, sym, subst}
-use Rattle.std.specs.Prelude.{IfOk}
-use Rattle.desk_core.specs.Joins.Edits.{Edit}
-use Rattle.desk_core.specs.declared.past.Back.{Back}
-use Rattle.desk_core.specs.Past.{KeptEdit, behind, backs_of}
-use Rattle.desk_core.specs.Joins.Stored.{kept_both, backs_from}
-use Rattle.desk_core.proofs.PastSteps.{kept-drop, backs-kept, drop-same}
+use Rattle.std.{proofs.Common.{◌≡◌, ◌∙◌, drop, List, ap, sym, subst}, specs.Prelude.IfOk}
+use Rattle.desk_core.{specs.Joins.Edits.Edit, specs.declared.past.Back.Back, specs.Past.{KeptEdit, behind, backs_of}, specs.Joins.Stored.{kept_both, backs_from}, proofs.PastSteps.{kept-drop, backs-kept, drop-same}}
 use Rattle.desk_core.proofs.past.backs_behind.Goals as goal
 
 pub returns : goal.returns

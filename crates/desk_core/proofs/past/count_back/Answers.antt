@@ -1,7 +1,6 @@
 use Rattle.std.proofs.Common.{◌∙◌, ap, sym}
 use Rattle.cards.specs.Counts.{fault_at, count_after}
-use Rattle.desk_core.specs.declared.past.Back.{Back}
-use Rattle.desk_core.proofs.BackSteps.{has-room, counted}
+use Rattle.desk_core.{specs.declared.past.Back.Back, proofs.BackSteps.{has-room, counted}}
 use Rattle.desk_core.proofs.past.count_back.Goals as goal
 
 pub count_after-count-requires : goal.count_after-count-requires

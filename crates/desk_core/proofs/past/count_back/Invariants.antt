@@ -1,6 +1,5 @@
 use Rattle.std.proofs.Common.{◌≡◌, ◌-◌, drop, length}
-use Rattle.desk_core.specs.Joins.Edits.{edited_by}
-use Rattle.desk_core.specs.Joins.Stored.{backs_from}
+use Rattle.desk_core.specs.Joins.{Edits.edited_by, Stored.backs_from}
 use Rattle.desk_core.proofs.past.count_back.Given as goal
 
 abbrev pub invariant-loop-gone : goal.invariant-loop-gone

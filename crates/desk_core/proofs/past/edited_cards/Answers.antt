@@ -1,7 +1,6 @@
 -- One edit more is made, and what takes it back is kept.
 use Rattle.std.proofs.Common.{List, [], ◌∷◌, ◌++◌, ℕ, ap₂, ◌∙◌}
-use Rattle.desk_core.specs.Joins.Edits.{Edit}
-use Rattle.desk_core.proofs.CopySteps.{one-more}
+use Rattle.desk_core.{specs.Joins.Edits.Edit, proofs.CopySteps.one-more}
 use Rattle.desk_core.proofs.past.edited_cards.Goals as goal
 
 pub loop-edit-preserved : goal.loop-edit-preserved

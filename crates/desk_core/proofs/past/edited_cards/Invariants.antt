@@ -1,6 +1,5 @@
 use Rattle.std.proofs.Common.{◌≡◌, ◌++◌, None, drop}
-use Rattle.desk_core.specs.Joins.Edits.{first_fault, edited_by}
-use Rattle.desk_core.specs.Joins.Stored.{backs_made}
+use Rattle.desk_core.specs.Joins.{Edits.{first_fault, edited_by}, Stored.backs_made}
 use Rattle.desk_core.proofs.past.edited_cards.Given as goal
 
 abbrev pub invariant-loop-edit : goal.invariant-loop-edit

@@ -1,10 +1,6 @@
-use Rattle.std.proofs.Common.{◌≡◌, ◌∙◌, List, ap₂, sym, subst}
-use Rattle.std.specs.Prelude.{IfOk}
+use Rattle.std.{proofs.Common.{◌≡◌, ◌∙◌, List, ap₂, sym, subst}, specs.Prelude.IfOk}
 use Rattle.cards.specs.declared.carrying.MadeEdit.{MadeEdit}
-use Rattle.desk_core.specs.declared.past.Back.{Back}
-use Rattle.desk_core.specs.Past.{KeptEdit, behind}
-use Rattle.desk_core.specs.Joins.Stored.{kept_both}
-use Rattle.desk_core.proofs.PastSteps.{kept-drop}
+use Rattle.desk_core.{specs.declared.past.Back.Back, specs.Past.{KeptEdit, behind}, specs.Joins.Stored.kept_both, proofs.PastSteps.kept-drop}
 use Rattle.desk_core.proofs.past.edits_behind.Goals as goal
 
 pub returns : goal.returns

@@ -1,10 +1,5 @@
 use Rattle.std.proofs.Common.{◌≡◌, ◌∙◌, drop, length, List, None, ap, sym, subst}
-use Rattle.desk_core.specs.Joins.Edits.{Edit, first_fault, edited_by}
-use Rattle.desk_core.specs.declared.past.Back.{Back}
-use Rattle.desk_core.specs.Past.{KeptEdit, behind, backs_of}
-use Rattle.desk_core.specs.Joins.Stored.{kept_both, backs_from}
-use Rattle.desk_core.specs.Carrying.{made_in}
-use Rattle.desk_core.proofs.PastSteps.{kept-drop, backs-kept, drop-same, made-kept}
+use Rattle.desk_core.{specs.Joins.Edits.{Edit, first_fault, edited_by}, specs.declared.past.Back.Back, specs.Past.{KeptEdit, behind, backs_of}, specs.Joins.Stored.{kept_both, backs_from}, specs.Carrying.made_in, proofs.PastSteps.{kept-drop, backs-kept, drop-same, made-kept}}
 use Rattle.desk_core.proofs.past.seen_at.Goals as goal
 
 pub count_back-taken-requires-clause-applies : goal.count_back-taken-requires-clause-applies

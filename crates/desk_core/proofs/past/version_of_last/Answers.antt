@@ -1,8 +1,6 @@
 use Rattle.std.proofs.Common.{◌≡◌, ◌∙◌, ◌-◌, ℕ, suc, take, sym, ap, subst, arith}
 use Rattle.cards.specs.declared.carrying.MadeEdit.{MadeEdit}
-use Rattle.desk_core.specs.Past.{last_version}
-use Rattle.desk_core.specs.Joins.Stored.{kept_both}
-use Rattle.desk_core.proofs.PastSteps.{last-is}
+use Rattle.desk_core.{specs.Past.last_version, specs.Joins.Stored.kept_both, proofs.PastSteps.last-is}
 use Rattle.desk_core.proofs.past.version_of_last.Goals as goal
 
 pub returns : goal.returns

@@ -1,6 +1,5 @@
 use Rattle.std.proofs.Common.{refl}
-use Rattle.desk_service.specs.Connections.{no_connection}
-use Rattle.desk_service.proofs.ConnectionSteps.{served_asked, served_more, served_once}
+use Rattle.desk_service.{specs.Connections.no_connection, proofs.ConnectionSteps.{served_asked, served_more, served_once}}
 use Rattle.desk_service.proofs.connections.serve_connections.Goals as goal
 
 pub loop-init : goal.loop-init

@@ -1,5 +1,4 @@
-use Rattle.std.proofs.Common.{arith, subst, sym, ◌∙◌}
-use Rattle.std.specs.Str.Parse.{ParsesUnsigned}
+use Rattle.std.{proofs.Common.{arith, subst, sym, ◌∙◌}, specs.Str.Parse.ParsesUnsigned}
 use Rattle.desk_service.proofs.VersionTexts.{digits-text, number-not_parsed, number-parsed, number-parsed_great, some-from}
 use Rattle.desk_service.proofs.notes.number_in.Goals as goal
 

@@ -1,7 +1,6 @@
 use Rattle.std.proofs.Common.{◌∙◌, Option, None, ap, refl, sym}
 use Rattle.session_line.specs.Serving.{sides}
-use Rattle.desk_service.specs.Sessions.{standing, no_line, ending_in, read_faults_at, write_faults_at}
-use Rattle.desk_service.proofs.OpeningSteps.{reads-without, writes-without, ending-opening, opens-turned, opens-served}
+use Rattle.desk_service.{specs.Sessions.{standing, no_line, ending_in, read_faults_at, write_faults_at}, proofs.OpeningSteps.{reads-without, writes-without, ending-opening, opens-turned, opens-served}}
 use Rattle.desk_service.proofs.openings.open_line.Goals as goal
 
 pub returns-in-Some-clause-line : goal.returns-in-Some-clause-line

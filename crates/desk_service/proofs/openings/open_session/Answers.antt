@@ -1,7 +1,6 @@
 use Rattle.std.proofs.Common.{◌≡◌, ◌∙◌, ℕ, ◌<◌, None, Some, ap, arith, refl, subst}
 use Rattle.session_line.specs.Serving.{sides}
-use Rattle.desk_service.specs.Sessions.{OpensLines, standing, most_strange, ending_in, read_faults_at, write_faults_at, no_stranger, strange}
-use Rattle.desk_service.proofs.OpeningSteps.{strangers_more, session_ended_early, session_met}
+use Rattle.desk_service.{specs.Sessions.{OpensLines, standing, most_strange, ending_in, read_faults_at, write_faults_at, no_stranger, strange}, proofs.OpeningSteps.{strangers_more, session_ended_early, session_met}}
 use Rattle.desk_service.proofs.openings.open_session.Goals as goal
 
 pub loop-number-init : goal.loop-number-init

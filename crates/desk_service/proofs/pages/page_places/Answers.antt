@@ -1,6 +1,5 @@
 use Rattle.std.proofs.Common.{◌≡◌, ◌+◌, ap, ◌∙◌, arith, length, length-append}
-use Rattle.desk_service.specs.Seating.{page_threads, IsPlaceOf}
-use Rattle.desk_service.proofs.PlaceSteps.{numbers-more-from, all-more}
+use Rattle.desk_service.{specs.Seating.{page_threads, IsPlaceOf}, proofs.PlaceSteps.{numbers-more-from, all-more}}
 use Rattle.desk_service.proofs.pages.page_places.Goals as goal
 
 pub loop-turn-preserved : goal.loop-turn-preserved

@@ -1,5 +1,4 @@
-use Rattle.std.proofs.Common.{◌≡◌, ◌+◌, All, length, map}
-use Rattle.std.specs.List.{range_with_len}
+use Rattle.std.{proofs.Common.{◌≡◌, ◌+◌, All, length, map}, specs.List.range_with_len}
 use Rattle.desk_service.specs.Seating.{IsPlaceOf}
 use Rattle.turn_office.specs.Seats.{AreOf}
 use Rattle.desk_service.proofs.pages.page_places.Given as goal

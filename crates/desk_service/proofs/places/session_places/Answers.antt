@@ -1,7 +1,5 @@
 use Rattle.std.proofs.Common.{◌≡◌, ◌+◌, ap, ◌∙◌, refl, arith, length, length-append}
-use Rattle.desk_service.specs.Connections.{rights_of}
-use Rattle.desk_service.specs.Seating.{IsServedFor}
-use Rattle.desk_service.proofs.PlaceSteps.{numbers-more, all-more}
+use Rattle.desk_service.{specs.Connections.rights_of, specs.Seating.IsServedFor, proofs.PlaceSteps.{numbers-more, all-more}}
 use Rattle.desk_service.proofs.places.session_places.Goals as goal
 
 pub loop-number-preserved : goal.loop-number-preserved

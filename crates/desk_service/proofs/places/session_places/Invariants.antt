@@ -1,6 +1,5 @@
 use Rattle.std.proofs.Common.{◌≡◌, ◌+◌, All, length, map}
-use Rattle.desk_service.specs.Connections.{rights_of}
-use Rattle.desk_service.specs.Seating.{AreForSessions, IsServedFor}
+use Rattle.desk_service.specs.{Connections.rights_of, Seating.{AreForSessions, IsServedFor}}
 use Rattle.turn_office.specs.Seats.{AreOf}
 use Rattle.desk_service.proofs.places.session_places.Given as goal
 

@@ -1,5 +1,4 @@
-use Rattle.std.proofs.Common.{◌≡◌, ◌+◌, ◌≤◌, ap, ◌∙◌, length, arith}
-use Rattle.std.proofs.lemmas.List.FromFn.{length-map-range_with_len}
+use Rattle.std.proofs.{Common.{◌≡◌, ◌+◌, ◌≤◌, ap, ◌∙◌, length, arith}, lemmas.List.FromFn.length-map-range_with_len}
 use Rattle.desk_service.proofs.running.serve_opened.Goals as goal
 
 pub seat_all-requires-clause-enough : goal.seat_all-requires-clause-enough

@@ -1,8 +1,7 @@
 use Rattle.std.proofs.Common.{◌∙◌, ap, refl}
 use Rattle.session_line.specs.Serving.{sides}
 use Rattle.text_ports.specs.Faults.{count_after_flush}
-use Rattle.desk_service.specs.Sessions.{standing}
-use Rattle.desk_service.proofs.SessionSteps.{read_faults-ending, write_faults-ending}
+use Rattle.desk_service.{specs.Sessions.standing, proofs.SessionSteps.{read_faults-ending, write_faults-ending}}
 use Rattle.desk_service.proofs.sessions.serve_line.Goals as goal
 
 pub returns-clause-line : goal.returns-clause-line

@@ -1,7 +1,6 @@
 use Rattle.std.proofs.Common.{◌≡◌, ◌∙◌, ℕ, ◌<◌, Some, ap, arith, refl, subst}
 use Rattle.session_line.specs.Serving.{sides}
-use Rattle.desk_service.specs.Sessions.{ServesLines, standing, most_commands, read_faults_at, write_faults_at, no_line, full}
-use Rattle.desk_service.proofs.SessionSteps.{lines_more, session_ended}
+use Rattle.desk_service.{specs.Sessions.{ServesLines, standing, most_commands, read_faults_at, write_faults_at, no_line, full}, proofs.SessionSteps.{lines_more, session_ended}}
 use Rattle.desk_service.proofs.sessions.serve_lines.Goals as goal
 
 pub loop-init : goal.loop-init

@@ -1,8 +1,6 @@
 use Rattle.std.proofs.Common.{arith, ◌≡◌, ℕ, ◌+◌, ◌-◌, ◌^◌, min, ◌≤◌, List, ◌++◌, ◌∷◌, [], ap, ◌∙◌, sym, subst, append_assoc}
-use Rattle.turn_office.specs.declared.history.Entry.{Entry}
+use Rattle.turn_office.{specs.declared.history.Entry.Entry, specs.Histories.{entry, Leads}, proofs.Reading.true_later}
 use Rattle.desk_tests.specs.declared.offices.Sum.{Sum}
-use Rattle.turn_office.specs.Histories.{entry, Leads}
-use Rattle.turn_office.proofs.Reading.{true_later}
 use Rattle.desk_tests.proofs.offices.add_and_read.Goals as goal
 
 -- what a step of the sum may do

@@ -1,9 +1,5 @@
 use Rattle.std.proofs.Common.{◌≡◌, arith}
-use Rattle.desk_tests.specs.Settling.{SettlesOn}
-use Rattle.desk_tests.specs.declared.settling.Settled.TheVariants.{Turns}
-use Rattle.desk_tests.proofs.Turns.{not-yet, once-more, settles-used, settles-ended}
-use Rattle.desk_tests.proofs.Unchanged.{settles-keep}
-use Rattle.desk_tests.proofs.IdleDesk.{settles-settled}
+use Rattle.desk_tests.{specs.Settling.SettlesOn, specs.declared.settling.Settled.TheVariants.Turns, proofs.Turns.{not-yet, once-more, settles-used, settles-ended}, proofs.Unchanged.settles-keep, proofs.IdleDesk.settles-settled}
 use Rattle.desk_tests.proofs.settling.settle.Goals as goal
 
 pub loop-turn-init : goal.loop-turn-init

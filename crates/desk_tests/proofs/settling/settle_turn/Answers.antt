@@ -1,8 +1,6 @@
 use Rattle.std.proofs.Common.{Option, refl, sym, ◌∙◌, subst, arith}
-use Rattle.deck_workers.specs.declared.jobs.Job.{Job}
-use Rattle.deck_workers.specs.Jobs.{if_made, CountsWithin}
+use Rattle.deck_workers.specs.{declared.jobs.Job.Job, Jobs.{if_made, CountsWithin}, Rounds.{Resting, Working}}
 use Rattle.desk_tests.specs.Settling.{bound_if_given, least_if_given}
-use Rattle.deck_workers.specs.Rounds.{Resting, Working}
 use Rattle.desk_tests.proofs.settling.settle_turn.Goals as goal
 
 -- the claim gave no job

@@ -1,12 +1,7 @@
 use Rattle.std.proofs.Common.{◌≤◌, ◌+◌, List, sym, subst}
-use Rattle.definitions.specs.Cards.{Card}
-use Rattle.definitions.specs.DeckInput.{Deck}
-use Rattle.definitions.specs.DeckKinds.{kind_of_statements}
-use Rattle.definitions.specs.Objects.{object_of}
+use Rattle.definitions.specs.{Cards.Card, DeckInput.Deck, DeckKinds.kind_of_statements, Objects.object_of}
 use Rattle.deck_objects.specs.Joins.PartsOf.{ArePartsOf}
-use Rattle.deck_assembler.specs.Joins.DueCodes.{IsPlanOf, RisesReboundOf, code_due_of}
-use Rattle.deck_assembler.specs.Joins.Formers.{known_in}
-use Rattle.deck_assembler.proofs.ResultLaws.{on_ok_any}
+use Rattle.deck_assembler.{specs.Joins.DueCodes.{IsPlanOf, RisesReboundOf, code_due_of}, specs.Joins.Formers.known_in, proofs.ResultLaws.on_ok_any}
 use Rattle.edit_core.proofs.edited_object.edited_object.Goals as goal
 
 pub new-requires : goal.new-requires

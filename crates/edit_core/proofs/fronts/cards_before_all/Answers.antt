@@ -1,9 +1,6 @@
-use Rattle.std.proofs.Common.{◌≤◌, List, All, arith, subst, sym}
-use Rattle.std.proofs.lemmas.List.{take_all}
-use Rattle.std.proofs.lemmas.List.Elements.{All-get_or}
+use Rattle.std.proofs.{Common.{◌≤◌, List, All, arith, subst, sym}, lemmas.List.take_all, lemmas.List.Elements.All-get_or}
 use Rattle.cards.specs.declared.edits.Edit.{Edit}
-use Rattle.edit_core.specs.Edited.{front_of}
-use Rattle.edit_core.proofs.EditLaws.{front-more}
+use Rattle.edit_core.{specs.Edited.front_of, proofs.EditLaws.front-more}
 use Rattle.edit_core.proofs.fronts.cards_before_all.Goals as goal
 
 pub loop-edit-preserved : goal.loop-edit-preserved

@@ -1,11 +1,8 @@
 -- The last cards are the same behind each edit.
-use Rattle.std.proofs.Common.{List, refl, sym, ap, subst, ◌∙◌, arith}
-use Rattle.std.proofs.lemmas.List.{drop_all}
-use Rattle.cards.specs.declared.edits.Edit.{Edit}
-use Rattle.cards.specs.Edits.{edited_by}
+use Rattle.std.proofs.{Common.{List, refl, sym, ap, subst, ◌∙◌, arith}, lemmas.List.drop_all}
+use Rattle.cards.specs.{declared.edits.Edit.Edit, Edits.edited_by}
 use Rattle.deck_assembler.specs.Joins.Agreements.{HaveSameEnd}
-use Rattle.edit_core.specs.Edited.{StandBehind}
-use Rattle.edit_core.proofs.EndLaws.{left-more}
+use Rattle.edit_core.{specs.Edited.StandBehind, proofs.EndLaws.left-more}
 use Rattle.edit_core.proofs.fronts.cards_behind_all.Goals as goal
 
 pub loop-edit-init : goal.loop-edit-init

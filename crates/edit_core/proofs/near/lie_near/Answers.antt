@@ -1,5 +1,4 @@
-use Rattle.std.proofs.Common.{arith}
-use Rattle.std.proofs.lemmas.Bool.{leb-true}
+use Rattle.std.proofs.{Common.arith, lemmas.Bool.leb-true}
 use Rattle.edit_core.proofs.NearLaws.{touched-all}
 use Rattle.edit_core.proofs.near.lie_near.Goals as goal
 

@@ -1,7 +1,4 @@
-use Rattle.std.proofs.Common.{◌∙◌, rules}
-use Rattle.std.specs.Prelude.{int_div, FitsSigned}
-use Rattle.std.specs.Int.{w64, IsNonZero}
-use Rattle.std.proofs.lemmas.Int.{to_z-of_z}
+use Rattle.std.{proofs.Common.{◌∙◌, rules}, specs.Prelude.{int_div, FitsSigned}, specs.Int.{w64, IsNonZero}, proofs.lemmas.Int.to_z-of_z}
 use Rattle.expr_forms.proofs.RangeLaws.{divided, quotient-some}
 use Rattle.expr_forms.proofs.arithmetic.quotient.Goals as goal
 

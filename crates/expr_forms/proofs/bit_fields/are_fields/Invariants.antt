@@ -1,5 +1,4 @@
-use Rattle.std.proofs.Common.{◌≡◌, length}
-use Rattle.std.specs.Prelude.{is_some}
+use Rattle.std.{proofs.Common.{◌≡◌, length}, specs.Prelude.is_some}
 use Rattle.definitions.specs.Operands.{vfd_field, all_fields}
 use Rattle.expr_forms.proofs.bit_fields.are_fields.Given as goal
 

@@ -1,8 +1,6 @@
-use Rattle.std.proofs.Common.{◌≡◌, ◌≤◌, ◌*◌, ◌/◌, ◌∙◌, sym, ap, Some, arith}
-use Rattle.std.proofs.Math.Nat.{mod-eq_of_lt}
+use Rattle.std.proofs.{Common.{◌≡◌, ◌≤◌, ◌*◌, ◌/◌, ◌∙◌, sym, ap, Some, arith}, Math.Nat.mod-eq_of_lt}
 use Rattle.definitions.specs.CountedItems.{bits_needed}
-use Rattle.expr_forms.specs.Joins.CodedItems.{in_places}
-use Rattle.expr_forms.proofs.CodedLaws.{counted_item_in-at_end, counted_item_in-in_front, shifted-small}
+use Rattle.expr_forms.{specs.Joins.CodedItems.in_places, proofs.CodedLaws.{counted_item_in-at_end, counted_item_in-in_front, shifted-small}}
 use Rattle.expr_forms.proofs.coding.counted_item_in.Goals as goal
 
 pub returns-then-is_at_end : goal.returns-then-is_at_end

@@ -1,5 +1,4 @@
-use Rattle.std.proofs.Common.{◌≡◌, length}
-use Rattle.std.specs.Prelude.{is_some}
+use Rattle.std.{proofs.Common.{◌≡◌, length}, specs.Prelude.is_some}
 use Rattle.definitions.specs.Operands.{data_word, all_words}
 use Rattle.expr_forms.proofs.data_words.are_words.Given as goal
 

@@ -1,5 +1,4 @@
-use Rattle.std.proofs.Common.{◌≡◌, ◌==◌, ◌+◌, not, drop}
-use Rattle.std.specs.List.{prefix_len}
+use Rattle.std.{proofs.Common.{◌≡◌, ◌==◌, ◌+◌, not, drop}, specs.List.prefix_len}
 use Rattle.definitions.specs.Characters.{comma}
 use Rattle.expr_forms.proofs.dis_fields.count_len.Given as goal
 

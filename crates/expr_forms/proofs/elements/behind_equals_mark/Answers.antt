@@ -1,9 +1,6 @@
 use Rattle.std.proofs.Common.{◌∙◌, ◌∷◌, ap}
-use Rattle.definitions.specs.Pieces.{Equals, ByMark, IsMark, spot_behind, pieces_at, pieces_of}
-use Rattle.definitions.proofs.GrammarLaws.{pairs_from}
-use Rattle.expr_forms.specs.Joins.PiecesFound.{mark_as}
-use Rattle.expr_forms.specs.declared.pieces.Mark.{Mark}
-use Rattle.expr_forms.proofs.ElementLaws.{literal-plus, literal-minus}
+use Rattle.definitions.{specs.Pieces.{Equals, ByMark, IsMark, spot_behind, pieces_at, pieces_of}, proofs.GrammarLaws.pairs_from}
+use Rattle.expr_forms.{specs.Joins.PiecesFound.mark_as, specs.declared.pieces.Mark.Mark, proofs.ElementLaws.{literal-plus, literal-minus}}
 use Rattle.expr_forms.proofs.elements.behind_equals_mark.Goals as goal
 
 pub returns-in-Plus-clause-elements : goal.returns-in-Plus-clause-elements

@@ -1,8 +1,6 @@
 use Rattle.std.proofs.Common.{◌∙◌, ◌∷◌, ap}
-use Rattle.definitions.specs.Pieces.{ByMark, IsMark, spot_behind, pieces_at}
-use Rattle.definitions.proofs.GrammarLaws.{pairs_from}
-use Rattle.expr_forms.specs.Joins.PiecesFound.{mark_as}
-use Rattle.expr_forms.specs.declared.pieces.Mark.{Mark}
+use Rattle.definitions.{specs.Pieces.{ByMark, IsMark, spot_behind, pieces_at}, proofs.GrammarLaws.pairs_from}
+use Rattle.expr_forms.specs.{Joins.PiecesFound.mark_as, declared.pieces.Mark.Mark}
 use Rattle.expr_forms.proofs.elements.behind_mark.Goals as goal
 
 pub returns-in-Star-clause-elements : goal.returns-in-Star-clause-elements

@@ -1,10 +1,6 @@
-use Rattle.std.proofs.Common.{◌∙◌, ◌&&◌, Bool, List, ap, sym}
-use Rattle.std.specs.Prelude.{option_map}
+use Rattle.std.{proofs.Common.{◌∙◌, ◌&&◌, Bool, List, ap, sym}, specs.Prelude.option_map}
 use Rattle.definitions.specs.Expressions.{OperatorElement}
-use Rattle.expr_forms.specs.Joins.Links.{operator_as, pairs_behind}
-use Rattle.expr_forms.specs.Joins.Elements.{element_as}
-use Rattle.expr_forms.specs.Joins.Parsed.{are_plain}
-use Rattle.expr_forms.proofs.PlainLaws.{plain-link}
+use Rattle.expr_forms.{specs.Joins.Links.{operator_as, pairs_behind}, specs.Joins.Elements.element_as, specs.Joins.Parsed.are_plain, proofs.PlainLaws.plain-link}
 use Rattle.expr_forms.proofs.expressions.are_plain.Goals as goal
 
 pub links-preserved : goal.links-preserved

@@ -1,8 +1,6 @@
-use Rattle.std.proofs.Common.{◌≡◌, List, ◌&&◌, length}
-use Rattle.std.specs.Prelude.{option_map}
+use Rattle.std.{proofs.Common.{◌≡◌, List, ◌&&◌, length}, specs.Prelude.option_map}
 use Rattle.definitions.specs.Expressions.{OperatorElement}
-use Rattle.expr_forms.specs.Joins.Links.{pairs_behind}
-use Rattle.expr_forms.specs.Joins.Parsed.{are_plain}
+use Rattle.expr_forms.specs.Joins.{Links.pairs_behind, Parsed.are_plain}
 use Rattle.expr_forms.proofs.expressions.are_plain.Given as goal
 
 -- what was passed over and what is left are plain where the whole is

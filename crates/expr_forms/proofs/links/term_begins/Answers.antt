@@ -1,6 +1,5 @@
 use Rattle.std.proofs.Common.{◌∙◌, sym}
-use Rattle.expr_forms.specs.Joins.Links.{operator_as}
-use Rattle.expr_forms.proofs.LoneLaws.{text-begins, text-begun}
+use Rattle.expr_forms.{specs.Joins.Links.operator_as, proofs.LoneLaws.{text-begins, text-begun}}
 use Rattle.expr_forms.proofs.links.term_begins.Goals as goal
 
 pub returns-in-None-operator_of : goal.returns-in-None-operator_of

@@ -1,5 +1,4 @@
-use Rattle.std.proofs.Common.{◌≡◌, true, take, nat_lt}
-use Rattle.std.specs.List.{list_all}
+use Rattle.std.{proofs.Common.{◌≡◌, true, take, nat_lt}, specs.List.list_all}
 use Rattle.expr_forms.proofs.numbers.are_octal.Given as goal
 
 -- all digits so far are octal

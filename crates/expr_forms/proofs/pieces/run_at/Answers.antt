@@ -1,6 +1,4 @@
-use Rattle.std.proofs.Common.{◌≡◌, ◌∙◌, ◌+◌, ◌∷◌, List, ℕ, ap, ap₂, sym, take, drop}
-use Rattle.std.specs.List.{prefix_len}
-use Rattle.std.specs.Prelude.{is_none}
+use Rattle.std.{proofs.Common.{◌≡◌, ◌∙◌, ◌+◌, ◌∷◌, List, ℕ, ap, ap₂, sym, take, drop}, specs.List.prefix_len, specs.Prelude.is_none}
 use Rattle.definitions.specs.Pieces.{Inside, Piece, Plain, mark_of, pieces_at}
 use Rattle.expr_forms.proofs.PieceLaws.{pieces-run}
 use Rattle.expr_forms.proofs.pieces.run_at.Goals as goal

@@ -1,6 +1,4 @@
-use Rattle.std.proofs.Common.{◌≡◌, ◌+◌, drop}
-use Rattle.std.specs.Prelude.{is_none}
-use Rattle.std.specs.List.{prefix_len}
+use Rattle.std.{proofs.Common.{◌≡◌, ◌+◌, drop}, specs.Prelude.is_none, specs.List.prefix_len}
 use Rattle.definitions.specs.Pieces.{mark_of}
 use Rattle.expr_forms.proofs.pieces.run_len.Given as goal
 

@@ -1,5 +1,4 @@
-use Rattle.std.proofs.Common.{◌≡◌, length}
-use Rattle.std.specs.List.{list_all}
+use Rattle.std.{proofs.Common.{◌≡◌, length}, specs.List.list_all}
 use Rattle.definitions.specs.Expressions.{is_allowed}
 use Rattle.expr_forms.specs.Joins.ElementLists.{elements_in}
 use Rattle.expr_forms.proofs.plain.are_allowed.Given as goal

@@ -1,9 +1,5 @@
-use Rattle.std.proofs.Common.{◌∙◌, ap, arith, refl, set, take}
-use Rattle.std.specs.Prelude.{ℤ}
-use Rattle.std.proofs.lemmas.Int.{ints}
-use Rattle.expr_forms.specs.Joins.FormsAs.{relocation_as}
-use Rattle.expr_forms.specs.Joins.Running.{bases_as}
-use Rattle.expr_forms.proofs.RunningLaws.{add-found, add-new, small-at, with_times}
+use Rattle.std.{proofs.Common.{◌∙◌, ap, arith, refl, set, take}, specs.Prelude.ℤ, proofs.lemmas.Int.ints}
+use Rattle.expr_forms.{specs.Joins.FormsAs.relocation_as, specs.Joins.Running.bases_as, proofs.RunningLaws.{add-found, add-new, small-at, with_times}}
 use Rattle.expr_forms.proofs.running.add_base.Goals as goal
 
 pub overflow_add-room : goal.overflow_add-room

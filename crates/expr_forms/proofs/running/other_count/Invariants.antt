@@ -1,7 +1,5 @@
-use Rattle.std.proofs.Common.{◌≡◌, ◌+◌, drop}
-use Rattle.std.specs.List.{prefix_len}
-use Rattle.expr_forms.specs.Joins.FormsAs.{relocation_as}
-use Rattle.expr_forms.specs.Joins.Running.{is_other}
+use Rattle.std.{proofs.Common.{◌≡◌, ◌+◌, drop}, specs.List.prefix_len}
+use Rattle.expr_forms.specs.Joins.{FormsAs.relocation_as, Running.is_other}
 use Rattle.expr_forms.proofs.running.other_count.Given as goal
 
 -- the bases so far, and those behind them that are others, are all that are others

@@ -1,13 +1,6 @@
-use Rattle.std.proofs.Common.{◌∙◌, ◌+◌, ap, sym, subst, rules}
-use Rattle.std.specs.Prelude.{ℤ, option_map, FitsSigned, Result, Ok}
-use Rattle.std.specs.Int.{w64}
-use Rattle.std.proofs.lemmas.Int.{to_z-of_z}
-use Rattle.definitions.specs.Forms.{Running}
-use Rattle.definitions.specs.declared.letter.Letter.{Letter}
-use Rattle.expr_forms.specs.Joins.FormsAs.{part_as}
-use Rattle.expr_forms.specs.Joins.Links.{operator_as}
-use Rattle.expr_forms.specs.Joins.Running.{bases_as, running_as, AreSmall}
-use Rattle.expr_forms.proofs.RunningLaws.{add-term, add-fault, AreSmall-part}
+use Rattle.std.{proofs.Common.{◌∙◌, ◌+◌, ap, sym, subst, rules}, specs.Prelude.{ℤ, option_map, FitsSigned, Result, Ok}, specs.Int.w64, proofs.lemmas.Int.to_z-of_z}
+use Rattle.definitions.specs.{Forms.Running, declared.letter.Letter.Letter}
+use Rattle.expr_forms.{specs.Joins.FormsAs.part_as, specs.Joins.Links.operator_as, specs.Joins.Running.{bases_as, running_as, AreSmall}, proofs.RunningLaws.{add-term, add-fault, AreSmall-part}}
 use Rattle.expr_forms.proofs.running.plus_form.Goals as goal
 
 pub returns-in-Err-clause-adds : goal.returns-in-Err-clause-adds

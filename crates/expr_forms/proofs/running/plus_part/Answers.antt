@@ -1,11 +1,6 @@
-use Rattle.std.proofs.Common.{◌≡◌, ◌∙◌, ℕ, List, Option, ap, sym, subst}
-use Rattle.std.specs.Prelude.{ℤ, IfSome, option_map}
+use Rattle.std.{proofs.Common.{◌≡◌, ◌∙◌, ℕ, List, Option, ap, sym, subst}, specs.Prelude.{ℤ, IfSome, option_map}}
 use Rattle.definitions.specs.Forms.{Relocation, plus_relocations, running_part}
-use Rattle.expr_forms.specs.declared.forms.Part.{Part}
-use Rattle.expr_forms.specs.Joins.FormsAs.{relocation_as, part_as}
-use Rattle.expr_forms.specs.Joins.Links.{operator_as}
-use Rattle.expr_forms.specs.Joins.Running.{bases_as}
-use Rattle.expr_forms.proofs.RunningLaws.{plus-part}
+use Rattle.expr_forms.{specs.declared.forms.Part.Part, specs.Joins.FormsAs.{relocation_as, part_as}, specs.Joins.Links.operator_as, specs.Joins.Running.bases_as, proofs.RunningLaws.plus-part}
 use Rattle.expr_forms.proofs.running.plus_part.Goals as goal
 
 pub returns-in-Some-clause-added : goal.returns-in-Some-clause-added

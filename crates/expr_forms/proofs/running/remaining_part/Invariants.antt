@@ -1,5 +1,4 @@
-use Rattle.std.proofs.Common.{◌≡◌, ◌++◌, drop}
-use Rattle.std.specs.Prelude.{map}
+use Rattle.std.{proofs.Common.{◌≡◌, ◌++◌, drop}, specs.Prelude.map}
 use Rattle.definitions.specs.Forms.{remaining}
 use Rattle.expr_forms.specs.Joins.Running.{base_as, left_list}
 use Rattle.expr_forms.proofs.running.remaining_part.Given as goal

@@ -1,5 +1,4 @@
-use Rattle.std.proofs.Common.{arith}
-use Rattle.std.specs.Prelude.{option_copied}
+use Rattle.std.{proofs.Common.arith, specs.Prelude.option_copied}
 use Rattle.expr_forms.proofs.DigitLaws.{digits_first, digits_in_front}
 use Rattle.expr_forms.proofs.subfields.digits_at_start.Goals as goal
 

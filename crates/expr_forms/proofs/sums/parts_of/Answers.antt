@@ -1,6 +1,5 @@
 use Rattle.std.proofs.Common.{refl}
-use Rattle.expr_forms.specs.Joins.Elements.{sign_as}
-use Rattle.expr_forms.specs.Joins.Sums.{sum_from}
+use Rattle.expr_forms.specs.Joins.{Elements.sign_as, Sums.sum_from}
 use Rattle.expr_forms.proofs.sums.parts_of.Goals as goal
 
 pub links-init : goal.links-init

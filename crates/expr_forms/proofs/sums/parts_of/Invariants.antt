@@ -1,8 +1,6 @@
 use Rattle.std.proofs.Common.{◌≡◌, length}
-use Rattle.definitions.specs.Expressions.{grouped}
-use Rattle.definitions.specs.Matching.{Sum, sum_of}
-use Rattle.expr_forms.specs.Joins.Elements.{sign_as}
-use Rattle.expr_forms.specs.Joins.Sums.{HasParts, sum_from}
+use Rattle.definitions.specs.{Expressions.grouped, Matching.{Sum, sum_of}}
+use Rattle.expr_forms.specs.Joins.{Elements.sign_as, Sums.{HasParts, sum_from}}
 use Rattle.expr_forms.proofs.sums.parts_of.Given as goal
 
 -- there is a sum of what was found, from which the links that are left make the whole

@@ -1,9 +1,6 @@
 use Rattle.std.proofs.Common.{◌∙◌, ap, sym, refl}
 use Rattle.definitions.proofs.TermLaws.{term_of}
-use Rattle.expr_forms.specs.Joins.Elements.{element_as}
-use Rattle.expr_forms.specs.Joins.Links.{operator_as}
-use Rattle.expr_forms.specs.Joins.Registers.{register_as}
-use Rattle.expr_forms.proofs.SumLaws.{lone-alone}
+use Rattle.expr_forms.{specs.Joins.Elements.element_as, specs.Joins.Links.operator_as, specs.Joins.Registers.register_as, proofs.SumLaws.lone-alone}
 use Rattle.expr_forms.proofs.sums.with_term.Goals as goal
 
 pub returns-in-Register : goal.returns-in-Register

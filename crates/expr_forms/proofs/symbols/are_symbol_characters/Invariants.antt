@@ -1,5 +1,4 @@
-use Rattle.std.proofs.Common.{◌≡◌, true, take}
-use Rattle.std.specs.List.{list_all}
+use Rattle.std.{proofs.Common.{◌≡◌, true, take}, specs.List.list_all}
 use Rattle.definitions.specs.Characters.{is_symbol_character}
 use Rattle.expr_forms.proofs.symbols.are_symbol_characters.Given as goal
 

@@ -1,5 +1,4 @@
-use Rattle.std.proofs.Common.{◌≡◌, ◌==◌, drop}
-use Rattle.std.specs.List.{list_any}
+use Rattle.std.{proofs.Common.{◌≡◌, ◌==◌, drop}, specs.List.list_any}
 use Rattle.definitions.specs.Characters.{slash}
 use Rattle.expr_forms.proofs.use_fields.has_slash.Given as goal
 

@@ -1,9 +1,6 @@
-use Rattle.std.proofs.Common.{◌≡◌, sym, subst}
-use Rattle.std.specs.Prelude.{Result, IfSome}
-use Rattle.definitions.specs.Forms.{Form}
-use Rattle.definitions.specs.declared.letter.Letter.{Letter}
-use Rattle.expr_forms.specs.Joins.Links.{link_as}
-use Rattle.expr_forms.proofs.ValueLaws.{value-start, value-start_fault}
+use Rattle.std.{proofs.Common.{◌≡◌, sym, subst}, specs.Prelude.{Result, IfSome}}
+use Rattle.definitions.specs.{Forms.Form, declared.letter.Letter.Letter}
+use Rattle.expr_forms.{specs.Joins.Links.link_as, proofs.ValueLaws.{value-start, value-start_fault}}
 use Rattle.expr_forms.proofs.values.value_in.Goals as goal
 
 pub returns-in-Err-clause-value : goal.returns-in-Err-clause-value

@@ -1,8 +1,5 @@
 use Rattle.std.proofs.Common.{◌+◌, arith}
-use Rattle.expr_forms.specs.Joins.Links.{operator_as, link_as}
-use Rattle.expr_forms.specs.Joins.Running.{running_as, bases_as}
-use Rattle.expr_forms.proofs.RunningLaws.{AreSmall-le}
-use Rattle.expr_forms.proofs.ValueLaws.{value-factor, value-factor_fault}
+use Rattle.expr_forms.{specs.Joins.Links.{operator_as, link_as}, specs.Joins.Running.{running_as, bases_as}, proofs.RunningLaws.AreSmall-le, proofs.ValueLaws.{value-factor, value-factor_fault}}
 use Rattle.expr_forms.proofs.values.walk_factor.Goals as goal
 
 pub returns-in-Ok-clause-next : goal.returns-in-Ok-clause-next

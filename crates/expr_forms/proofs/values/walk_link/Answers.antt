@@ -1,7 +1,6 @@
 use Rattle.std.proofs.Common.{subst, sym}
 use Rattle.definitions.proofs.TermLaws.{JoinsFactors, JoinsTerms}
-use Rattle.expr_forms.specs.Joins.Links.{operator_as}
-use Rattle.expr_forms.specs.declared.links.Operator.{Operator}
+use Rattle.expr_forms.specs.{Joins.Links.operator_as, declared.links.Operator.Operator}
 use Rattle.expr_forms.proofs.values.walk_link.Goals as goal
 
 pub returns-in-Times-clause-next : goal.returns-in-Times-clause-next

@@ -1,8 +1,6 @@
 use Rattle.std.proofs.Common.{◌+◌, ◌-◌, ◌∙◌, List, length, ap, sym, arith}
 use Rattle.definitions.specs.Expressions.{OperatorElement}
-use Rattle.expr_forms.specs.Joins.Running.{bases_as}
-use Rattle.expr_forms.specs.Joins.Walks.{walk_value}
-use Rattle.expr_forms.proofs.RunningLaws.{AreSmall-le}
+use Rattle.expr_forms.{specs.Joins.Running.bases_as, specs.Joins.Walks.walk_value, proofs.RunningLaws.AreSmall-le}
 use Rattle.expr_forms.proofs.values.walk_on.Goals as goal
 
 pub walk_end-requires-clause-small : goal.walk_end-requires-clause-small

@@ -1,6 +1,5 @@
 use Rattle.std.proofs.Common.{◌≡◌, ◌+◌, ◌-◌, ◌≤◌, length}
-use Rattle.expr_forms.specs.Joins.Running.{bases_as, AreSmall}
-use Rattle.expr_forms.specs.Joins.Walks.{walk_value}
+use Rattle.expr_forms.specs.Joins.{Running.{bases_as, AreSmall}, Walks.walk_value}
 use Rattle.expr_forms.proofs.values.walk_on.Given as goal
 
 -- the walk so far and the links that are left have the value of the start; bases and links fit 355

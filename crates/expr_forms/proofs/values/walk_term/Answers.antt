@@ -1,6 +1,4 @@
-use Rattle.expr_forms.specs.Joins.Links.{operator_as, link_as}
-use Rattle.expr_forms.specs.Joins.Running.{running_as}
-use Rattle.expr_forms.proofs.ValueLaws.{value-term, value-term_fault, value-element_fault}
+use Rattle.expr_forms.{specs.Joins.Links.{operator_as, link_as}, specs.Joins.Running.running_as, proofs.ValueLaws.{value-term, value-term_fault, value-element_fault}}
 use Rattle.expr_forms.proofs.values.walk_term.Goals as goal
 
 pub returns-in-Fault-clause-next : goal.returns-in-Fault-clause-next

@@ -1,8 +1,6 @@
 use Rattle.std.proofs.Common.{ℕ, List, ◌++◌, map, decimal, ap}
 use Rattle.session_commands.specs.Lines.{behind_a_blank}
-use Rattle.journal.specs.CheckSums.{check_sum}
-use Rattle.journal.specs.Records.{ended, line_of_change, lines_behind_change, sum_line, text_of_lines}
-use Rattle.journal.proofs.DraftTexts.{as-line}
+use Rattle.journal.{specs.CheckSums.check_sum, specs.Records.{ended, line_of_change, lines_behind_change, sum_line, text_of_lines}, proofs.DraftTexts.as-line}
 use Rattle.journal.proofs.laws.drafts_are_records.Goals as goal
 
 pub returns : goal.returns

@@ -1,7 +1,5 @@
-use Rattle.std.proofs.Common.{ℕ, ◌≡◌, ◌-◌, ◌≤◌, List, length, take, ap, ◌∙◌, arith}
-use Rattle.std.proofs.lemmas.List.{length-take-le, take-append-le}
-use Rattle.journal.specs.Marks.{mark_behind}
-use Rattle.journal.proofs.MarkSteps.{read-more}
+use Rattle.std.proofs.{Common.{ℕ, ◌≡◌, ◌-◌, ◌≤◌, List, length, take, ap, ◌∙◌, arith}, lemmas.List.{length-take-le, take-append-le}}
+use Rattle.journal.{specs.Marks.mark_behind, proofs.MarkSteps.read-more}
 use Rattle.journal.proofs.marks.mark_of_front.Goals as goal
 
 pub loop-preserved : goal.loop-preserved

@@ -1,5 +1,4 @@
-use Rattle.std.proofs.Common.{ℕ, List, ◌≡◌, true, subst, sym, ◌∙◌}
-use Rattle.std.proofs.lemmas.Bool.{false≢true}
+use Rattle.std.proofs.{Common.{ℕ, List, ◌≡◌, true, subst, sym, ◌∙◌}, lemmas.Bool.false≢true}
 use Rattle.definitions.specs.DeckInput.{is_deck_name}
 use Rattle.journal.proofs.SessionNames.{session-is}
 use Rattle.journal.proofs.names.session_name.Goals as goal

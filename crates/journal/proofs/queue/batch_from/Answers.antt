@@ -1,9 +1,5 @@
 use Rattle.std.proofs.Common.{Some, sym, ap, subst, ◌∙◌}
-use Rattle.journal.specs.Queues.{Batch, InOrder}
-use Rattle.journal.specs.Records.{text_with_version}
-use Rattle.journal.proofs.QueueSteps.{GoOut-start, GoOut-more}
-use Rattle.journal.proofs.QueueOrder.{in-order}
-use Rattle.journal.proofs.FileSteps.{run-in-order}
+use Rattle.journal.{specs.Queues.{Batch, InOrder}, specs.Records.text_with_version, proofs.QueueSteps.{GoOut-start, GoOut-more}, proofs.QueueOrder.in-order, proofs.FileSteps.run-in-order}
 use Rattle.journal.proofs.queue.batch_from.Goals as goal
 
 pub loop-version-init : goal.loop-version-init

@@ -1,6 +1,5 @@
 use Rattle.std.proofs.Common.{ℕ, ◌≡◌, ◌+◌, ◌++◌, ◌∷◌, [], List, length, ap, ◌∙◌, arith, length-append}
-use Rattle.journal.proofs.FileSteps.{kept-last, one-gone}
-use Rattle.journal.proofs.ShownRecords.{shown-more}
+use Rattle.journal.proofs.{FileSteps.{kept-last, one-gone}, ShownRecords.shown-more}
 use Rattle.journal.proofs.queue.show_all.Goals as goal
 
 -- the last of those that are left

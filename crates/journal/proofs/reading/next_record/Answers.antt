@@ -1,5 +1,4 @@
-use Rattle.std.proofs.Common.{◌≤◌, ◌-◌, ◌^◌, ap, arith, inl, inr, sym, ◌∙◌}
-use Rattle.std.proofs.lemmas.Result.{err_from_is_err_and}
+use Rattle.std.proofs.{Common.{◌≤◌, ◌-◌, ◌^◌, ap, arith, inl, inr, sym, ◌∙◌}, lemmas.Result.err_from_is_err_and}
 use Rattle.text_ports.specs.Faults.{count_up}
 use Rattle.journal.proofs.ReadingSteps.{GivesTooMuch-lines, HasStepped-line, IsWithin-more, ReadsNext-found, ReadsNext-bad, ReadsNext-wrong, ReadsNext-ended}
 use Rattle.journal.proofs.reading.next_record.Goals as goal

@@ -1,5 +1,4 @@
-use Rattle.std.proofs.Common.{◌≤◌, ◌-◌, ◌^◌, arith, inr, refl, ◌∙◌}
-use Rattle.std.proofs.lemmas.Result.{err_from_is_err_and}
+use Rattle.std.proofs.{Common.{◌≤◌, ◌-◌, ◌^◌, arith, inr, refl, ◌∙◌}, lemmas.Result.err_from_is_err_and}
 use Rattle.journal.proofs.ReplaySteps.{AreMade-none, AreMade-more, GivesTooMuch-records, Replays-ended, Replays-stopped, StopsReplay-unmade, StopsReplay-unread}
 use Rattle.journal.proofs.replaying.make_all.Goals as goal
 

@@ -1,6 +1,5 @@
 use Rattle.std.proofs.Common.{◌∙◌, subst, sym}
-use Rattle.kept_desk.specs.declared.ends.Woken.{Woken}
-use Rattle.kept_desk.specs.Waiting.{not_yet, once_more, shown, time_up}
+use Rattle.kept_desk.specs.{declared.ends.Woken.Woken, Waiting.{not_yet, once_more, shown, time_up}}
 use Rattle.kept_desk.proofs.door.await_publication.Goals as goal
 
 pub loop-init : goal.loop-init

@@ -1,8 +1,5 @@
-use Rattle.std.proofs.Common.{◌≡◌, ◌+◌, ◌-◌, ◌/◌, true, false, get_or, ltb, ap, sym, ◌∙◌, arith}
-use Rattle.std.proofs.lemmas.Bool.{lt-ltb, le-ltb}
-use Rattle.std.proofs.lemmas.List.Sums.{prefix_len-le-length}
-use Rattle.operations.specs.Joins.SortedNames.{is_below}
-use Rattle.operations.proofs.SortedLaws.{below_to, above_from}
+use Rattle.std.proofs.{Common.{◌≡◌, ◌+◌, ◌-◌, ◌/◌, true, false, get_or, ltb, ap, sym, ◌∙◌, arith}, lemmas.Bool.{lt-ltb, le-ltb}, lemmas.List.Sums.prefix_len-le-length}
+use Rattle.operations.{specs.Joins.SortedNames.is_below, proofs.SortedLaws.{below_to, above_from}}
 use Rattle.operations.proofs.row_search.count_below.Goals as goal
 
 pub halves-init : goal.halves-init

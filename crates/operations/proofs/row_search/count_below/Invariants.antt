@@ -1,5 +1,4 @@
-use Rattle.std.proofs.Common.{◌-◌, ◌≤◌, length}
-use Rattle.std.specs.List.{prefix_len}
+use Rattle.std.{proofs.Common.{◌-◌, ◌≤◌, length}, specs.List.prefix_len}
 use Rattle.operations.specs.Joins.SortedNames.{is_below}
 use Rattle.operations.proofs.row_search.count_below.Given as goal
 

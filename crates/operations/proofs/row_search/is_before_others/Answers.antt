@@ -1,9 +1,5 @@
-use Rattle.std.proofs.Common.{◌≡◌, ◌≤◌, false, get_or, leb, ltb, ap, sym, ◌∙◌, arith}
-use Rattle.std.specs.List.{prefix_len}
-use Rattle.std.proofs.lemmas.Bool.{OnTrue_from, leb-true, le-ltb}
-use Rattle.std.proofs.lemmas.List.Sums.{prefix_len-le-length}
-use Rattle.operations.specs.Joins.SortedNames.{is_below}
-use Rattle.operations.proofs.SortedLaws.{above_from}
+use Rattle.std.{proofs.Common.{◌≡◌, ◌≤◌, false, get_or, leb, ltb, ap, sym, ◌∙◌, arith}, specs.List.prefix_len, proofs.lemmas.Bool.{OnTrue_from, leb-true, le-ltb}, proofs.lemmas.List.Sums.prefix_len-le-length}
+use Rattle.operations.{specs.Joins.SortedNames.is_below, proofs.SortedLaws.above_from}
 use Rattle.operations.proofs.row_search.is_before_others.Goals as goal
 
 pub returns-then-place-table : goal.returns-then-place-table

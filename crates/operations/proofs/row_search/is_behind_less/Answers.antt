@@ -1,8 +1,5 @@
-use Rattle.std.proofs.Common.{◌≡◌, ◌≤◌, ◌-◌, true, get_or, ltb, ap, sym, ◌∙◌, arith}
-use Rattle.std.specs.List.{prefix_len}
-use Rattle.std.proofs.lemmas.Bool.{OnTrue_from}
-use Rattle.operations.specs.Joins.SortedNames.{is_below}
-use Rattle.operations.proofs.SortedLaws.{below_to}
+use Rattle.std.{proofs.Common.{◌≡◌, ◌≤◌, ◌-◌, true, get_or, ltb, ap, sym, ◌∙◌, arith}, specs.List.prefix_len, proofs.lemmas.Bool.OnTrue_from}
+use Rattle.operations.{specs.Joins.SortedNames.is_below, proofs.SortedLaws.below_to}
 use Rattle.operations.proofs.row_search.is_behind_less.Goals as goal
 
 pub returns : goal.returns

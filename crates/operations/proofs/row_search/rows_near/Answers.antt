@@ -1,9 +1,5 @@
-use Rattle.std.proofs.Common.{◌+◌, take, filter, ap, sym, ◌∙◌, arith}
-use Rattle.std.specs.List.{prefix_len}
-use Rattle.std.proofs.lemmas.Bool.{OnTrue_at}
-use Rattle.std.proofs.lemmas.List.Sums.{prefix_len-le-length}
-use Rattle.operations.specs.Joins.SortedNames.{has_number, is_below}
-use Rattle.operations.proofs.SortedLaws.{sorted_drop, rows-at}
+use Rattle.std.{proofs.Common.{◌+◌, take, filter, ap, sym, ◌∙◌, arith}, specs.List.prefix_len, proofs.lemmas.Bool.OnTrue_at, proofs.lemmas.List.Sums.prefix_len-le-length}
+use Rattle.operations.{specs.Joins.SortedNames.{has_number, is_below}, proofs.SortedLaws.{sorted_drop, rows-at}}
 use Rattle.operations.proofs.row_search.rows_near.Goals as goal
 
 pub split_at-requires : goal.split_at-requires

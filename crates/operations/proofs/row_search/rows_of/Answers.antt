@@ -1,8 +1,5 @@
-use Rattle.std.proofs.Common.{◌+◌, drop, ◌≤◌, length, min, sym, ◌∙◌, arith}
-use Rattle.std.specs.List.{prefix_len}
-use Rattle.std.proofs.lemmas.List.Sums.{prefix_len-le-length}
-use Rattle.operations.specs.Joins.SortedNames.{name_number, is_below}
-use Rattle.operations.proofs.SortedLaws.{sorted_drop, sorted_take, filter-between, count-few, taken-window}
+use Rattle.std.{proofs.Common.{◌+◌, drop, ◌≤◌, length, min, sym, ◌∙◌, arith}, specs.List.prefix_len, proofs.lemmas.List.Sums.prefix_len-le-length}
+use Rattle.operations.{specs.Joins.SortedNames.{name_number, is_below}, proofs.SortedLaws.{sorted_drop, sorted_take, filter-between, count-few, taken-window}}
 use Rattle.operations.proofs.row_search.rows_of.Goals as goal
 
 pub split_at-requires : goal.split_at-requires

@@ -1,9 +1,5 @@
 use Rattle.std.proofs.Common.{◌++◌, refl}
-use Rattle.page.specs.declared.page_style.TheConstants.{TOP}
-use Rattle.page.specs.declared.page_text.TheConstants.{BODY}
-use Rattle.page.specs.declared.page_script.TheConstants.{SCRIPT}
-use Rattle.page.specs.declared.page_edits.TheConstants.{EDITS}
-use Rattle.page.proofs.Shown.{page-shown}
+use Rattle.page.{specs.declared.page_style.TheConstants.TOP, specs.declared.page_text.TheConstants.BODY, specs.declared.page_script.TheConstants.SCRIPT, specs.declared.page_edits.TheConstants.EDITS, proofs.Shown.page-shown}
 use Rattle.page.proofs.answers.show_page.Goals as goal
 
 pub returns : goal.returns

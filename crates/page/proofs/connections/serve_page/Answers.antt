@@ -1,10 +1,5 @@
-use Rattle.std.proofs.Common.{◌≡◌, ◌∙◌, ◌++◌, List, ℕ, sym, ap, subst}
-use Rattle.std.specs.Io.KnownBytes.{Appends, Consumes}
-use Rattle.http_server.specs.declared.state.Config.{Config}
-use Rattle.http_server.specs.Connection.{config_of, history}
-use Rattle.http_server.specs.History.{History, IsServed}
-use Rattle.http_server.specs.Exchange.{Call, Calls}
-use Rattle.http_server.proofs.Theorems.{always_served}
+use Rattle.std.{proofs.Common.{◌≡◌, ◌∙◌, ◌++◌, List, ℕ, sym, ap, subst}, specs.Io.KnownBytes.{Appends, Consumes}}
+use Rattle.http_server.{specs.declared.state.Config.Config, specs.Connection.{config_of, history}, specs.History.{History, IsServed}, specs.Exchange.{Call, Calls}, proofs.Theorems.always_served}
 use Rattle.page.specs.Answers.{AnswersRequest}
 use Rattle.page.proofs.connections.serve_page.Goals as goal
 

@@ -1,5 +1,4 @@
-use Rattle.std.proofs.Common.{ℕ, List, ◌≡◌, length, subst, sym}
-use Rattle.std.specs.Prelude.{IfOk}
+use Rattle.std.{proofs.Common.{ℕ, List, ◌≡◌, length, subst, sym}, specs.Prelude.IfOk}
 use Rattle.text_ports.specs.Joins.Sending.{Sends}
 use Rattle.session_line.proofs.ChangeSteps.{own-text}
 use Rattle.session_line.proofs.change_writing.write_change.Goals as goal

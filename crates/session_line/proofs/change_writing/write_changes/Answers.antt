@@ -1,8 +1,5 @@
 use Rattle.std.proofs.Common.{arith, ◌∙◌}
-use Rattle.session_line.specs.Joins.ChangeWalks.{lines_of_one}
-use Rattle.session_line.specs.Replies.{text_of_lines}
-use Rattle.session_line.proofs.ChangeSteps.{text-first}
-use Rattle.session_line.proofs.SentSoFar.{upto-next, upto-part}
+use Rattle.session_line.{specs.Joins.ChangeWalks.lines_of_one, specs.Replies.text_of_lines, proofs.ChangeSteps.text-first, proofs.SentSoFar.{upto-next, upto-part}}
 use Rattle.session_line.proofs.change_writing.write_changes.Goals as goal
 
 pub returns-in-Err-clause-sends : goal.returns-in-Err-clause-sends

@@ -1,7 +1,5 @@
 use Rattle.std.proofs.Common.{◌≡◌, ◌≤◌, ◌+◌, ◌*◌, length}
-use Rattle.session_line.specs.ChangeLines.{change_lines}
-use Rattle.session_line.specs.Replies.{text_of_lines}
-use Rattle.session_line.proofs.SentSoFar.{IsUpTo}
+use Rattle.session_line.{specs.ChangeLines.change_lines, specs.Replies.text_of_lines, proofs.SentSoFar.IsUpTo}
 use Rattle.session_line.proofs.change_writing.write_changes.Given as goal
 
 -- the lines of the changes so far went out, and the writer has not failed

@@ -1,5 +1,4 @@
-use Rattle.std.proofs.Common.{◌≡◌, ◌≤◌, ◌*◌, length, take}
-use Rattle.std.specs.Io.KnownBytes.{Appends}
+use Rattle.std.{proofs.Common.{◌≡◌, ◌≤◌, ◌*◌, length, take}, specs.Io.KnownBytes.Appends}
 use Rattle.session_line.specs.Joins.ChangeWalks.{edits_text}
 use Rattle.session_line.proofs.change_writing.write_edits.Given as goal
 

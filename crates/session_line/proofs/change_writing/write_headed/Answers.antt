@@ -1,9 +1,6 @@
-use Rattle.std.proofs.Common.{ℕ, List, subst, ◌∙◌}
-use Rattle.session_line.specs.ChangeLines.{change_line}
-use Rattle.session_line.specs.Joins.ChangeWalks.{edits_text}
-use Rattle.session_line.specs.Replies.{line_of}
+use Rattle.std.{proofs.Common.{ℕ, List, subst, ◌∙◌}, specs.Prelude.length}
+use Rattle.session_line.specs.{ChangeLines.change_line, Joins.ChangeWalks.edits_text, Replies.line_of}
 use Rattle.text_ports.proofs.SendSteps.{IsPart, part-first, part-second}
-use Rattle.std.specs.Prelude.{length}
 use Rattle.session_line.proofs.change_writing.write_headed.Goals as goal
 
 pub returns-in-Err-clause-sends : goal.returns-in-Err-clause-sends

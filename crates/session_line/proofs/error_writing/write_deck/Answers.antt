@@ -1,5 +1,4 @@
-use Rattle.std.proofs.Common.{ℕ, List, ◌≡◌, ◌≤◌, length, subst, sym}
-use Rattle.std.specs.Prelude.{All, IfOk}
+use Rattle.std.{proofs.Common.{ℕ, List, ◌≡◌, ◌≤◌, length, subst, sym}, specs.Prelude.{All, IfOk}}
 use Rattle.deck_objects.specs.declared.lines.Line.{Line}
 use Rattle.text_ports.specs.Joins.Sending.{Sends}
 use Rattle.session_line.proofs.FlagSteps.{deck-letters, deck-text}

@@ -1,10 +1,7 @@
-use Rattle.std.proofs.Common.{ℕ, List, ◌+◌, ap, subst, arith, length, ◌∙◌}
-use Rattle.std.specs.Io.KnownBytes.{Appends}
+use Rattle.std.{proofs.Common.{ℕ, List, ◌+◌, ap, subst, arith, length, ◌∙◌}, specs.Io.KnownBytes.Appends}
 use Rattle.definitions.specs.DeckInput.{Deck}
 use Rattle.text_ports.proofs.SendSteps.{Appends-text, IsPart, part-text}
-use Rattle.session_line.specs.Errors.{errors_where}
-use Rattle.session_line.specs.Replies.{text_of_lines}
-use Rattle.session_line.proofs.FlagSteps.{bytes-more, texts-all, texts-of}
+use Rattle.session_line.{specs.Errors.errors_where, specs.Replies.text_of_lines, proofs.FlagSteps.{bytes-more, texts-all, texts-of}}
 use Rattle.session_line.proofs.error_writing.write_decks.Goals as goal
 
 pub returns-in-Err-clause-sends : goal.returns-in-Err-clause-sends

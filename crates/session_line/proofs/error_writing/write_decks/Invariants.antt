@@ -1,8 +1,5 @@
-use Rattle.std.proofs.Common.{◌≡◌, ◌≤◌, ◌*◌, length, take}
-use Rattle.std.specs.Prelude.{flat_map}
-use Rattle.std.specs.Io.KnownBytes.{Appends}
-use Rattle.session_line.specs.Errors.{errors_where}
-use Rattle.session_line.specs.Replies.{text_of_lines}
+use Rattle.std.{proofs.Common.{◌≡◌, ◌≤◌, ◌*◌, length, take}, specs.Prelude.flat_map, specs.Io.KnownBytes.Appends}
+use Rattle.session_line.specs.{Errors.errors_where, Replies.text_of_lines}
 use Rattle.session_line.proofs.error_writing.write_decks.Given as goal
 
 -- the lines of the decks so far went out, and the writer has not failed

@@ -1,8 +1,5 @@
-use Rattle.std.specs.Prelude.{filter, flat_map}
-use Rattle.std.proofs.lemmas.Grind.{flat_map-append}
-use Rattle.session_line.specs.Errors.{errors_where, lines_in, shows_line}
-use Rattle.session_line.specs.Replies.{line_of}
-use Rattle.session_line.proofs.SentSoFar.{part-both}
+use Rattle.std.{specs.Prelude.{filter, flat_map}, proofs.lemmas.Grind.flat_map-append}
+use Rattle.session_line.{specs.Errors.{errors_where, lines_in, shows_line}, specs.Replies.line_of, proofs.SentSoFar.part-both}
 use Rattle.session_line.proofs.error_writing.write_errors.Goals as goal
 
 pub returns-in-Err-clause-sends : goal.returns-in-Err-clause-sends

@@ -1,6 +1,5 @@
 use Rattle.std.proofs.Common.{arith, length, refl, ap, ◌∙◌}
-use Rattle.session_line.proofs.FlagSteps.{texts-end, texts-step}
-use Rattle.session_line.proofs.SentSoFar.{upto-start, upto-more, upto-part, upto-end, upto-length}
+use Rattle.session_line.proofs.{FlagSteps.{texts-end, texts-step}, SentSoFar.{upto-start, upto-more, upto-part, upto-end, upto-length}}
 use Rattle.session_line.proofs.error_writing.write_flags.Goals as goal
 
 pub loop-shown-init : goal.loop-shown-init

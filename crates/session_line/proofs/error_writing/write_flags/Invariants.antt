@@ -1,6 +1,5 @@
 use Rattle.std.proofs.Common.{◌≡◌, ◌≤◌, ◌+◌, ◌*◌, drop, length}
-use Rattle.session_line.specs.Joins.FlagWalks.{flags_in, flags_text}
-use Rattle.session_line.proofs.SentSoFar.{IsUpTo}
+use Rattle.session_line.{specs.Joins.FlagWalks.{flags_in, flags_text}, proofs.SentSoFar.IsUpTo}
 use Rattle.session_line.proofs.error_writing.write_flags.Given as goal
 
 -- the lines of the statements so far went out, and the writer has not failed

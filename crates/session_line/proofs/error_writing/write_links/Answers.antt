@@ -1,7 +1,5 @@
 use Rattle.std.proofs.Common.{arith, refl, ◌∙◌}
-use Rattle.session_line.specs.Joins.FlagWalks.{line_len, shown_text}
-use Rattle.session_line.proofs.LinkSteps.{both-lengths, lines-next, some-left, text-line}
-use Rattle.session_line.proofs.SentSoFar.{upto-next, upto-part}
+use Rattle.session_line.{specs.Joins.FlagWalks.{line_len, shown_text}, proofs.LinkSteps.{both-lengths, lines-next, some-left, text-line}, proofs.SentSoFar.{upto-next, upto-part}}
 use Rattle.session_line.proofs.error_writing.write_links.Goals as goal
 
 pub returns-in-Err-clause-sends : goal.returns-in-Err-clause-sends

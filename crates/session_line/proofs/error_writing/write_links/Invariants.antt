@@ -1,7 +1,5 @@
 use Rattle.std.proofs.Common.{◌≡◌, ◌≤◌, ◌<◌, ◌+◌, length}
-use Rattle.session_line.specs.Replies.{text_of_lines}
-use Rattle.session_line.proofs.LinkSteps.{shown_in}
-use Rattle.session_line.proofs.SentSoFar.{IsUpTo}
+use Rattle.session_line.{specs.Replies.text_of_lines, proofs.LinkSteps.shown_in, proofs.SentSoFar.IsUpTo}
 use Rattle.session_line.proofs.error_writing.write_links.Given as goal
 
 -- the lines so far that are shown went out, and the writer has not failed

@@ -1,10 +1,7 @@
-use Rattle.std.proofs.Common.{List, length, ap, sym, ◌∙◌}
-use Rattle.std.proofs.lemmas.List.{length-map}
+use Rattle.std.proofs.{Common.{List, length, ap, sym, ◌∙◌}, lemmas.List.length-map}
 use Rattle.definitions.specs.Cards.{Card}
 use Rattle.deck_objects.specs.declared.lines.Line.{Line}
-use Rattle.session_line.specs.Errors.{flag_text, flags_of}
-use Rattle.session_line.specs.Joins.FlagWalks.{flags_in}
-use Rattle.session_line.proofs.FlagSteps.{deck-flags, shown-deck}
+use Rattle.session_line.{specs.Errors.{flag_text, flags_of}, specs.Joins.FlagWalks.flags_in, proofs.FlagSteps.{deck-flags, shown-deck}}
 use Rattle.session_line.proofs.errors.deck_count.Goals as goal
 
 pub returns-clause-count : goal.returns-clause-count

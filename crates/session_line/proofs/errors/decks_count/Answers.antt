@@ -1,7 +1,6 @@
 use Rattle.std.proofs.Common.{length, arith, ap, ◌∙◌}
 use Rattle.definitions.specs.DeckInput.{Deck}
-use Rattle.session_line.specs.Errors.{errors_where}
-use Rattle.session_line.proofs.FlagSteps.{counts-more}
+use Rattle.session_line.{specs.Errors.errors_where, proofs.FlagSteps.counts-more}
 use Rattle.session_line.proofs.errors.decks_count.Goals as goal
 
 pub loop-shared-preserved : goal.loop-shared-preserved

@@ -1,5 +1,4 @@
-use Rattle.std.proofs.Common.{◌≡◌, ◌≤◌, ◌*◌, length, take}
-use Rattle.std.specs.Prelude.{flat_map}
+use Rattle.std.{proofs.Common.{◌≡◌, ◌≤◌, ◌*◌, length, take}, specs.Prelude.flat_map}
 use Rattle.session_line.specs.Errors.{errors_where}
 use Rattle.session_line.proofs.errors.decks_count.Given as goal
 

@@ -1,9 +1,6 @@
-use Rattle.std.proofs.Common.{◌+◌, List, length, drop, arith, ap, ◌∙◌}
-use Rattle.std.specs.Prelude.{is_none}
+use Rattle.std.{proofs.Common.{◌+◌, List, length, drop, arith, ap, ◌∙◌}, specs.Prelude.is_none}
 use Rattle.definitions.specs.Cards.{Card}
-use Rattle.session_line.specs.Errors.{flag_of}
-use Rattle.session_line.specs.Joins.FlagWalks.{flags_in}
-use Rattle.session_line.proofs.FlagSteps.{count-next}
+use Rattle.session_line.{specs.Errors.flag_of, specs.Joins.FlagWalks.flags_in, proofs.FlagSteps.count-next}
 use Rattle.session_line.proofs.errors.flag_count.Goals as goal
 
 pub loop-shown-preserved : goal.loop-shown-preserved

@@ -1,6 +1,5 @@
 use Rattle.std.proofs.Common.{Bool, cond, arith, refl, ap, ◌∙◌}
-use Rattle.session_line.specs.Joins.FlagWalks.{line_len}
-use Rattle.session_line.proofs.LinkSteps.{behind-shorter, count-line, lines-next, some-left}
+use Rattle.session_line.{specs.Joins.FlagWalks.line_len, proofs.LinkSteps.{behind-shorter, count-line, lines-next, some-left}}
 use Rattle.session_line.proofs.errors.link_count.Goals as goal
 
 pub loop-rest-preserved : goal.loop-rest-preserved

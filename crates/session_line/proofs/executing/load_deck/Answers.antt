@@ -2,9 +2,7 @@ use Rattle.std.proofs.Common.{ℕ, List, Ok, Err, refl, sym, ap, subst, ◌∙�
 use Rattle.definitions.specs.DeckInput.{Deck}
 use Rattle.desk_core.specs.declared.calls.Call.TheVariants.{AddDeck}
 use Rattle.session_line.specs.declared.answers.Told.TheVariants as told
-use Rattle.session_line.specs.declared.answers.Answer.{Answer}
-use Rattle.session_line.specs.Answers.{told_of_call, uncalled}
-use Rattle.session_line.specs.Asking.{Asks, NotesTold}
+use Rattle.session_line.specs.{declared.answers.Answer.Answer, Answers.{told_of_call, uncalled}, Asking.{Asks, NotesTold}}
 use Rattle.session_line.proofs.executing.load_deck.Goals as goal
 
 pub returns-in-Ok-clause-loads : goal.returns-in-Ok-clause-loads

@@ -1,7 +1,6 @@
 use Rattle.std.proofs.Common.{ap, ◌∙◌}
-use Rattle.session_line.specs.Answers.{called}
+use Rattle.session_line.specs.{Answers.called, SavingDecks.refused}
 use Rattle.session_line.specs.declared.answers.Told.TheVariants as told
-use Rattle.session_line.specs.SavingDecks.{refused}
 use Rattle.session_line.proofs.executing.save_cards.Goals as goal
 
 pub returns-in-Err-clause-saves : goal.returns-in-Err-clause-saves

@@ -1,10 +1,8 @@
 use Rattle.std.proofs.Common.{ℕ, List, sym, subst}
 use Rattle.definitions.specs.Cards.{Card}
 use Rattle.desk_core.specs.declared.calls.Call.TheVariants.{Cards}
-use Rattle.session_line.specs.declared.answers.Told.{Told}
+use Rattle.session_line.specs.{declared.answers.Told.Told, Answers.told_of_cards, SavingDecks.{SavesCards, SavesTold}}
 use Rattle.session_commands.specs.declared.views.CardsView.TheVariants.{All}
-use Rattle.session_line.specs.Answers.{told_of_cards}
-use Rattle.session_line.specs.SavingDecks.{SavesCards, SavesTold}
 use Rattle.session_line.proofs.executing.save_deck.Goals as goal
 
 pub returns-in-Cards-clause-saves : goal.returns-in-Cards-clause-saves

@@ -1,7 +1,5 @@
 use Rattle.std.proofs.Common.{[], ◌∷◌, ◌++◌, ◌+◌, length, length-append, ap, ◌∙◌}
-use Rattle.session_line.specs.declared.marked_rows.MarkedRow.{MarkedRow}
-use Rattle.session_line.specs.FileStatus.{marked}
-use Rattle.session_line.proofs.RowSteps.{marks-none, marks-more}
+use Rattle.session_line.{specs.declared.marked_rows.MarkedRow.MarkedRow, specs.FileStatus.marked, proofs.RowSteps.{marks-none, marks-more}}
 use Rattle.session_line.proofs.file_status.mark_rows.Goals as goal
 
 pub loop-row-init : goal.loop-row-init

@@ -1,5 +1,4 @@
-use Rattle.std.proofs.Common.{◌≡◌, length, take}
-use Rattle.std.specs.Prelude.{vec_capacity}
+use Rattle.std.{proofs.Common.{◌≡◌, length, take}, specs.Prelude.vec_capacity}
 use Rattle.session_line.specs.FileStatus.{MarksRows}
 use Rattle.session_line.proofs.file_status.mark_rows.Given as goal
 

@@ -1,8 +1,6 @@
 use Rattle.std.proofs.Common.{List, sym, subst}
 use Rattle.desk_core.specs.declared.replies.Row.{Row}
-use Rattle.session_line.specs.declared.answers.Told.{Told}
-use Rattle.session_line.specs.Answers.{told_of_call}
-use Rattle.session_line.specs.FileStatus.{MarksTold, TellsMarks}
+use Rattle.session_line.specs.{declared.answers.Told.Told, Answers.told_of_call, FileStatus.{MarksTold, TellsMarks}}
 use Rattle.session_line.proofs.file_status.show_file_status.Goals as goal
 
 pub returns-in-Status-clause-shows : goal.returns-in-Status-clause-shows

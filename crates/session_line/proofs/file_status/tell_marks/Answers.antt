@@ -1,6 +1,5 @@
 use Rattle.std.proofs.Common.{ap, ◌∙◌}
-use Rattle.session_line.specs.Answers.{called}
-use Rattle.session_line.specs.FileStatus.{told_all}
+use Rattle.session_line.specs.{Answers.called, FileStatus.told_all}
 use Rattle.session_line.specs.declared.answers.Told.TheVariants as told
 use Rattle.session_line.proofs.file_status.tell_marks.Goals as goal
 

@@ -1,7 +1,5 @@
 use Rattle.std.proofs.Common.{sym, subst}
-use Rattle.session_line.specs.declared.answers.Told.{Told}
-use Rattle.session_line.specs.Answers.{told_of_wait}
-use Rattle.session_line.specs.FileTasks.{FilesTold}
+use Rattle.session_line.specs.{declared.answers.Told.Told, Answers.told_of_wait, FileTasks.FilesTold}
 use Rattle.session_line.proofs.file_tasks.show_files.Goals as goal
 
 pub returns-in-Standing-clause-shows : goal.returns-in-Standing-clause-shows

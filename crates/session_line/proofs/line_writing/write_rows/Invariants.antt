@@ -1,5 +1,4 @@
-use Rattle.std.proofs.Common.{◌≡◌, ◌≤◌, ◌*◌, length, take, flat_map}
-use Rattle.std.specs.Io.KnownBytes.{Appends}
+use Rattle.std.{proofs.Common.{◌≡◌, ◌≤◌, ◌*◌, length, take, flat_map}, specs.Io.KnownBytes.Appends}
 use Rattle.session_line.proofs.line_writing.write_rows.Given as goal
 
 -- exactly the lines of the rows so far went out, and the writer has not failed

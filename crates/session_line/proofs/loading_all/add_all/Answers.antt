@@ -1,8 +1,6 @@
 use Rattle.std.proofs.Common.{List, sym, subst}
 use Rattle.desk_core.specs.declared.replies.Row.{Row}
-use Rattle.session_line.specs.declared.answers.Told.{Told}
-use Rattle.session_line.specs.Answers.{told_of_call}
-use Rattle.session_line.specs.LoadingAll.{AddsTold, TellsAdds}
+use Rattle.session_line.specs.{declared.answers.Told.Told, Answers.told_of_call, LoadingAll.{AddsTold, TellsAdds}}
 use Rattle.session_line.proofs.loading_all.add_all.Goals as goal
 
 pub returns-in-Status-clause-adds : goal.returns-in-Status-clause-adds

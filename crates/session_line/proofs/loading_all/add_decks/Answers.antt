@@ -1,8 +1,5 @@
-use Rattle.std.proofs.Common.{◌≡◌, ◌∷◌, List, drop, length, ap, sym, ◌∙◌}
-use Rattle.std.specs.Prelude.{vec_capacity}
-use Rattle.std.specs.Vec.Iter.{into_iter_items}
-use Rattle.session_line.specs.declared.told_decks.ToldDeck.{ToldDeck}
-use Rattle.session_line.proofs.AddSteps.{adds-more, adds-none, behind-left}
+use Rattle.std.{proofs.Common.{◌≡◌, ◌∷◌, List, drop, length, ap, sym, ◌∙◌}, specs.Prelude.vec_capacity, specs.Vec.Iter.into_iter_items}
+use Rattle.session_line.{specs.declared.told_decks.ToldDeck.ToldDeck, proofs.AddSteps.{adds-more, adds-none, behind-left}}
 use Rattle.session_line.proofs.loading_all.add_decks.Goals as goal
 
 pub loop-deck-init : goal.loop-deck-init

@@ -1,6 +1,4 @@
-use Rattle.std.proofs.Common.{◌≡◌, drop, length, take}
-use Rattle.std.specs.Prelude.{vec_capacity}
-use Rattle.std.specs.Vec.Iter.{into_iter_items}
+use Rattle.std.{proofs.Common.{◌≡◌, drop, length, take}, specs.Prelude.vec_capacity, specs.Vec.Iter.into_iter_items}
 use Rattle.session_line.specs.LoadingAll.{AddsDecks}
 use Rattle.session_line.proofs.loading_all.add_decks.Given as goal
 

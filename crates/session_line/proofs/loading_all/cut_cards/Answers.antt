@@ -1,8 +1,6 @@
 use Rattle.std.proofs.Common.{◌≡◌, ◌⊎◌, Err, sym, subst}
-use Rattle.session_commands.specs.declared.refusals.Refusal.{Refusal}
-use Rattle.session_commands.specs.declared.refusals.Refusal.TheVariants.{OutOfMemory}
-use Rattle.session_line.specs.DeckCuts.{decks_in}
-use Rattle.session_line.proofs.AddSteps.{decks-cut, reason-cut}
+use Rattle.session_commands.specs.declared.refusals.Refusal.{Refusal, TheVariants.OutOfMemory}
+use Rattle.session_line.{specs.DeckCuts.decks_in, proofs.AddSteps.{decks-cut, reason-cut}}
 use Rattle.session_line.proofs.loading_all.cut_cards.Goals as goal
 
 pub returns-in-Ok-clause-ok : goal.returns-in-Ok-clause-ok

@@ -1,9 +1,7 @@
 use Rattle.std.proofs.Common.{List, Ok, Err, refl, ap, subst, ◌∙◌}
 use Rattle.definitions.specs.Cards.{Card}
 use Rattle.session_line.specs.declared.answers.Told.TheVariants as told
-use Rattle.session_line.specs.Answers.{uncalled}
-use Rattle.session_line.specs.LoadingAll.{AddsFile}
-use Rattle.session_line.proofs.AddSteps.{file-cut, file-refused}
+use Rattle.session_line.{specs.Answers.uncalled, specs.LoadingAll.AddsFile, proofs.AddSteps.{file-cut, file-refused}}
 use Rattle.session_line.proofs.loading_all.load_all.Goals as goal
 
 pub returns-in-Ok-cut_cards-clause-loads : goal.returns-in-Ok-cut_cards-clause-loads

@@ -1,6 +1,5 @@
 use Rattle.std.proofs.Common.{ap, refl, sym, ◌∙◌}
-use Rattle.session_line.specs.Answers.{called}
-use Rattle.session_line.specs.LoadingAll.{added_all, not_added, refusal_to_add}
+use Rattle.session_line.specs.{Answers.called, LoadingAll.{added_all, not_added, refusal_to_add}}
 use Rattle.session_line.specs.declared.answers.Told.TheVariants as told
 use Rattle.session_line.proofs.loading_all.tell_adds.Goals as goal
 

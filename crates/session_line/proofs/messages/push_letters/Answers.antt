@@ -1,6 +1,5 @@
 use Rattle.std.proofs.Common.{◌+◌, List, drop, get_or, subst, ◌∷◌, []}
-use Rattle.session_line.specs.Messages.{Lettered, Message, lettered}
-use Rattle.session_line.proofs.MessageSteps.{IsSoFar, adds-one, far-end, far-more, letters-end, letters-next}
+use Rattle.session_line.{specs.Messages.{Lettered, Message, lettered}, proofs.MessageSteps.{IsSoFar, adds-one, far-end, far-more, letters-end, letters-next}}
 use Rattle.session_line.proofs.messages.push_letters.Goals as goal
 
 pub loop-letter-preserved : goal.loop-letter-preserved

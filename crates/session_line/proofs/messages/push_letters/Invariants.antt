@@ -1,6 +1,5 @@
 use Rattle.std.proofs.Common.{drop}
-use Rattle.session_line.specs.Messages.{lettered}
-use Rattle.session_line.proofs.MessageSteps.{IsSoFar}
+use Rattle.session_line.{specs.Messages.lettered, proofs.MessageSteps.IsSoFar}
 use Rattle.session_line.proofs.messages.push_letters.Given as goal
 
 -- the lines of the letters so far stand behind what stood there

@@ -1,9 +1,5 @@
-use Rattle.std.proofs.Common.{◌+◌, List, drop, length, subst, arith, ◌∙◌}
-use Rattle.std.specs.Prelude.{flat_map}
-use Rattle.session_line.specs.Joins.FlagWalks.{flags_in}
-use Rattle.session_line.specs.Joins.MessageWalks.{told_letters}
-use Rattle.session_line.specs.Messages.{Lettered, letters_of}
-use Rattle.session_line.proofs.MessageSteps.{IsSoFar, far-end, far-more, statements-end, statements-next}
+use Rattle.std.{proofs.Common.{◌+◌, List, drop, length, subst, arith, ◌∙◌}, specs.Prelude.flat_map}
+use Rattle.session_line.{specs.Joins.FlagWalks.flags_in, specs.Joins.MessageWalks.told_letters, specs.Messages.{Lettered, letters_of}, proofs.MessageSteps.{IsSoFar, far-end, far-more, statements-end, statements-next}}
 use Rattle.session_line.proofs.messages.push_statements.Goals as goal
 
 pub loop-shown-preserved : goal.loop-shown-preserved

@@ -1,8 +1,5 @@
-use Rattle.std.proofs.Common.{◌≡◌, ◌+◌, drop, length}
-use Rattle.std.specs.Prelude.{flat_map}
-use Rattle.session_line.specs.Joins.FlagWalks.{flags_in}
-use Rattle.session_line.specs.Messages.{letters_of}
-use Rattle.session_line.proofs.MessageSteps.{IsSoFar}
+use Rattle.std.{proofs.Common.{◌≡◌, ◌+◌, drop, length}, specs.Prelude.flat_map}
+use Rattle.session_line.{specs.Joins.FlagWalks.flags_in, specs.Messages.letters_of, proofs.MessageSteps.IsSoFar}
 use Rattle.session_line.proofs.messages.push_statements.Given as goal
 
 -- the lines of the statements so far stand behind what stood there

@@ -1,5 +1,4 @@
-use Rattle.std.proofs.Common.{◌≡◌, ◌++◌, take}
-use Rattle.std.specs.Prelude.{map}
+use Rattle.std.{proofs.Common.{◌≡◌, ◌++◌, take}, specs.Prelude.map}
 use Rattle.session_line.specs.Messages.{told_character}
 use Rattle.session_line.proofs.messages.push_words.Given as goal
 

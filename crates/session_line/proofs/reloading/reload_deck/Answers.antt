@@ -1,8 +1,6 @@
 use Rattle.std.proofs.Common.{Ok, Err, refl, sym, ap, subst, ◌∙◌}
 use Rattle.session_line.specs.declared.answers.Told.TheVariants as told
-use Rattle.session_line.specs.declared.answers.Answer.{Answer}
-use Rattle.session_line.specs.Answers.{uncalled}
-use Rattle.session_line.specs.Asking.{NotesTold}
+use Rattle.session_line.specs.{declared.answers.Answer.Answer, Answers.uncalled, Asking.NotesTold}
 use Rattle.session_line.proofs.reloading.reload_deck.Goals as goal
 
 pub returns-in-Ok-clause-reloads : goal.returns-in-Ok-clause-reloads

@@ -1,8 +1,6 @@
 use Rattle.std.proofs.Common.{List, sym, subst}
 use Rattle.desk_core.specs.declared.replies.Row.{Row}
-use Rattle.session_line.specs.declared.answers.Told.{Told}
-use Rattle.session_line.specs.Answers.{told_of_call}
-use Rattle.session_line.specs.SavingAll.{SavesAllTold, TellsSaves}
+use Rattle.session_line.specs.{declared.answers.Told.Told, Answers.told_of_call, SavingAll.{SavesAllTold, TellsSaves}}
 use Rattle.session_line.proofs.saving_all.save_all.Goals as goal
 
 pub returns-in-Status-clause-saves : goal.returns-in-Status-clause-saves

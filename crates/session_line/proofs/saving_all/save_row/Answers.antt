@@ -1,7 +1,5 @@
 use Rattle.std.proofs.Common.{ℕ, List, Some, refl, sym, subst}
-use Rattle.session_line.specs.declared.told_decks.DeckOutcome.{DeckOutcome}
-use Rattle.session_line.specs.SavingAll.{SavesRow, is_saved, unsaved}
-use Rattle.session_line.specs.ToldDecks.{outcome_of}
+use Rattle.session_line.specs.{declared.told_decks.DeckOutcome.DeckOutcome, SavingAll.{SavesRow, is_saved, unsaved}, ToldDecks.outcome_of}
 use Rattle.session_line.proofs.saving_all.save_row.Goals as goal
 
 -- its file has its cards

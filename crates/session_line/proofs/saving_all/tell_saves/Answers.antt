@@ -1,6 +1,5 @@
 use Rattle.std.proofs.Common.{ap, ◌∙◌}
-use Rattle.session_line.specs.Answers.{called}
-use Rattle.session_line.specs.SavingAll.{told_all}
+use Rattle.session_line.specs.{Answers.called, SavingAll.told_all}
 use Rattle.session_line.specs.declared.answers.Told.TheVariants as told
 use Rattle.session_line.proofs.saving_all.tell_saves.Goals as goal
 

@@ -1,8 +1,6 @@
 use Rattle.std.proofs.Common.{◌≡◌, ◌≤◌, ◌+◌, Bool, length, arith, ap, sym, ◌∙◌}
-use Rattle.session_line.specs.Views.{number_where}
-use Rattle.session_line.proofs.FoundSteps.{count-more}
+use Rattle.session_line.{specs.Views.number_where, proofs.FoundSteps.count-more, proofs.views.count_with.Goals.{then-has_text, else-has_text}}
 use Rattle.session_line.proofs.views.count_with.Goals as goal
-use Rattle.session_line.proofs.views.count_with.Goals.{then-has_text, else-has_text}
 
 pub loop-card-preserved : goal.loop-card-preserved
 loop-card-preserved c =

@@ -1,7 +1,5 @@
-use Rattle.std.proofs.Common.{◌≡◌, ◌≤◌, ◌*◌, length, take}
-use Rattle.std.specs.Io.KnownBytes.{Appends}
-use Rattle.session_line.specs.Replies.{numbers_text}
-use Rattle.session_line.specs.Views.{numbers_of}
+use Rattle.std.{proofs.Common.{◌≡◌, ◌≤◌, ◌*◌, length, take}, specs.Io.KnownBytes.Appends}
+use Rattle.session_line.specs.{Replies.numbers_text, Views.numbers_of}
 use Rattle.session_line.proofs.writing.write_found.Given as goal
 
 -- exactly the numbers of the cards so far went out, and the writer has not failed

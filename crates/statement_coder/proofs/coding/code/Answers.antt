@@ -1,13 +1,7 @@
-use Rattle.std.proofs.Common.{◌≡◌, ◌∙◌, subst}
-use Rattle.std.proofs.lemmas.Result.{IfOk-weaker}
-use Rattle.definitions.specs.Letters.{in_order, letters_of}
-use Rattle.definitions.specs.Operands.{operand_of}
-use Rattle.definitions.specs.StatementItems.{items_of}
-use Rattle.statement_coder.specs.Joins.Items.{deck_with}
+use Rattle.std.proofs.{Common.{◌≡◌, ◌∙◌, subst}, lemmas.Result.IfOk-weaker}
+use Rattle.definitions.specs.{Letters.{in_order, letters_of}, Operands.operand_of, StatementItems.items_of}
+use Rattle.statement_coder.{specs.Joins.Items.deck_with, specs.Joins.CodedItems.AreTold, specs.Joins.Readings.IsReading, proofs.CodingLaws.{codable, read_again}}
 use Rattle.operations.specs.Joins.OperationsAs.{operation_as}
-use Rattle.statement_coder.specs.Joins.CodedItems.{AreTold}
-use Rattle.statement_coder.specs.Joins.Readings.{IsReading}
-use Rattle.statement_coder.proofs.CodingLaws.{codable, read_again}
 use Rattle.statement_coder.proofs.coding.code.Goals as goal
 
 pub returns-clause-items : goal.returns-clause-items

@@ -1,11 +1,6 @@
 use Rattle.std.proofs.Common.{◌≡◌, ◌∙◌, List, ◌++◌, refl, ap, sym, subst}
-use Rattle.definitions.specs.Letters.{in_order, entry_letters}
-use Rattle.definitions.specs.StatementItems.{operand_items, items_of}
-use Rattle.definitions.specs.declared.letter.Letter.{Letter}
-use Rattle.statement_coder.specs.Joins.Items.{deck_with}
-use Rattle.statement_coder.specs.Joins.CodedItems.{AreTold}
-use Rattle.statement_coder.specs.Joins.FieldLetters.{field_letters}
-use Rattle.statement_coder.proofs.CodingLaws.{are_seen}
+use Rattle.definitions.specs.{Letters.{in_order, entry_letters}, StatementItems.{operand_items, items_of}, declared.letter.Letter.Letter}
+use Rattle.statement_coder.{specs.Joins.Items.deck_with, specs.Joins.CodedItems.AreTold, specs.Joins.FieldLetters.field_letters, proofs.CodingLaws.are_seen}
 use Rattle.statement_coder.proofs.coding.coded.Goals as goal
 
 pub returns-clause-items : goal.returns-clause-items

@@ -1,10 +1,6 @@
-use Rattle.std.proofs.Common.{◌≤◌, ◌<◌, ◌+◌, map, arith}
-use Rattle.std.proofs.lemmas.Nat.{mod_below}
+use Rattle.std.proofs.{Common.{◌≤◌, ◌<◌, ◌+◌, map, arith}, lemmas.Nat.mod_below}
 use Rattle.expr_forms.specs.Joins.Readings.{bit_field_as}
-use Rattle.statement_coder.specs.Joins.Items.{deck_with, item_as}
-use Rattle.statement_coder.proofs.ListLaws.{kept-trans}
-use Rattle.statement_coder.proofs.DatumLaws.{word_bits-some, word_bits-few}
-use Rattle.statement_coder.proofs.BitLaws.{one_field_more}
+use Rattle.statement_coder.{specs.Joins.Items.{deck_with, item_as}, proofs.ListLaws.kept-trans, proofs.DatumLaws.{word_bits-some, word_bits-few}, proofs.BitLaws.one_field_more}
 use Rattle.statement_coder.proofs.data_items.push_bits.Goals as goal
 
 pub fields-preserved : goal.fields-preserved

@@ -1,10 +1,6 @@
 use Rattle.std.proofs.Common.{ℕ, ◌≡◌, ◌≤◌, List, ◌++◌, length, map}
-use Rattle.definitions.specs.Operands.{BitsOperand}
-use Rattle.definitions.specs.Settled.{Settled}
-use Rattle.definitions.specs.StatementItems.{operand_items}
-use Rattle.statement_coder.specs.Joins.Items.{AreSeen, deck_with, item_as}
-use Rattle.statement_coder.specs.Joins.CodedItems.{IsKept}
-use Rattle.statement_coder.proofs.BitLaws.{bits_behind}
+use Rattle.definitions.specs.{Operands.BitsOperand, Settled.Settled, StatementItems.operand_items}
+use Rattle.statement_coder.{specs.Joins.Items.{AreSeen, deck_with, item_as}, specs.Joins.CodedItems.IsKept, proofs.BitLaws.bits_behind}
 use Rattle.statement_coder.proofs.data_items.push_bits.Given as goal
 
 -- the fields so far, and those that are left

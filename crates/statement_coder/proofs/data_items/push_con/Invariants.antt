@@ -1,11 +1,6 @@
 use Rattle.std.proofs.Common.{ℕ, ◌≡◌, List, ◌++◌, flat_map, length, map}
-use Rattle.definitions.specs.Kinds.{word_bits}
-use Rattle.definitions.specs.Operands.{WordsOperand}
-use Rattle.definitions.specs.Settled.{Settled}
-use Rattle.definitions.specs.StatementItems.{operand_items}
-use Rattle.statement_coder.specs.Joins.Items.{AreSeen, deck_with, item_as}
-use Rattle.statement_coder.specs.Joins.CodedItems.{IsKept}
-use Rattle.statement_coder.specs.Joins.WordItems.{in_words}
+use Rattle.definitions.specs.{Kinds.word_bits, Operands.WordsOperand, Settled.Settled, StatementItems.operand_items}
+use Rattle.statement_coder.specs.Joins.{Items.{AreSeen, deck_with, item_as}, CodedItems.IsKept, WordItems.in_words}
 use Rattle.statement_coder.proofs.data_items.push_con.Given as goal
 
 -- the fields so far, and those that are left

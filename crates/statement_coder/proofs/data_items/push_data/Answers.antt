@@ -1,9 +1,7 @@
 use Rattle.std.proofs.Common.{map}
 use Rattle.definitions.specs.Kinds.{word_bits}
 use Rattle.expr_forms.specs.Joins.Readings.{datum_as}
-use Rattle.statement_coder.specs.Joins.Items.{deck_with, item_as}
-use Rattle.statement_coder.proofs.ListLaws.{kept-trans}
-use Rattle.statement_coder.proofs.DatumLaws.{one_datum_more, no_datum_more}
+use Rattle.statement_coder.{specs.Joins.Items.{deck_with, item_as}, proofs.ListLaws.kept-trans, proofs.DatumLaws.{one_datum_more, no_datum_more}}
 use Rattle.statement_coder.proofs.data_items.push_data.Goals as goal
 
 pub words-preserved : goal.words-preserved

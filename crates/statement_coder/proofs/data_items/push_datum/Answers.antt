@@ -1,13 +1,7 @@
-use Rattle.std.proofs.Common.{◌∙◌, ◌≤◌, List, [], ◌∷◌, ◌++◌, length, map, ap, sym, subst}
-use Rattle.std.proofs.lemmas.Result.{on_ok_weaker}
-use Rattle.definitions.specs.CountedItems.{CountedItem}
-use Rattle.definitions.specs.Kinds.{word_bits}
-use Rattle.definitions.specs.Operands.{Datum, CountedItemWords}
-use Rattle.definitions.specs.StatementItems.{Item, datum_item, expression_item}
+use Rattle.std.proofs.{Common.{◌∙◌, ◌≤◌, List, [], ◌∷◌, ◌++◌, length, map, ap, sym, subst}, lemmas.Result.on_ok_weaker}
+use Rattle.definitions.specs.{CountedItems.CountedItem, Kinds.word_bits, Operands.{Datum, CountedItemWords}, StatementItems.{Item, datum_item, expression_item}}
 use Rattle.expr_forms.specs.Joins.Readings.{datum_as}
-use Rattle.statement_coder.specs.Joins.Items.{deck_with, item_as}
-use Rattle.statement_coder.specs.Joins.WordItems.{in_words}
-use Rattle.statement_coder.proofs.DatumLaws.{item-words, expression-word}
+use Rattle.statement_coder.{specs.Joins.Items.{deck_with, item_as}, specs.Joins.WordItems.in_words, proofs.DatumLaws.{item-words, expression-word}}
 use Rattle.statement_coder.proofs.data_items.push_datum.Goals as goal
 
 pub returns-in-Item-clause-pushed : goal.returns-in-Item-clause-pushed

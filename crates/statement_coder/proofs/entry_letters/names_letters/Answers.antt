@@ -1,5 +1,4 @@
-use Rattle.std.proofs.Common.{◌∙◌, ◌++◌, ap}
-use Rattle.std.specs.Prelude.{flat_map, option_copied}
+use Rattle.std.{proofs.Common.{◌∙◌, ◌++◌, ap}, specs.Prelude.{flat_map, option_copied}}
 use Rattle.definitions.specs.Letters.{in_order, name_fault}
 use Rattle.statement_coder.proofs.NameLaws.{one_gathered, all_gathered}
 use Rattle.statement_coder.proofs.entry_letters.names_letters.Goals as goal

@@ -1,6 +1,5 @@
 use Rattle.std.proofs.Common.{◌≡◌, List, flat_map, length}
-use Rattle.definitions.specs.Letters.{name_fault}
-use Rattle.definitions.specs.Settled.{Settled, defined}
+use Rattle.definitions.specs.{Letters.name_fault, Settled.{Settled, defined}}
 use Rattle.statement_coder.proofs.NameLaws.{Gathered}
 use Rattle.statement_coder.proofs.entry_letters.names_letters.Given as goal
 

@@ -1,7 +1,5 @@
-use Rattle.std.proofs.Common.{◌≡◌, ◌∙◌, ap, sym, subst}
-use Rattle.std.specs.Prelude.{flat_map}
-use Rattle.definitions.specs.Letters.{in_order, name_fault, entry_letters}
-use Rattle.definitions.specs.Operands.{NamesOperand}
+use Rattle.std.{proofs.Common.{◌≡◌, ◌∙◌, ap, sym, subst}, specs.Prelude.flat_map}
+use Rattle.definitions.specs.{Letters.{in_order, name_fault, entry_letters}, Operands.NamesOperand}
 use Rattle.definitions.specs.Operations as op
 use Rattle.definitions.specs.declared.deck_kind.DeckKind.TheVariants as kinds
 use Rattle.statement_coder.specs.Joins.Readings.{IsReading}

@@ -1,9 +1,7 @@
 use Rattle.std.proofs.Common.{ap, ◌∙◌}
-use Rattle.definitions.specs.Letters.{in_order}
-use Rattle.definitions.specs.Settling.{letter_where}
+use Rattle.definitions.specs.{Letters.in_order, Settling.letter_where}
 use Rattle.definitions.specs.declared.letter.Letter.TheVariants as letter
-use Rattle.statement_coder.specs.Joins.Externals.{has_unlawful, has_known}
-use Rattle.statement_coder.proofs.ExternalLaws.{unlawful_or_known}
+use Rattle.statement_coder.{specs.Joins.Externals.{has_unlawful, has_known}, proofs.ExternalLaws.unlawful_or_known}
 use Rattle.statement_coder.proofs.externals.external_letters.Goals as goal
 
 pub returns : goal.returns

@@ -1,9 +1,6 @@
-use Rattle.std.proofs.Common.{ℕ, ◌≡◌, List, [], ◌∷◌, ◌++◌, ◌||◌, Bool, false, Bor, Option, Some, ap, ap₂, sym, ◌∙◌}
-use Rattle.std.specs.Prelude.{is_some, if◌then◌else◌}
-use Rattle.std.specs.Option.{option_copied}
+use Rattle.std.{proofs.Common.{ℕ, ◌≡◌, List, [], ◌∷◌, ◌++◌, ◌||◌, Bool, false, Bor, Option, Some, ap, ap₂, sym, ◌∙◌}, specs.Prelude.{is_some, if◌then◌else◌}, specs.Option.option_copied}
 use Rattle.definitions.specs.Blocks.{is_named}
-use Rattle.statement_coder.specs.Joins.Externals.{has_known}
-use Rattle.statement_coder.proofs.SeenLaws.{any_seen, none-seen, or_nothing, seen-more}
+use Rattle.statement_coder.{specs.Joins.Externals.has_known, proofs.SeenLaws.{any_seen, none-seen, or_nothing, seen-more}}
 use Rattle.statement_coder.proofs.externals.has_known.Goals as goal
 
 pub names-init : goal.names-init

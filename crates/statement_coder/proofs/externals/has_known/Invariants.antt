@@ -1,6 +1,5 @@
 use Rattle.std.proofs.Common.{◌≡◌, ◌||◌, length}
-use Rattle.statement_coder.specs.Joins.Externals.{has_known}
-use Rattle.statement_coder.proofs.SeenLaws.{any_seen}
+use Rattle.statement_coder.{specs.Joins.Externals.has_known, proofs.SeenLaws.any_seen}
 use Rattle.statement_coder.proofs.externals.has_known.Given as goal
 
 -- each name before those that are left is new, and stands once

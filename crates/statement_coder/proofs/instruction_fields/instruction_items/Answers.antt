@@ -1,6 +1,5 @@
 use Rattle.std.proofs.Common.{◌∙◌}
-use Rattle.statement_coder.proofs.ShapeLaws.{central-items, peripheral-items}
-use Rattle.statement_coder.specs.Joins.Items.{deck_with}
+use Rattle.statement_coder.{proofs.ShapeLaws.{central-items, peripheral-items}, specs.Joins.Items.deck_with}
 use Rattle.statement_coder.proofs.instruction_fields.instruction_items.Goals as goal
 
 pub returns-clause-central : goal.returns-clause-central

@@ -1,12 +1,6 @@
-use Rattle.std.proofs.Common.{◌≡◌, ◌∙◌, List, [], ◌++◌, ap, sym, append_assoc}
-use Rattle.std.proofs.lemmas.List.Concat.{flat_map-append}
-use Rattle.definitions.specs.Letters.{in_order}
-use Rattle.definitions.specs.StatementItems.{Item}
-use Rattle.definitions.specs.declared.letter.Letter.{Letter}
-use Rattle.statement_coder.specs.Joins.Items.{option_items}
-use Rattle.statement_coder.specs.Joins.FieldLetters.{field_letters}
-use Rattle.statement_coder.specs.Joins.LettersAs.{letters_as}
-use Rattle.statement_coder.proofs.NameLaws.{same_letters}
+use Rattle.std.proofs.{Common.{◌≡◌, ◌∙◌, List, [], ◌++◌, ap, sym, append_assoc}, lemmas.List.Concat.flat_map-append}
+use Rattle.definitions.specs.{Letters.in_order, StatementItems.Item, declared.letter.Letter.Letter}
+use Rattle.statement_coder.{specs.Joins.Items.option_items, specs.Joins.FieldLetters.field_letters, specs.Joins.LettersAs.letters_as, proofs.NameLaws.same_letters}
 use Rattle.statement_coder.proofs.item_letters.instruction_letters.Goals as goal
 
 pub returns : goal.returns

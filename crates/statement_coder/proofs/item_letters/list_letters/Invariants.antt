@@ -1,7 +1,6 @@
 use Rattle.std.proofs.Common.{◌≡◌, map, take}
 use Rattle.definitions.specs.Letters.{in_order}
-use Rattle.statement_coder.specs.Joins.Items.{item_as}
-use Rattle.statement_coder.specs.Joins.FieldLetters.{field_letters}
+use Rattle.statement_coder.specs.Joins.{Items.item_as, FieldLetters.field_letters}
 use Rattle.statement_coder.proofs.item_letters.list_letters.Given as goal
 
 -- the letters of the fields so far

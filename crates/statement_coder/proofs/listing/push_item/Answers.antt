@@ -1,12 +1,6 @@
-use Rattle.std.proofs.Common.{◌∙◌, ◌*◌, ◌++◌, ◌∷◌, [], map, ap, ap₂, arith}
-use Rattle.std.proofs.lemmas.List.{take_all}
-use Rattle.definitions.specs.Coding.{counted_item_bits, words_needed}
-use Rattle.definitions.specs.Kinds.{word_bits}
-use Rattle.definitions.specs.StatementItems.{known}
-use Rattle.definitions.specs.Words.{cut}
-use Rattle.statement_coder.specs.Joins.Items.{item_as}
-use Rattle.statement_coder.specs.Joins.WordItems.{known_words}
-use Rattle.statement_coder.proofs.ListLaws.{kept-trans, words_more, length-cut}
+use Rattle.std.proofs.{Common.{◌∙◌, ◌*◌, ◌++◌, ◌∷◌, [], map, ap, ap₂, arith}, lemmas.List.take_all}
+use Rattle.definitions.specs.{Coding.{counted_item_bits, words_needed}, Kinds.word_bits, StatementItems.known, Words.cut}
+use Rattle.statement_coder.{specs.Joins.Items.item_as, specs.Joins.WordItems.known_words, proofs.ListLaws.{kept-trans, words_more, length-cut}}
 use Rattle.statement_coder.proofs.listing.push_item.Goals as goal
 
 pub loop-index-preserved : goal.loop-index-preserved

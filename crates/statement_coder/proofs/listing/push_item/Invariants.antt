@@ -1,10 +1,6 @@
 use Rattle.std.proofs.Common.{◌≡◌, ◌*◌, ◌++◌, map, take}
-use Rattle.definitions.specs.Coding.{counted_item_bits, words_needed}
-use Rattle.definitions.specs.Kinds.{word_bits}
-use Rattle.definitions.specs.Words.{cut}
-use Rattle.statement_coder.specs.Joins.Items.{item_as}
-use Rattle.statement_coder.specs.Joins.CodedItems.{IsKept}
-use Rattle.statement_coder.specs.Joins.WordItems.{known_words}
+use Rattle.definitions.specs.{Coding.{counted_item_bits, words_needed}, Kinds.word_bits, Words.cut}
+use Rattle.statement_coder.specs.Joins.{Items.item_as, CodedItems.IsKept, WordItems.known_words}
 use Rattle.statement_coder.proofs.listing.push_item.Given as goal
 
 -- the words so far stand behind the list

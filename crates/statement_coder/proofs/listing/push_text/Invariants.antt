@@ -1,10 +1,6 @@
 use Rattle.std.proofs.Common.{◌≡◌, ◌++◌, map, take}
-use Rattle.definitions.specs.Forms.{characters_number}
-use Rattle.definitions.specs.Kinds.{word_bits}
-use Rattle.definitions.specs.Words.{cut}
-use Rattle.statement_coder.specs.Joins.Items.{item_as}
-use Rattle.statement_coder.specs.Joins.CodedItems.{IsKept}
-use Rattle.statement_coder.specs.Joins.WordItems.{known_words}
+use Rattle.definitions.specs.{Forms.characters_number, Kinds.word_bits, Words.cut}
+use Rattle.statement_coder.specs.Joins.{Items.item_as, CodedItems.IsKept, WordItems.known_words}
 use Rattle.statement_coder.proofs.listing.push_text.Given as goal
 
 -- the words so far stand behind the list

@@ -1,8 +1,6 @@
-use Rattle.std.proofs.Common.{◌≡◌, ◌∙◌, ◌+◌, ◌-◌, ◌*◌, length, take, drop, ap, sym, arith}
-use Rattle.std.proofs.lemmas.List.{length-take-le, length-drop}
+use Rattle.std.proofs.{Common.{◌≡◌, ◌∙◌, ◌+◌, ◌-◌, ◌*◌, length, take, drop, ap, sym, arith}, lemmas.List.{length-take-le, length-drop}}
 use Rattle.definitions.specs.Forms.{characters_number}
-use Rattle.expr_forms.proofs.ItemLaws.{characters_number-small}
-use Rattle.expr_forms.proofs.CodedLaws.{characters_number-more_from, code_or_zero}
+use Rattle.expr_forms.proofs.{ItemLaws.characters_number-small, CodedLaws.{characters_number-more_from, code_or_zero}}
 use Rattle.statement_coder.proofs.TextLaws.{within_words, few_places, word_of_text}
 use Rattle.statement_coder.proofs.listing.text_word.Goals as goal
 

@@ -1,12 +1,6 @@
 use Rattle.std.proofs.Common.{◌≡◌, ◌∙◌, ◌*◌, ◌/◌, ◌++◌, List, length, map, flat_map, ap, sym, subst, rules}
-use Rattle.definitions.specs.Kinds.{word_bits}
-use Rattle.definitions.specs.Operands.{Operand, Datum, BitField, WordsOperand, BitsOperand, TextOperand}
-use Rattle.definitions.specs.StatementItems.{Item, operand_items}
-use Rattle.statement_coder.specs.Joins.Items.{deck_with, item_as}
-use Rattle.statement_coder.specs.Joins.CodedItems.{AreTold}
-use Rattle.statement_coder.specs.Joins.Readings.{IsReading, IsWhole}
-use Rattle.statement_coder.specs.Joins.WordItems.{in_words}
-use Rattle.statement_coder.proofs.ToldLaws.{listed_told, text-words}
+use Rattle.definitions.specs.{Kinds.word_bits, Operands.{Operand, Datum, BitField, WordsOperand, BitsOperand, TextOperand}, StatementItems.{Item, operand_items}}
+use Rattle.statement_coder.{specs.Joins.Items.{deck_with, item_as}, specs.Joins.CodedItems.AreTold, specs.Joins.Readings.{IsReading, IsWhole}, specs.Joins.WordItems.in_words, proofs.ToldLaws.{listed_told, text-words}}
 use Rattle.statement_coder.proofs.operand_fields.operand_fields.Goals as goal
 
 pub returns-in_ok-push_data-in-Data-clause-told : goal.returns-in_ok-push_data-in-Data-clause-told

@@ -1,10 +1,7 @@
 use Rattle.std.proofs.Common.{◌∙◌, ℕ, List, map, drop, ap, subst}
 use Rattle.definitions.specs.Letters.{in_order}
-use Rattle.statement_coder.specs.Joins.Items.{item_as}
+use Rattle.statement_coder.{specs.Joins.Items.item_as, specs.Joins.CodedItems.AreTold, specs.Joins.FieldLetters.field_letters, proofs.ToldLaws.told-letters}
 use Rattle.statement_coder.specs.declared.items.Item as code
-use Rattle.statement_coder.specs.Joins.CodedItems.{AreTold}
-use Rattle.statement_coder.specs.Joins.FieldLetters.{field_letters}
-use Rattle.statement_coder.proofs.ToldLaws.{told-letters}
 use Rattle.statement_coder.proofs.operand_fields.told_letters.Goals as goal
 
 pub returns-in-Listed : goal.returns-in-Listed

@@ -1,6 +1,5 @@
 use Rattle.std.proofs.Common.{◌≡◌, ℕ, List, false, length, codes, refl, sym, arith}
-use Rattle.definitions.specs.Pieces.{pieces_of, subfields_of}
-use Rattle.definitions.specs.Places.{asks_upper}
+use Rattle.definitions.specs.{Pieces.{pieces_of, subfields_of}, Places.asks_upper}
 use Rattle.operations.proofs.SettingLaws.{other_length}
 use Rattle.statement_coder.proofs.placing.asks_upper.Goals as goal
 

@@ -1,5 +1,4 @@
-use Rattle.std.proofs.Common.{◌∙◌, ap, sym}
-use Rattle.std.specs.Prelude.{is_some}
+use Rattle.std.{proofs.Common.{◌∙◌, ap, sym}, specs.Prelude.is_some}
 use Rattle.definitions.specs.Operands.{central_operand}
 use Rattle.operations.proofs.UnreadLaws.{field_unread-none}
 use Rattle.statement_coder.proofs.readings.read_central.Goals as goal

@@ -1,8 +1,6 @@
-use Rattle.std.proofs.Common.{sym, subst}
-use Rattle.std.specs.List.{AllByRecursion}
+use Rattle.std.{proofs.Common.{sym, subst}, specs.List.AllByRecursion}
 use Rattle.definitions.specs.Pieces.{pieces_of, subfields_of}
-use Rattle.statement_coder.specs.Joins.Readings.{IsLawfulName}
-use Rattle.statement_coder.proofs.LawfulLaws.{names-lawful}
+use Rattle.statement_coder.{specs.Joins.Readings.IsLawfulName, proofs.LawfulLaws.names-lawful}
 use Rattle.statement_coder.proofs.readings.read_operand.Goals as goal
 
 pub returns-in-Entry-clause-lawful : goal.returns-in-Entry-clause-lawful

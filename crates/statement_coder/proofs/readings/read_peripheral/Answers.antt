@@ -1,5 +1,4 @@
-use Rattle.definitions.specs.Pieces.{pieces_of, subfields_of}
-use Rattle.definitions.specs.PeripheralTable.{peripheral_row}
+use Rattle.definitions.specs.{Pieces.{pieces_of, subfields_of}, PeripheralTable.peripheral_row}
 use Rattle.statement_coder.proofs.PeripheralLaws.{peripheral-bad}
 use Rattle.statement_coder.proofs.readings.read_peripheral.Goals as goal
 

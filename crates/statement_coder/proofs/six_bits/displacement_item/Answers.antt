@@ -1,7 +1,6 @@
 use Rattle.std.proofs.Common.{◌∙◌, ap, sym}
 use Rattle.definitions.specs.Forms.{Names}
-use Rattle.statement_coder.specs.Joins.Items.{deck_with}
-use Rattle.statement_coder.proofs.SixBitLaws.{displaced}
+use Rattle.statement_coder.{specs.Joins.Items.deck_with, proofs.SixBitLaws.displaced}
 use Rattle.statement_coder.proofs.six_bits.displacement_item.Goals as goal
 
 pub returns-else-is_displacement : goal.returns-else-is_displacement

@@ -1,6 +1,5 @@
 use Rattle.std.proofs.Common.{◌∙◌, Ok, ap, sym}
-use Rattle.definitions.specs.Coding.{counted_item_in}
-use Rattle.definitions.specs.StatementItems.{counted_item_value}
+use Rattle.definitions.specs.{Coding.counted_item_in, StatementItems.counted_item_value}
 use Rattle.statement_coder.proofs.SixBitLaws.{counted_item_in-six}
 use Rattle.statement_coder.proofs.six_bits.item_value.Goals as goal
 

@@ -1,8 +1,5 @@
 use Rattle.std.proofs.Common.{◌∙◌, List, [], ◌∷◌, ◌++◌, ap, if◌then◌else◌}
-use Rattle.definitions.specs.Letters.{in_order}
-use Rattle.definitions.specs.Settling.{letter_where, location_letters, is_refused}
-use Rattle.definitions.specs.Laws.States.{names_of_blocks}
-use Rattle.definitions.specs.declared.letter.Letter.{Letter}
+use Rattle.definitions.specs.{Letters.in_order, Settling.{letter_where, location_letters, is_refused}, Laws.States.names_of_blocks, declared.letter.Letter.Letter}
 use Rattle.definitions.specs.declared.letter.Letter.TheVariants as letter
 use Rattle.operations.specs.Joins.OperationsAs.{operation_as}
 use Rattle.statement_coder.specs.Joins.LettersAs.{letters_as}

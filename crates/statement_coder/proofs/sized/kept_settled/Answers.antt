@@ -1,5 +1,4 @@
-use Rattle.std.proofs.Common.{sym, subst}
-use Rattle.std.proofs.lemmas.Result.{IfOk-weaker}
+use Rattle.std.proofs.{Common.{sym, subst}, lemmas.Result.IfOk-weaker}
 use Rattle.definitions.specs.Laws.States.{seen_from}
 use Rattle.statement_coder.specs.Joins.Sizings.{read_as, settled_read, IsSizing}
 use Rattle.statement_coder.proofs.sized.kept_settled.Goals as goal

@@ -1,9 +1,7 @@
 use Rattle.std.proofs.Common.{sym, subst}
-use Rattle.definitions.specs.Laws.States.{seen_from}
-use Rattle.definitions.specs.Operands.{operand_of}
+use Rattle.definitions.specs.{Laws.States.seen_from, Operands.operand_of}
 use Rattle.operations.specs.Joins.OperationsAs.{operation_as}
-use Rattle.statement_coder.specs.Joins.Readings.{IsReading}
-use Rattle.statement_coder.proofs.ReadLaws.{settled-sizing}
+use Rattle.statement_coder.{specs.Joins.Readings.IsReading, proofs.ReadLaws.settled-sizing}
 use Rattle.statement_coder.proofs.sized.size.Goals as goal
 
 pub returns-clause-sizing : goal.returns-clause-sizing

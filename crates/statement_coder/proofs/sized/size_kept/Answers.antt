@@ -1,5 +1,4 @@
-use Rattle.std.proofs.Common.{true≢false, ap, sym, subst, ◌∙◌}
-use Rattle.std.specs.Prelude.{is_some}
+use Rattle.std.{proofs.Common.{true≢false, ap, sym, subst, ◌∙◌}, specs.Prelude.is_some}
 use Rattle.definitions.specs.Laws.States.{seen_from}
 use Rattle.statement_coder.specs.Joins.Sizings.{read_as, settled_read, IsSizing}
 use Rattle.statement_coder.proofs.sized.size_kept.Goals as goal

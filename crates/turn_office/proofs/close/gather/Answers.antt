@@ -1,6 +1,5 @@
 use Rattle.std.proofs.Common.{rules, ap, ◌∙◌}
-use Rattle.turn_office.proofs.Seating.{takes_in}
-use Rattle.turn_office.proofs.Gathering.{of_last, begins, goes_on, has_all}
+use Rattle.turn_office.proofs.{Seating.takes_in, Gathering.{of_last, begins, goes_on, has_all}}
 use Rattle.turn_office.proofs.close.gather.Goals as goal
 
 pub loop-seat-init : goal.loop-seat-init

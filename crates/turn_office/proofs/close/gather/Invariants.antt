@@ -1,7 +1,5 @@
 use Rattle.std.proofs.Common.{◌≡◌, map}
-use Rattle.turn_office.specs.Boards.{chair_of}
-use Rattle.turn_office.specs.Seats.{AreOf}
-use Rattle.turn_office.proofs.Gathering.{Gathers}
+use Rattle.turn_office.{specs.Boards.chair_of, specs.Seats.AreOf, proofs.Gathering.Gathers}
 use Rattle.turn_office.proofs.close.gather.Given as goal
 
 -- the keeper has the numbers of all seats but those that are left in the list

@@ -1,7 +1,4 @@
-use Rattle.std.proofs.Common.{rules, arith, tests, ◌≡◌, ℕ, ◌&&◌, ◌==◌, Bool, refl, sym, ap, ◌∙◌, eq-eqb, length}
-use Rattle.std.specs.List.{list_all, list_any, range_with_len}
-use Rattle.std.proofs.lemmas.Iterator.{YieldsList-from_range}
-use Rattle.std.proofs.lemmas.Iterator.Search.{all_from_yields_List}
+use Rattle.std.{proofs.Common.{rules, arith, tests, ◌≡◌, ℕ, ◌&&◌, ◌==◌, Bool, refl, sym, ap, ◌∙◌, eq-eqb, length}, specs.List.{list_all, list_any, range_with_len}, proofs.lemmas.Iterator.YieldsList-from_range, proofs.lemmas.Iterator.Search.all_from_yields_List}
 use Rattle.turn_office.proofs.close.is_whole.Goals as goal
 
 pub returns-then-list-seats : goal.returns-then-list-seats

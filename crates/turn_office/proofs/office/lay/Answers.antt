@@ -1,7 +1,6 @@
 use Rattle.std.proofs.Common.{◌≡◌, [], ◌∷◌, ◌++◌, replicate, Some, sym, ◌∙◌, subst}
 use Rattle.atomic_table.specs.Table.{opening}
-use Rattle.turn_office.specs.Rule.{Kept, undealt}
-use Rattle.turn_office.proofs.Seating.{opens}
+use Rattle.turn_office.{specs.Rule.{Kept, undealt}, proofs.Seating.opens}
 use Rattle.turn_office.proofs.office.lay.Goals as goal
 
 pub new-requires : goal.new-requires

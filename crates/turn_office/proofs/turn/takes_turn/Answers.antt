@@ -1,6 +1,5 @@
 use Rattle.std.proofs.Common.{rules, ◌∙◌, sym}
-use Rattle.turn_office.proofs.Stages.{by_test}
-use Rattle.turn_office.proofs.Steps.{looks}
+use Rattle.turn_office.proofs.{Stages.by_test, Steps.looks}
 use Rattle.turn_office.proofs.turn.takes_turn.Goals as goal
 
 pub load-serving-requires : goal.load-serving-requires

@@ -1,10 +1,6 @@
-use Rattle.std.proofs.Common.{◌∙◌, ℕ, List, Option, Some, ap}
-use Rattle.std.specs.Map.{lookup}
-use Rattle.std.specs.Option.{option_eq, option_map_or}
-use Rattle.definitions.specs.Characters.{same_text}
-use Rattle.definitions.specs.Lengths.{BlockRow}
-use Rattle.use_blocks.specs.Joins.KeyedRows.{literals_base}
-use Rattle.use_blocks.proofs.RowLaws.{base-found}
+use Rattle.std.{proofs.Common.{◌∙◌, ℕ, List, Option, Some, ap}, specs.Map.lookup, specs.Option.{option_eq, option_map_or}}
+use Rattle.definitions.specs.{Characters.same_text, Lengths.BlockRow}
+use Rattle.use_blocks.{specs.Joins.KeyedRows.literals_base, proofs.RowLaws.base-found}
 use Rattle.use_blocks.proofs.bases.base_found.Goals as goal
 
 pub returns-in-Some : goal.returns-in-Some

@@ -1,11 +1,7 @@
-use Rattle.std.proofs.Common.{◌≡◌, ◌+◌, ◌++◌, ◌∷◌, ◌∙◌, ℕ, List, Some, length, ap, ap₂, sym, arith}
-use Rattle.std.specs.Option.{option_eq}
+use Rattle.std.{proofs.Common.{◌≡◌, ◌+◌, ◌++◌, ◌∷◌, ◌∙◌, ℕ, List, Some, length, ap, ap₂, sym, arith}, specs.Option.option_eq}
 use Rattle.indexmap.specs.IndexMap.{insert_entry}
-use Rattle.definitions.specs.Characters.{same_text}
-use Rattle.definitions.specs.Lengths.{BlockLength, BlockRow, local_words, placed_row, rows_from, total_length}
-use Rattle.use_blocks.specs.Joins.BlockLengths.{lengths_shown}
-use Rattle.use_blocks.specs.Joins.KeyedRows.{keyed_rows}
-use Rattle.use_blocks.proofs.RowLaws.{placed-more}
+use Rattle.definitions.specs.{Characters.same_text, Lengths.{BlockLength, BlockRow, local_words, placed_row, rows_from, total_length}}
+use Rattle.use_blocks.{specs.Joins.BlockLengths.lengths_shown, specs.Joins.KeyedRows.keyed_rows, proofs.RowLaws.placed-more}
 use Rattle.use_blocks.proofs.bases.place_blocks.Goals as goal
 
 pub loop-name-preserved : goal.loop-name-preserved

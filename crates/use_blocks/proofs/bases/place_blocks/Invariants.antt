@@ -1,8 +1,7 @@
 -- The rows so far, and behind them those of the blocks that are left.
 use Rattle.std.proofs.Common.{◌≡◌, ◌+◌, ◌*◌, ◌^◌, ◌≤◌, ◌++◌, length}
 use Rattle.definitions.specs.Lengths.{rows_from, total_length}
-use Rattle.use_blocks.specs.Joins.BlockLengths.{lengths_shown}
-use Rattle.use_blocks.specs.Joins.KeyedRows.{keyed_rows}
+use Rattle.use_blocks.specs.Joins.{BlockLengths.lengths_shown, KeyedRows.keyed_rows}
 use Rattle.use_blocks.proofs.bases.place_blocks.Given as goal
 
 abbrev pub invariant-loop-name : goal.invariant-loop-name

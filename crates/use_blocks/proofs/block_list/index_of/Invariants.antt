@@ -1,5 +1,4 @@
-use Rattle.std.proofs.Common.{◌≡◌, ◌+◌, drop}
-use Rattle.std.specs.List.{prefix_len}
+use Rattle.std.{proofs.Common.{◌≡◌, ◌+◌, drop}, specs.List.prefix_len}
 use Rattle.use_blocks.specs.Joins.StateInside.{is_other}
 use Rattle.use_blocks.proofs.block_list.index_of.Given as goal
 

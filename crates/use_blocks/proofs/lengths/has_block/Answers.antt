@@ -1,6 +1,4 @@
-use Rattle.std.proofs.Common.{◌∙◌, ℕ, List, ap}
-use Rattle.std.specs.Prelude.{is_some}
-use Rattle.std.specs.Map.{lookup}
+use Rattle.std.{proofs.Common.{◌∙◌, ℕ, List, ap}, specs.Prelude.is_some, specs.Map.lookup}
 use Rattle.definitions.specs.Characters.{same_text}
 use Rattle.use_blocks.proofs.ReachLaws.{has_name-shown}
 use Rattle.use_blocks.proofs.lengths.has_block.Goals as goal

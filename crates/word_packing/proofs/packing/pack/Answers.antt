@@ -1,6 +1,5 @@
 use Rattle.std.proofs.Common.{◌≡◌, ◌*◌, ◌+◌, ◌/◌, length, ap, ◌∙◌, arith}
-use Rattle.word_packing.specs.Packing.{firsts, regrouped_at, unpacked}
-use Rattle.word_packing.proofs.RoundTrip.{unpacked-packed}
+use Rattle.word_packing.{specs.Packing.{firsts, regrouped_at, unpacked}, proofs.RoundTrip.unpacked-packed}
 use Rattle.word_packing.proofs.packing.pack.Goals as goal
 
 pub returns-clause-back : goal.returns-clause-back

@@ -1,6 +1,5 @@
 use Rattle.std.proofs.Common.{ℕ, List, sym, subst}
-use Rattle.word_packing.specs.Packing.{Fit}
-use Rattle.word_packing.proofs.RoundTrip.{unpacked-fit}
+use Rattle.word_packing.{specs.Packing.Fit, proofs.RoundTrip.unpacked-fit}
 use Rattle.word_packing.proofs.packing.unpack.Goals as goal
 
 pub returns-clause-fit : goal.returns-clause-fit

@@ -1,5 +1,4 @@
-use Rattle.std.proofs.Common.{◌≡◌, ◌<◌, ◌≤◌, [], length, vec_len, ◌-◌}
-use Rattle.std.specs.Io.KnownBytes.{Consumes}
+use Rattle.std.{proofs.Common.{◌≡◌, ◌<◌, ◌≤◌, [], length, vec_len, ◌-◌}, specs.Io.KnownBytes.Consumes}
 use Rattle.asm_main.specs.Joins.Chains.{HasEnded, left_of}
 use Rattle.asm_main.proofs.chained.ChainedRead.read.Given as goal
 

@@ -1,7 +1,5 @@
-use Rattle.std.proofs.Common.{rules, arith, ◌<◌, length, sym, subst}
-use Rattle.std.specs.Io.KnownBytes.{Consumes}
-use Rattle.asm_main.specs.Joins.Filters.{filtered_left}
-use Rattle.asm_main.proofs.FilterSteps.{given-one, take-set}
+use Rattle.std.{proofs.Common.{rules, arith, ◌<◌, length, sym, subst}, specs.Io.KnownBytes.Consumes}
+use Rattle.asm_main.{specs.Joins.Filters.filtered_left, proofs.FilterSteps.{given-one, take-set}}
 use Rattle.asm_main.proofs.filtered.FilteredRead.read.Goals as goal
 
 pub returns-in-Some-clause-bytes : goal.returns-in-Some-clause-bytes

@@ -1,11 +1,6 @@
-use Rattle.std.proofs.Common.{◌≡◌, ℕ, List, [], ◌∷◌, ◌++◌, length, take, refl, ap, sym, ◌∙◌, arith}
-use Rattle.std.proofs.lemmas.List.{take_at}
-use Rattle.definitions.specs.Cards.{padded}
-use Rattle.definitions.specs.Fields.{fields_of}
-use Rattle.cards.specs.Joins.CardParts.{parts_as}
-use Rattle.cards.specs.Joins.Columns.{IsPadded}
-use Rattle.cards.specs.Joins.FieldParts.{fields_at}
-use Rattle.cards.proofs.ColumnSteps.{IsPadded-copied, padded-shorter}
+use Rattle.std.proofs.{Common.{◌≡◌, ℕ, List, [], ◌∷◌, ◌++◌, length, take, refl, ap, sym, ◌∙◌, arith}, lemmas.List.take_at}
+use Rattle.definitions.specs.{Cards.padded, Fields.fields_of}
+use Rattle.cards.{specs.Joins.CardParts.parts_as, specs.Joins.Columns.IsPadded, specs.Joins.FieldParts.fields_at, proofs.ColumnSteps.{IsPadded-copied, padded-shorter}}
 use Rattle.cards.proofs.card.Card.of_columns.Goals as goal
 
 -- the columns copied are the card

@@ -1,9 +1,6 @@
 use Rattle.std.proofs.Common.{◌≡◌, ℕ, List, [], ◌∷◌, ◌∙◌, ap, sym, take, arith}
-use Rattle.definitions.specs.Cards.{padded}
-use Rattle.definitions.specs.Fields.{fields_of}
-use Rattle.cards.specs.Joins.CardParts.{parts_as}
-use Rattle.cards.specs.Joins.FieldParts.{fields_at}
-use Rattle.cards.proofs.ColumnSteps.{padded-shorter}
+use Rattle.definitions.specs.{Cards.padded, Fields.fields_of}
+use Rattle.cards.{specs.Joins.CardParts.parts_as, specs.Joins.FieldParts.fields_at, proofs.ColumnSteps.padded-shorter}
 use Rattle.cards.proofs.card.Card.parts.Goals as goal
 
 pub returns-clause-fields : goal.returns-clause-fields

@@ -1,6 +1,5 @@
 use Rattle.std.proofs.Common.{◌≡◌, ℕ, List, length, ap, sym, subst, ◌∙◌, arith}
-use Rattle.cards.specs.Joins.FieldParts.{AreWithin, fields_at}
-use Rattle.cards.proofs.ColumnLaws.{length-padded}
+use Rattle.cards.{specs.Joins.FieldParts.{AreWithin, fields_at}, proofs.ColumnLaws.length-padded}
 use Rattle.cards.proofs.statement_fields.Fields.of_card.Goals as goal
 
 pub at-requires-clause-short : goal.at-requires-clause-short

@@ -1,7 +1,6 @@
 use Rattle.std.proofs.Common.{◌≡◌, ℕ, List, length, ap, ◌∙◌, arith}
 use Rattle.definitions.specs.Fields.{Fields}
-use Rattle.cards.specs.Joins.FieldParts.{fields_at}
-use Rattle.cards.proofs.ColumnLaws.{length-padded}
+use Rattle.cards.{specs.Joins.FieldParts.fields_at, proofs.ColumnLaws.length-padded}
 use Rattle.cards.proofs.statement_fields.Fields.operation_of_card.Goals as goal
 
 pub part_text-requires : goal.part_text-requires

@@ -1,5 +1,4 @@
-use Rattle.std.proofs.Common.{◌∙◌, [], ◌∷◌, ap, refl, drop, length, length-append, arith}
-use Rattle.std.proofs.lemmas.List.{get_or_read}
+use Rattle.std.proofs.{Common.{◌∙◌, [], ◌∷◌, ap, refl, drop, length, length-append, arith}, lemmas.List.get_or_read}
 use Rattle.cards.proofs.ColumnLaws.{comma_columns, length-padded, text_of-first, flat_map-next}
 use Rattle.cards.proofs.statement_room.StatementRoom.join.Goals as goal
 

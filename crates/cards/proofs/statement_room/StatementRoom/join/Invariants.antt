@@ -1,5 +1,4 @@
-use Rattle.std.proofs.Common.{◌≡◌, ◌+◌, ◌*◌, ◌∷◌, ◌++◌, length, drop}
-use Rattle.std.specs.List.{flat_map}
+use Rattle.std.{proofs.Common.{◌≡◌, ◌+◌, ◌*◌, ◌∷◌, ◌++◌, length, drop}, specs.List.flat_map}
 use Rattle.definitions.specs.Statements.{text_of}
 use Rattle.cards.proofs.ColumnLaws.{comma_columns}
 use Rattle.cards.proofs.statement_room.StatementRoom.join.Given as goal

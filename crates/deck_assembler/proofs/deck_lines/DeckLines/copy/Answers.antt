@@ -1,10 +1,7 @@
 use Rattle.std.proofs.Common.{◌∙◌, ◌≤◌, List, Some, map, reverse, length, sym, subst}
-use Rattle.definitions.specs.Objects.{Shown, coded_of, shown_of}
-use Rattle.definitions.specs.Settling.{settle, settled_all}
+use Rattle.definitions.specs.{Objects.{Shown, coded_of, shown_of}, Settling.{settle, settled_all}}
 use Rattle.use_blocks.proofs.SizeLaws.{rows-few}
-use Rattle.deck_assembler.specs.Joins.Walks.{AreLinedAs, context_in, whole_of}
-use Rattle.deck_assembler.specs.declared.deck_lines.DeckLines.{DeckLines}
-use Rattle.deck_assembler.proofs.WalkLaws.{block-named, lined-step, reverse-step, stood-step}
+use Rattle.deck_assembler.{specs.Joins.Walks.{AreLinedAs, context_in, whole_of}, specs.declared.deck_lines.DeckLines.DeckLines, proofs.WalkLaws.{block-named, lined-step, reverse-step, stood-step}}
 use Rattle.deck_assembler.proofs.deck_lines.DeckLines.copy.Goals as goal
 
 pub returns-clause-lined : goal.returns-clause-lined

@@ -1,11 +1,6 @@
-use Rattle.std.proofs.Common.{refl}
-use Rattle.std.proofs.lemmas.Result.{on_ok_weaker}
-use Rattle.definitions.specs.Settled.{Settled}
-use Rattle.definitions.specs.Settling.{settle, settled_all}
-use Rattle.definitions.specs.StatementItems.{Context}
-use Rattle.deck_assembler.specs.Joins.Walks.{context_in, whole_of}
-use Rattle.deck_assembler.proofs.FormerLaws.{still-letters, still-coded}
-use Rattle.deck_assembler.proofs.SameLaws.{never-rebound}
+use Rattle.std.proofs.{Common.refl, lemmas.Result.on_ok_weaker}
+use Rattle.definitions.specs.{Settled.Settled, Settling.{settle, settled_all}, StatementItems.Context}
+use Rattle.deck_assembler.{specs.Joins.Walks.{context_in, whole_of}, proofs.FormerLaws.{still-letters, still-coded}, proofs.SameLaws.never-rebound}
 use Rattle.deck_assembler.proofs.deck_lines.DeckLines.copy_same.Goals as goal
 
 pub returns-clause-lined : goal.returns-clause-lined

@@ -1,14 +1,6 @@
-use Rattle.std.proofs.Common.{◌≡◌, ◌∙◌, Option, Some, true≢false, refl, sym, subst}
-use Rattle.std.proofs.lemmas.Result.{on_ok_weaker}
-use Rattle.definitions.specs.Settled.{Settled}
-use Rattle.definitions.specs.Settling.{settle, settled_all}
-use Rattle.definitions.specs.StatementItems.{Context}
-use Rattle.deck_assembler.specs.Joins.FormerLines.{WasLine, WasLineIfAny}
-use Rattle.deck_assembler.specs.Joins.Rebindings.{AreBindings}
-use Rattle.deck_assembler.specs.Joins.Walks.{context_in, whole_of}
-use Rattle.deck_assembler.specs.declared.former_lines.FormerLine.{FormerLine}
-use Rattle.deck_assembler.proofs.FormerLaws.{still-letters, still-coded}
-use Rattle.deck_assembler.proofs.ResultLaws.{on_ok_any}
+use Rattle.std.proofs.{Common.{◌≡◌, ◌∙◌, Option, Some, true≢false, refl, sym, subst}, lemmas.Result.on_ok_weaker}
+use Rattle.definitions.specs.{Settled.Settled, Settling.{settle, settled_all}, StatementItems.Context}
+use Rattle.deck_assembler.{specs.Joins.FormerLines.{WasLine, WasLineIfAny}, specs.Joins.Rebindings.AreBindings, specs.Joins.Walks.{context_in, whole_of}, specs.declared.former_lines.FormerLine.FormerLine, proofs.FormerLaws.{still-letters, still-coded}, proofs.ResultLaws.on_ok_any}
 use Rattle.deck_assembler.proofs.deck_lines.DeckLines.put.Goals as goal
 
 pub returns-in-None-clause-lined : goal.returns-in-None-clause-lined

@@ -1,16 +1,8 @@
 use Rattle.std.proofs.Common.{◌∙◌, List, subst}
-use Rattle.definitions.specs.Cards.{Card}
-use Rattle.definitions.specs.Settling.{settle, settled_all}
-use Rattle.definitions.specs.declared.deck_kind.DeckKind.{DeckKind}
-use Rattle.statement_coder.specs.Joins.StatementsRead.{IsRead}
-use Rattle.statement_coder.proofs.CodingLaws.{read_again}
-use Rattle.definitions.specs.Operands.{operand_of}
+use Rattle.definitions.specs.{Cards.Card, Settling.{settle, settled_all}, declared.deck_kind.DeckKind.DeckKind, Operands.operand_of}
+use Rattle.statement_coder.{specs.Joins.StatementsRead.IsRead, proofs.CodingLaws.read_again, specs.Joins.Readings.IsReading}
 use Rattle.operations.specs.Joins.OperationsAs.{operation_as}
-use Rattle.statement_coder.specs.Joins.Readings.{IsReading}
-use Rattle.deck_assembler.specs.Joins.Walks.{whole_of}
-use Rattle.deck_assembler.proofs.FormerLaws.{beside-step}
-use Rattle.deck_assembler.proofs.ResultLaws.{on_ok_both, on_ok_one}
-use Rattle.deck_assembler.proofs.WalkLaws.{settle-codable, stood-step}
+use Rattle.deck_assembler.{specs.Joins.Walks.whole_of, proofs.FormerLaws.beside-step, proofs.ResultLaws.{on_ok_both, on_ok_one}, proofs.WalkLaws.{settle-codable, stood-step}}
 use Rattle.deck_assembler.proofs.deck_walk.Making.add_again.Goals as goal
 
 pub returns-clause-walked : goal.returns-clause-walked

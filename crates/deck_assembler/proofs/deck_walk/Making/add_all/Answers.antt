@@ -1,13 +1,5 @@
 use Rattle.std.proofs.Common.{◌∙◌, ◌+◌, List, ◌++◌, drop, refl, sym, subst, arith}
-use Rattle.deck_assembler.specs.Joins.FormerLines.{IsWalkedBeside}
-use Rattle.deck_assembler.specs.Joins.Walks.{whole_of}
-use Rattle.deck_assembler.specs.declared.sized_statement.SizedStatement.{SizedStatement}
-use Rattle.deck_assembler.specs.Joins.DueCodes.{IsWalkedAnew, IsWalkedDue}
-use Rattle.deck_assembler.specs.Joins.Rebindings.{AreBindings}
-use Rattle.deck_assembler.proofs.DueCodeLaws.{due-all, due-step}
-use Rattle.deck_assembler.proofs.ReboundLaws.{anew-step, line-bound}
-use Rattle.deck_assembler.proofs.WalkLaws.{stood-step}
-use Rattle.deck_assembler.proofs.FormerLaws.{none-left, item-split, all-dropped}
+use Rattle.deck_assembler.{specs.Joins.FormerLines.IsWalkedBeside, specs.Joins.Walks.whole_of, specs.declared.sized_statement.SizedStatement.SizedStatement, specs.Joins.DueCodes.{IsWalkedAnew, IsWalkedDue}, specs.Joins.Rebindings.AreBindings, proofs.DueCodeLaws.{due-all, due-step}, proofs.ReboundLaws.{anew-step, line-bound}, proofs.WalkLaws.stood-step, proofs.FormerLaws.{none-left, item-split, all-dropped}}
 use Rattle.deck_assembler.proofs.deck_walk.Making.add_all.Goals as goal
 
 pub loop-sized-preserved : goal.loop-sized-preserved

@@ -1,12 +1,8 @@
 use Rattle.std.proofs.Common.{◌≡◌, ℕ, ◌≤◌, ◌+◌, ◌++◌, List, drop}
-use Rattle.definitions.specs.StatementItems.{Context}
-use Rattle.definitions.specs.Statements.{Statement}
+use Rattle.definitions.specs.{StatementItems.Context, Statements.Statement}
 use Rattle.statement_coder.specs.Meters.{RisesBy}
 use Rattle.deck_assembler.specs.declared.sized_statement.SizedStatement as code
-use Rattle.deck_assembler.specs.Joins.Walks.{IsWhole, whole_of}
-use Rattle.deck_assembler.specs.Joins.DueCodes.{CodePlan, IsPlanned, IsWalkedAnew, IsWalkedDue}
-use Rattle.deck_assembler.specs.Joins.FormerLines.{IsBare, IsWalkedBeside}
-use Rattle.deck_assembler.specs.Joins.Rebindings.{AreBindings}
+use Rattle.deck_assembler.specs.Joins.{Walks.{IsWhole, whole_of}, DueCodes.{CodePlan, IsPlanned, IsWalkedAnew, IsWalkedDue}, FormerLines.{IsBare, IsWalkedBeside}, Rebindings.AreBindings}
 use Rattle.deck_assembler.proofs.deck_walk.Making.add_all.Given as goal
 
 -- the statements so far are behind, each coded once at most

@@ -1,14 +1,5 @@
 use Rattle.std.proofs.Common.{◌∙◌, ◌+◌, List, [], ◌++◌, length, drop, ap, sym, subst, arith}
-use Rattle.deck_assembler.specs.Joins.DeckParts.{DeckPiece, sized_in}
-use Rattle.deck_assembler.specs.Joins.FormerLines.{IsWalkedBeside}
-use Rattle.deck_assembler.specs.Joins.Walks.{whole_of}
-use Rattle.deck_assembler.specs.declared.sized_statement.SizedStatement.{SizedStatement}
-use Rattle.deck_assembler.specs.Joins.DueCodes.{IsWalkedAnew, IsWalkedDue}
-use Rattle.deck_assembler.specs.Joins.Rebindings.{AreBindings}
-use Rattle.deck_assembler.proofs.DueCodeLaws.{due-all}
-use Rattle.deck_assembler.proofs.ReboundLaws.{anew-ends}
-use Rattle.deck_assembler.proofs.FormerLaws.{item-split, all-dropped}
-use Rattle.deck_assembler.proofs.PieceCounts.{pieces-within, pieces-more}
+use Rattle.deck_assembler.{specs.Joins.DeckParts.{DeckPiece, sized_in}, specs.Joins.FormerLines.IsWalkedBeside, specs.Joins.Walks.whole_of, specs.declared.sized_statement.SizedStatement.SizedStatement, specs.Joins.DueCodes.{IsWalkedAnew, IsWalkedDue}, specs.Joins.Rebindings.AreBindings, proofs.DueCodeLaws.due-all, proofs.ReboundLaws.anew-ends, proofs.FormerLaws.{item-split, all-dropped}, proofs.PieceCounts.{pieces-within, pieces-more}}
 use Rattle.deck_assembler.proofs.deck_walk.Making.add_pieces.Goals as goal
 
 pub returns-in_err-add_all-clause-coded : goal.returns-in_err-add_all-clause-coded

@@ -1,10 +1,6 @@
 use Rattle.std.proofs.Common.{◌∙◌, ap₂, sym}
 use Rattle.definitions.specs.Settling.{settle, settled_all}
-use Rattle.deck_assembler.specs.Joins.SharedNames.{enters}
-use Rattle.deck_assembler.specs.Joins.Walks.{whole_of}
-use Rattle.deck_assembler.proofs.FormerLaws.{beside-step}
-use Rattle.deck_assembler.proofs.ResultLaws.{on_ok_both, on_ok_one}
-use Rattle.deck_assembler.proofs.WalkLaws.{silent-noted, stood-step}
+use Rattle.deck_assembler.{specs.Joins.SharedNames.enters, specs.Joins.Walks.whole_of, proofs.FormerLaws.beside-step, proofs.ResultLaws.{on_ok_both, on_ok_one}, proofs.WalkLaws.{silent-noted, stood-step}}
 use Rattle.deck_assembler.proofs.deck_walk.Making.add_read.Goals as goal
 
 pub returns-in-Some-clause-walked : goal.returns-in-Some-clause-walked

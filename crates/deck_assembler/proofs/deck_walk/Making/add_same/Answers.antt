@@ -1,14 +1,6 @@
-use Rattle.std.proofs.Common.{◌∙◌, Option, true≢false, ap₂, sym, subst}
-use Rattle.std.specs.Prelude.{IfSome}
+use Rattle.std.{proofs.Common.{◌∙◌, Option, true≢false, ap₂, sym, subst}, specs.Prelude.IfSome}
 use Rattle.definitions.specs.Settling.{settle, settled_all}
-use Rattle.deck_assembler.specs.Joins.FormerLines.{MeanAsViewed, WasLineIfAny}
-use Rattle.deck_assembler.specs.Joins.SharedNames.{enters}
-use Rattle.deck_assembler.specs.Joins.Walks.{whole_of}
-use Rattle.deck_assembler.specs.declared.former_lines.FormerLine.{FormerLine}
-use Rattle.deck_assembler.proofs.FormerLaws.{beside-step}
-use Rattle.deck_assembler.proofs.ResultLaws.{on_ok_any, on_ok_both}
-use Rattle.deck_assembler.proofs.SameLaws.{never-rebound}
-use Rattle.deck_assembler.proofs.WalkLaws.{silent-noted, stood-step}
+use Rattle.deck_assembler.{specs.Joins.FormerLines.{MeanAsViewed, WasLineIfAny}, specs.Joins.SharedNames.enters, specs.Joins.Walks.whole_of, specs.declared.former_lines.FormerLine.FormerLine, proofs.FormerLaws.beside-step, proofs.ResultLaws.{on_ok_any, on_ok_both}, proofs.SameLaws.never-rebound, proofs.WalkLaws.{silent-noted, stood-step}}
 use Rattle.deck_assembler.proofs.deck_walk.Making.add_same.Goals as goal
 
 pub returns-else-enters-clause-walked : goal.returns-else-enters-clause-walked

@@ -1,6 +1,4 @@
-use Rattle.deck_assembler.specs.Joins.Walks.{whole_of}
-use Rattle.deck_assembler.proofs.FormerLaws.{beside-begin}
-use Rattle.deck_assembler.proofs.WalkLaws.{none-noted}
+use Rattle.deck_assembler.{specs.Joins.Walks.whole_of, proofs.FormerLaws.beside-begin, proofs.WalkLaws.none-noted}
 use Rattle.deck_assembler.proofs.deck_walk.Making.new.Goals as goal
 
 pub returns-clause-made : goal.returns-clause-made

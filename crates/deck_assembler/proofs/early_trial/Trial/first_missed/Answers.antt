@@ -1,11 +1,6 @@
 -- A piece more.
-use Rattle.std.proofs.Common.{◌≡◌, ◌∙◌, ◌+◌, ◌∷◌, ◌++◌, List, drop, refl, sym, ap, subst, arith, true≢false}
-use Rattle.std.proofs.lemmas.List.{drop_more, drop_all}
-use Rattle.deck_assembler.specs.Joins.Agreements.{AreAlike, AreTried}
-use Rattle.deck_assembler.specs.Joins.DeckParts.{DeckPiece, sized_in}
-use Rattle.deck_assembler.specs.declared.sized_statement.SizedStatement.{SizedStatement}
-use Rattle.deck_assembler.proofs.AlikeLaws.{pieces-next}
-use Rattle.deck_assembler.proofs.TrialLaws.{tried-more}
+use Rattle.std.proofs.{Common.{◌≡◌, ◌∙◌, ◌+◌, ◌∷◌, ◌++◌, List, drop, refl, sym, ap, subst, arith, true≢false}, lemmas.List.{drop_more, drop_all}}
+use Rattle.deck_assembler.{specs.Joins.Agreements.{AreAlike, AreTried}, specs.Joins.DeckParts.{DeckPiece, sized_in}, specs.declared.sized_statement.SizedStatement.SizedStatement, proofs.AlikeLaws.pieces-next, proofs.TrialLaws.tried-more}
 use Rattle.deck_assembler.proofs.early_trial.Trial.first_missed.Goals as goal
 
 pub loop-piece-preserved : goal.loop-piece-preserved

@@ -1,7 +1,5 @@
 use Rattle.std.proofs.Common.{List, ◌++◌, drop}
-use Rattle.deck_assembler.specs.Joins.Agreements.{AreAlike, AreTried}
-use Rattle.deck_assembler.specs.Joins.DeckParts.{sized_in}
-use Rattle.deck_assembler.specs.declared.sized_statement.SizedStatement.{SizedStatement}
+use Rattle.deck_assembler.specs.{Joins.Agreements.{AreAlike, AreTried}, Joins.DeckParts.sized_in, declared.sized_statement.SizedStatement.SizedStatement}
 use Rattle.deck_assembler.proofs.early_trial.Trial.first_missed.Given as goal
 
 -- the trial has passed the pieces so far

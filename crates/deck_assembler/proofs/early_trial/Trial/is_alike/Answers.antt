@@ -1,14 +1,9 @@
 -- What was kept of the next statement is what it is.
-use Rattle.std.proofs.Common.{◌≡◌, ◌∙◌, List, ℕ, Option, true≢false, sym, subst}
-use Rattle.std.specs.Prelude.{IfSome, MatchOption, ⊤}
+use Rattle.std.{proofs.Common.{◌≡◌, ◌∙◌, List, ℕ, Option, true≢false, sym, subst}, specs.Prelude.{IfSome, MatchOption, ⊤}}
 use Rattle.definitions.specs.Settling.{settle, settled_all}
 use Rattle.operations.specs.Joins.OperationsAs.{operation_as}
-use Rattle.statement_coder.specs.Joins.Readings.{IsReading}
-use Rattle.statement_coder.specs.declared.readings.Reading.{Reading}
-use Rattle.deck_assembler.specs.Joins.Agreements.{AreExternalsAlike}
-use Rattle.deck_assembler.specs.Joins.FirstSymbols.{symbol_in}
-use Rattle.deck_assembler.proofs.AlikeLaws.{alike-parts, operand-of, own-of}
-use Rattle.deck_assembler.proofs.TrialLaws.{both-alike}
+use Rattle.statement_coder.specs.{Joins.Readings.IsReading, declared.readings.Reading.Reading}
+use Rattle.deck_assembler.{specs.Joins.Agreements.AreExternalsAlike, specs.Joins.FirstSymbols.symbol_in, proofs.AlikeLaws.{alike-parts, operand-of, own-of}, proofs.TrialLaws.both-alike}
 use Rattle.deck_assembler.proofs.early_trial.Trial.is_alike.Goals as goal
 
 pub returns-clause-alike : goal.returns-clause-alike

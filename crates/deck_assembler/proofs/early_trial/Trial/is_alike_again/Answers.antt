@@ -1,15 +1,9 @@
 -- The cards of the next statement are read once more.
 use Rattle.std.proofs.Common.{◌∙◌, List, true≢false, sym, subst}
-use Rattle.definitions.specs.Cards.{Card}
-use Rattle.definitions.specs.Settling.{settle, settled_all}
+use Rattle.definitions.specs.{Cards.Card, Settling.{settle, settled_all}}
 use Rattle.operations.specs.Joins.OperationsAs.{operation_as}
-use Rattle.statement_coder.specs.Joins.Readings.{IsReading}
-use Rattle.statement_coder.specs.Joins.StatementsRead.{IsRead}
-use Rattle.deck_assembler.specs.Joins.Agreements.{AreExternalsAlike}
-use Rattle.deck_assembler.specs.Joins.FirstSymbols.{symbol_in}
-use Rattle.deck_assembler.proofs.AlikeLaws.{alike-parts, operand-of, own-of}
-use Rattle.deck_assembler.proofs.SizerSteps.{settled-operand}
-use Rattle.deck_assembler.proofs.TrialLaws.{both-alike}
+use Rattle.statement_coder.specs.Joins.{Readings.IsReading, StatementsRead.IsRead}
+use Rattle.deck_assembler.{specs.Joins.Agreements.AreExternalsAlike, specs.Joins.FirstSymbols.symbol_in, proofs.AlikeLaws.{alike-parts, operand-of, own-of}, proofs.SizerSteps.settled-operand, proofs.TrialLaws.both-alike}
 use Rattle.deck_assembler.proofs.early_trial.Trial.is_alike_again.Goals as goal
 
 pub returns-clause-alike : goal.returns-clause-alike

@@ -1,10 +1,6 @@
 -- A statement more.
-use Rattle.std.proofs.Common.{◌≡◌, ◌∙◌, ◌+◌, ◌∷◌, ◌++◌, List, drop, refl, sym, ap, subst, arith}
-use Rattle.std.proofs.lemmas.List.{drop_more, drop_all}
-use Rattle.deck_assembler.specs.Joins.Agreements.{AreAlike}
-use Rattle.deck_assembler.specs.declared.early_trial.Trial.{Trial}
-use Rattle.deck_assembler.specs.declared.sized_statement.SizedStatement.{SizedStatement}
-use Rattle.deck_assembler.proofs.AlikeLaws.{alike-step}
+use Rattle.std.proofs.{Common.{◌≡◌, ◌∙◌, ◌+◌, ◌∷◌, ◌++◌, List, drop, refl, sym, ap, subst, arith}, lemmas.List.{drop_more, drop_all}}
+use Rattle.deck_assembler.{specs.Joins.Agreements.AreAlike, specs.declared.early_trial.Trial.Trial, specs.declared.sized_statement.SizedStatement.SizedStatement, proofs.AlikeLaws.alike-step}
 use Rattle.deck_assembler.proofs.early_trial.Trial.pass_over.Goals as goal
 
 pub loop-sized-preserved : goal.loop-sized-preserved

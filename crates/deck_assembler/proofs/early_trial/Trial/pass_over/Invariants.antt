@@ -1,6 +1,5 @@
 use Rattle.std.proofs.Common.{List, ◌++◌, drop}
-use Rattle.deck_assembler.specs.Joins.Agreements.{AreAlike}
-use Rattle.deck_assembler.specs.declared.sized_statement.SizedStatement.{SizedStatement}
+use Rattle.deck_assembler.specs.{Joins.Agreements.AreAlike, declared.sized_statement.SizedStatement.SizedStatement}
 use Rattle.deck_assembler.proofs.early_trial.Trial.pass_over.Given as goal
 
 -- the trial is behind the statements so far

@@ -1,10 +1,6 @@
 -- A piece more.
-use Rattle.std.proofs.Common.{◌≡◌, ◌∙◌, ◌+◌, ◌∷◌, ◌++◌, List, drop, sym, ap, subst, arith}
-use Rattle.std.proofs.lemmas.List.{drop_more, drop_all}
-use Rattle.deck_assembler.specs.Joins.Agreements.{AreAlike}
-use Rattle.deck_assembler.specs.Joins.DeckParts.{DeckPiece, sized_in}
-use Rattle.deck_assembler.specs.declared.sized_statement.SizedStatement.{SizedStatement}
-use Rattle.deck_assembler.proofs.AlikeLaws.{pieces-next}
+use Rattle.std.proofs.{Common.{◌≡◌, ◌∙◌, ◌+◌, ◌∷◌, ◌++◌, List, drop, sym, ap, subst, arith}, lemmas.List.{drop_more, drop_all}}
+use Rattle.deck_assembler.{specs.Joins.Agreements.AreAlike, specs.Joins.DeckParts.{DeckPiece, sized_in}, specs.declared.sized_statement.SizedStatement.SizedStatement, proofs.AlikeLaws.pieces-next}
 use Rattle.deck_assembler.proofs.early_trial.Trial.pass_over_all.Goals as goal
 
 pub loop-piece-preserved : goal.loop-piece-preserved

@@ -1,7 +1,5 @@
 use Rattle.std.proofs.Common.{List, ◌++◌, drop}
-use Rattle.deck_assembler.specs.Joins.Agreements.{AreAlike}
-use Rattle.deck_assembler.specs.Joins.DeckParts.{sized_in}
-use Rattle.deck_assembler.specs.declared.sized_statement.SizedStatement.{SizedStatement}
+use Rattle.deck_assembler.specs.{Joins.Agreements.AreAlike, Joins.DeckParts.sized_in, declared.sized_statement.SizedStatement.SizedStatement}
 use Rattle.deck_assembler.proofs.early_trial.Trial.pass_over_all.Given as goal
 
 -- the trial is behind the pieces so far

@@ -1,8 +1,6 @@
 -- The trial goes on behind a statement that is alike.
 use Rattle.std.proofs.Common.{◌∙◌, refl, sym, true≢false}
-use Rattle.deck_assembler.specs.declared.early_trial.Trial.{Trial}
-use Rattle.deck_assembler.proofs.AlikeLaws.{alike-step}
-use Rattle.deck_assembler.proofs.TrialLaws.{tried-step}
+use Rattle.deck_assembler.{specs.declared.early_trial.Trial.Trial, proofs.AlikeLaws.alike-step, proofs.TrialLaws.tried-step}
 use Rattle.deck_assembler.proofs.early_trial.Trial.passes.Goals as goal
 
 pub returns-clause-tried : goal.returns-clause-tried

@@ -1,9 +1,6 @@
 -- A statement more.
-use Rattle.std.proofs.Common.{◌≡◌, ◌∙◌, ◌+◌, ◌∷◌, ◌++◌, List, drop, refl, sym, ap, subst, arith, true≢false}
-use Rattle.std.proofs.lemmas.List.{drop_more, drop_all}
-use Rattle.deck_assembler.specs.Joins.Agreements.{AreAlike, AreTried}
-use Rattle.deck_assembler.specs.declared.sized_statement.SizedStatement.{SizedStatement}
-use Rattle.deck_assembler.proofs.TrialLaws.{tried-more}
+use Rattle.std.proofs.{Common.{◌≡◌, ◌∙◌, ◌+◌, ◌∷◌, ◌++◌, List, drop, refl, sym, ap, subst, arith, true≢false}, lemmas.List.{drop_more, drop_all}}
+use Rattle.deck_assembler.{specs.Joins.Agreements.{AreAlike, AreTried}, specs.declared.sized_statement.SizedStatement.SizedStatement, proofs.TrialLaws.tried-more}
 use Rattle.deck_assembler.proofs.early_trial.Trial.passes_all.Goals as goal
 
 pub loop-sized-preserved : goal.loop-sized-preserved

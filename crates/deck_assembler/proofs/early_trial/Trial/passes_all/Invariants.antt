@@ -1,6 +1,5 @@
 use Rattle.std.proofs.Common.{List, ◌++◌, drop}
-use Rattle.deck_assembler.specs.Joins.Agreements.{AreAlike, AreTried}
-use Rattle.deck_assembler.specs.declared.sized_statement.SizedStatement.{SizedStatement}
+use Rattle.deck_assembler.specs.{Joins.Agreements.{AreAlike, AreTried}, declared.sized_statement.SizedStatement.SizedStatement}
 use Rattle.deck_assembler.proofs.early_trial.Trial.passes_all.Given as goal
 
 -- the trial has passed the statements so far

@@ -1,7 +1,5 @@
-use Rattle.std.proofs.Common.{◌≡◌, ◌∙◌, ℕ, List, [], Some, ap, arith}
-use Rattle.std.proofs.lemmas.Result.{on_ok_weaker}
-use Rattle.definitions.specs.Entries.{with_entry}
-use Rattle.definitions.specs.Settled.{Definition}
+use Rattle.std.proofs.{Common.{◌≡◌, ◌∙◌, ℕ, List, [], Some, ap, arith}, lemmas.Result.on_ok_weaker}
+use Rattle.definitions.specs.{Entries.with_entry, Settled.Definition}
 use Rattle.deck_assembler.proofs.EntryTables.{known-key, row-after, row-entered}
 use Rattle.deck_assembler.proofs.entry_names.EntryNames.enter.Goals as goal
 

@@ -1,6 +1,5 @@
 use Rattle.std.proofs.Common.{◌≡◌, List, length}
-use Rattle.definitions.specs.Entries.{with_entries}
-use Rattle.definitions.specs.Settled.{Settled, defined}
+use Rattle.definitions.specs.{Entries.with_entries, Settled.{Settled, defined}}
 use Rattle.deck_assembler.specs.Joins.FirstSymbols.{symbol_in}
 use Rattle.deck_assembler.proofs.entry_names.EntryNames.enter_all.Given as goal
 

@@ -1,5 +1,4 @@
-use Rattle.std.proofs.Common.{◌∙◌, true≢false, refl, sym}
-use Rattle.std.proofs.lemmas.Result.{on_ok_weaker}
+use Rattle.std.proofs.{Common.{◌∙◌, true≢false, refl, sym}, lemmas.Result.on_ok_weaker}
 use Rattle.deck_assembler.proofs.EntryLaws.{entry-none, entry-some}
 use Rattle.deck_assembler.proofs.entry_names.EntryNames.enter_name.Goals as goal
 

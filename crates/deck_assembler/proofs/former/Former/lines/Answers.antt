@@ -1,7 +1,6 @@
 use Rattle.std.proofs.Common.{◌∙◌, List, inl, inr, ap, sym, subst}
 use Rattle.deck_objects.specs.declared.lines.Line.{Line}
-use Rattle.deck_assembler.specs.Joins.Heads.{AreHeadLines}
-use Rattle.deck_assembler.specs.Joins.TailLines.{lines_behind}
+use Rattle.deck_assembler.specs.Joins.{Heads.AreHeadLines, TailLines.lines_behind}
 use Rattle.deck_assembler.proofs.former.Former.lines.Goals as goal
 
 pub returns : goal.returns

@@ -1,7 +1,5 @@
 use Rattle.std.proofs.Common.{◌∙◌, ap}
-use Rattle.deck_assembler.specs.Joins.FirstSymbols.{symbol_in}
-use Rattle.deck_assembler.specs.declared.rebinding.Rebinding.{Rebinding}
-use Rattle.deck_assembler.proofs.RebindingLaws.{test-rebound}
+use Rattle.deck_assembler.{specs.Joins.FirstSymbols.symbol_in, specs.declared.rebinding.Rebinding.Rebinding, proofs.RebindingLaws.test-rebound}
 use Rattle.deck_assembler.proofs.former_lines.FormerLine.is_rebound.Goals as goal
 
 pub returns : goal.returns

@@ -1,5 +1,4 @@
-use Rattle.std.proofs.Common.{◌≡◌, ◌+◌, ◌*◌, ◌%◌, ◌^◌, ◌<◌, ap, arith}
-use Rattle.std.proofs.lemmas.Nat.{shl_whole}
+use Rattle.std.proofs.{Common.{◌≡◌, ◌+◌, ◌*◌, ◌%◌, ◌^◌, ◌<◌, ap, arith}, lemmas.Nat.shl_whole}
 use Rattle.deck_assembler.proofs.KnownLaws.{behind-room, room-word}
 use Rattle.deck_assembler.proofs.known_bits.KnownBits.behind.Goals as goal
 

@@ -1,15 +1,7 @@
 -- The trial goes over all that is left.
-use Rattle.std.proofs.Common.{◌≡◌, ◌∙◌, ◌++◌, [], List, refl, sym, ap, subst, append-nil}
-use Rattle.definitions.specs.Cards.{Card}
-use Rattle.definitions.specs.Forms.{Form}
-use Rattle.definitions.specs.declared.deck_kind.DeckKind.{DeckKind}
-use Rattle.std.specs.Prelude.{ℕ}
-use Rattle.deck_assembler.specs.Joins.Agreements.{left, AreAlikeFrom}
-use Rattle.deck_assembler.specs.Joins.DeckParts.{sized_in}
-use Rattle.deck_assembler.specs.Joins.FirstSymbols.{symbol_in}
-use Rattle.deck_assembler.specs.Joins.SizedDecks.{AreSizedFrom}
-use Rattle.deck_assembler.specs.declared.sized_statement.SizedStatement.{SizedStatement}
-use Rattle.deck_assembler.proofs.AlikeLaws.{pieces-left, sized_in-append, trial-agrees}
+use Rattle.std.{proofs.Common.{◌≡◌, ◌∙◌, ◌++◌, [], List, refl, sym, ap, subst, append-nil}, specs.Prelude.ℕ}
+use Rattle.definitions.specs.{Cards.Card, Forms.Form, declared.deck_kind.DeckKind.DeckKind}
+use Rattle.deck_assembler.{specs.Joins.Agreements.{left, AreAlikeFrom}, specs.Joins.DeckParts.sized_in, specs.Joins.FirstSymbols.symbol_in, specs.Joins.SizedDecks.AreSizedFrom, specs.declared.sized_statement.SizedStatement.SizedStatement, proofs.AlikeLaws.{pieces-left, sized_in-append, trial-agrees}}
 use Rattle.deck_assembler.proofs.old_deck.OldDeck.find_missed.Goals as goal
 
 pub returns-in-None-clause-alike : goal.returns-in-None-clause-alike

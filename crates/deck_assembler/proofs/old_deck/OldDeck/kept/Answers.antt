@@ -1,9 +1,6 @@
 -- What is kept at each stage.
-use Rattle.std.proofs.lemmas.Result.{on_ok_weaker, IfOk-weaker}
-use Rattle.std.proofs.Common.{refl, sym, subst}
-use Rattle.deck_assembler.specs.Joins.Meetings.{WillAgreeAt}
-use Rattle.deck_assembler.specs.Joins.OldDecks.{IsAtStage}
-use Rattle.deck_assembler.proofs.MeetLaws.{found-weaker, some-weaker, goes-on}
+use Rattle.std.proofs.{lemmas.Result.{on_ok_weaker, IfOk-weaker}, Common.{refl, sym, subst}}
+use Rattle.deck_assembler.{specs.Joins.Meetings.WillAgreeAt, specs.Joins.OldDecks.IsAtStage, proofs.MeetLaws.{found-weaker, some-weaker, goes-on}}
 use Rattle.deck_assembler.proofs.old_deck.OldDeck.kept.Goals as goal
 
 pub returns-in-Front-clause-kept : goal.returns-in-Front-clause-kept

@@ -1,20 +1,9 @@
 -- Where the decks meet all that is left stays; elsewhere none of it does.
-use Rattle.std.proofs.Common.{◌≡◌, ◌∙◌, ◌-◌, ◌<◌, ◌≤◌, inl, inr, ◌⊎◌, ◌∷◌, [], List, length, true≢false, refl, sym, ap, arith, subst}
-use Rattle.std.specs.Prelude.{map}
-use Rattle.std.proofs.lemmas.Bool.{cases_lt}
-use Rattle.std.proofs.lemmas.List.{length-drop}
+use Rattle.std.{proofs.Common.{◌≡◌, ◌∙◌, ◌-◌, ◌<◌, ◌≤◌, inl, inr, ◌⊎◌, ◌∷◌, [], List, length, true≢false, refl, sym, ap, arith, subst}, specs.Prelude.map, proofs.lemmas.Bool.cases_lt, proofs.lemmas.List.length-drop}
 use Rattle.cards.specs.Joins.Spans.{statement_at}
 use Rattle.definitions.specs.Statements.{Statement}
-use Rattle.deck_assembler.specs.Joins.Agreements.{left, HaveSameEnd}
-use Rattle.deck_assembler.specs.Joins.Meetings.{IsCutAlike, WillAgreeAt}
-use Rattle.deck_assembler.specs.Joins.OldDecks.{IsAtStage}
-use Rattle.deck_assembler.specs.Joins.Sizers.{stood}
+use Rattle.deck_assembler.{specs.Joins.Agreements.{left, HaveSameEnd}, specs.Joins.Meetings.{IsCutAlike, WillAgreeAt}, specs.Joins.OldDecks.IsAtStage, specs.Joins.Sizers.stood, specs.declared.sized_statement.SizedStatement.SizedStatement, proofs.DueLaws.{meet-cut, meet-still, meeting-ahead, meeting-left, met-here}, proofs.MeetLaws.{some-weaker, goes-on, on-tail, soon-begins}, proofs.OldLaws.{at_stage, front-same, same-again, same-ahead, same-at}, proofs.PieceMeetings.piece-same}
 use Rattle.deck_assembler.specs.declared.old_deck.Stage.TheVariants as stages
-use Rattle.deck_assembler.specs.declared.sized_statement.SizedStatement.{SizedStatement}
-use Rattle.deck_assembler.proofs.DueLaws.{meet-cut, meet-still, meeting-ahead, meeting-left, met-here}
-use Rattle.deck_assembler.proofs.MeetLaws.{some-weaker, goes-on, on-tail, soon-begins}
-use Rattle.deck_assembler.proofs.OldLaws.{at_stage, front-same, same-again, same-ahead, same-at}
-use Rattle.deck_assembler.proofs.PieceMeetings.{piece-same}
 use Rattle.deck_assembler.proofs.old_deck.OldDeck.kept_between.Goals as goal
 
 pub pass_to-requires : goal.pass_to-requires

@@ -1,22 +1,9 @@
 -- A statement that ends before the edited card stays; with another the front is left.
-use Rattle.std.proofs.Common.{◌∷◌, ◌∙◌, ◌+◌, ◌≤◌, List, true≢false, refl, sym, ap, arith, subst}
-use Rattle.std.specs.Prelude.{reverse}
+use Rattle.std.{proofs.Common.{◌∷◌, ◌∙◌, ◌+◌, ◌≤◌, List, true≢false, refl, sym, ap, arith, subst}, specs.Prelude.reverse}
 use Rattle.cards.specs.Joins.Spans.{statement_at}
 use Rattle.definitions.specs.Statements.{Statement}
-use Rattle.deck_assembler.specs.Joins.Agreements.{left, HasFront}
-use Rattle.deck_assembler.specs.Joins.Formers.{known_in}
-use Rattle.deck_assembler.specs.Joins.Meetings.{WillAgreeAt}
-use Rattle.deck_assembler.specs.Joins.OldDecks.{IsAtStage, IsInFront}
-use Rattle.deck_assembler.specs.Joins.Sizers.{ahead}
-use Rattle.deck_assembler.specs.declared.old_deck.OldDeck.{OldDeck}
+use Rattle.deck_assembler.{specs.Joins.Agreements.{left, HasFront}, specs.Joins.Formers.known_in, specs.Joins.Meetings.WillAgreeAt, specs.Joins.OldDecks.{IsAtStage, IsInFront}, specs.Joins.Sizers.ahead, specs.declared.old_deck.OldDeck.OldDeck, proofs.DueLaws.{front-due, front-left-over, meet-later, short-behind, short-same, time-in-front}, proofs.ForwardLaws.stood-more, proofs.FrontLaws.{goes-no-more, goes-within}, proofs.HeadLaws.{front-next, next-in-front}, proofs.MeetLaws.goes-on, proofs.OldLaws.{at_stage, same-again, same-at}, proofs.StayLaws.same-stays}
 use Rattle.deck_assembler.specs.declared.old_deck.Stage.TheVariants as stages
-use Rattle.deck_assembler.proofs.DueLaws.{front-due, front-left-over, meet-later, short-behind, short-same, time-in-front}
-use Rattle.deck_assembler.proofs.ForwardLaws.{stood-more}
-use Rattle.deck_assembler.proofs.FrontLaws.{goes-no-more, goes-within}
-use Rattle.deck_assembler.proofs.HeadLaws.{front-next, next-in-front}
-use Rattle.deck_assembler.proofs.MeetLaws.{goes-on}
-use Rattle.deck_assembler.proofs.OldLaws.{at_stage, same-again, same-at}
-use Rattle.deck_assembler.proofs.StayLaws.{same-stays}
 use Rattle.deck_assembler.proofs.old_deck.OldDeck.kept_in_front.Goals as goal
 
 pub leave_front-requires : goal.leave_front-requires

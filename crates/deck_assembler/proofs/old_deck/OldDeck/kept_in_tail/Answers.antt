@@ -2,13 +2,8 @@
 use Rattle.std.proofs.Common.{◌∷◌, ◌∙◌, List, length, length-take-le, refl, sym, ap, subst}
 use Rattle.cards.specs.Joins.Spans.{statement_at}
 use Rattle.definitions.specs.Statements.{Statement}
-use Rattle.deck_assembler.specs.Joins.Meetings.{WillAgreeAt}
-use Rattle.deck_assembler.specs.Joins.OldDecks.{IsAtStage}
-use Rattle.deck_assembler.specs.Joins.Sizers.{ahead}
+use Rattle.deck_assembler.{specs.Joins.Meetings.WillAgreeAt, specs.Joins.OldDecks.IsAtStage, specs.Joins.Sizers.ahead, proofs.DueLaws.{IsNextAlike, next-cut, next-same, next-some}, proofs.MeetLaws.{goes-on, soon-next, tail-next, tail-stays}, proofs.OldLaws.{at_stage, same-at}}
 use Rattle.deck_assembler.specs.declared.old_deck.Stage.TheVariants as stages
-use Rattle.deck_assembler.proofs.DueLaws.{IsNextAlike, next-cut, next-same, next-some}
-use Rattle.deck_assembler.proofs.MeetLaws.{goes-on, soon-next, tail-next, tail-stays}
-use Rattle.deck_assembler.proofs.OldLaws.{at_stage, same-at}
 use Rattle.deck_assembler.proofs.old_deck.OldDeck.kept_in_tail.Goals as goal
 
 pub returns-in_default-clause-kept : goal.returns-in_default-clause-kept

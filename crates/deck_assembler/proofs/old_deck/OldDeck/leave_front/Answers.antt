@@ -1,9 +1,7 @@
 -- What was taken of both decks is in front.
-use Rattle.std.proofs.Common.{◌∷◌, refl}
-use Rattle.deck_assembler.specs.declared.old_deck.OldDeck.{OldDeck}
+use Rattle.std.proofs.{Common.{◌∷◌, refl}, lemmas.Result.on_ok_weaker}
+use Rattle.deck_assembler.{specs.declared.old_deck.OldDeck.OldDeck, proofs.HeadLaws.front-left}
 use Rattle.deck_assembler.specs.declared.old_deck.Stage.TheVariants as stages
-use Rattle.std.proofs.lemmas.Result.{on_ok_weaker}
-use Rattle.deck_assembler.proofs.HeadLaws.{front-left}
 use Rattle.deck_assembler.proofs.old_deck.OldDeck.leave_front.Goals as goal
 
 pub pass-requires : goal.pass-requires

@@ -1,15 +1,9 @@
 -- A statement that was the next one is the latest of the front.
 use Rattle.std.proofs.Common.{◌≤◌, ◌∙◌, List, length, take, drop, refl, sym, ap, subst}
-use Rattle.definitions.specs.Cards.{Card}
-use Rattle.definitions.specs.Settling.{number_base_of, settle, settled_all}
-use Rattle.statement_coder.specs.Joins.Readings.{IsReading}
-use Rattle.statement_coder.specs.Joins.StatementsRead.{IsRead}
-use Rattle.use_blocks.specs.Joins.Changes.{IsAccepted}
-use Rattle.use_blocks.specs.Joins.EffectsAs.{change_as, effect_as}
-use Rattle.deck_assembler.specs.Joins.FirstSymbols.{symbol_in, with_defined}
-use Rattle.deck_assembler.proofs.DefinitionLaws.{lawful-shape}
-use Rattle.deck_assembler.proofs.OldLaws.{next-of, front-step}
-use Rattle.deck_assembler.proofs.SizerSteps.{settled-operand, state-accepted}
+use Rattle.definitions.specs.{Cards.Card, Settling.{number_base_of, settle, settled_all}}
+use Rattle.statement_coder.specs.Joins.{Readings.IsReading, StatementsRead.IsRead}
+use Rattle.use_blocks.specs.Joins.{Changes.IsAccepted, EffectsAs.{change_as, effect_as}}
+use Rattle.deck_assembler.{specs.Joins.FirstSymbols.{symbol_in, with_defined}, proofs.DefinitionLaws.lawful-shape, proofs.OldLaws.{next-of, front-step}, proofs.SizerSteps.{settled-operand, state-accepted}}
 use Rattle.deck_assembler.proofs.old_deck.OldDeck.pass.Goals as goal
 
 pub advance-requires : goal.advance-requires

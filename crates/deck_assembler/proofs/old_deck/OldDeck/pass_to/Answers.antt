@@ -1,10 +1,7 @@
 -- Its front goes on with each statement that is passed.
 use Rattle.std.proofs.Common.{◌∙◌, ◌∷◌, List, arith, refl, sym, ap, subst}
 use Rattle.definitions.specs.Cards.{Card}
-use Rattle.deck_assembler.specs.Joins.Agreements.{left, HasFront}
-use Rattle.deck_assembler.specs.declared.sized_statement.SizedStatement.{SizedStatement}
-use Rattle.deck_assembler.proofs.OldLaws.{front-same, same-again}
-use Rattle.deck_assembler.proofs.PieceMeetings.{piece-more, piece-same}
+use Rattle.deck_assembler.{specs.Joins.Agreements.{left, HasFront}, specs.declared.sized_statement.SizedStatement.SizedStatement, proofs.OldLaws.{front-same, same-again}, proofs.PieceMeetings.{piece-more, piece-same}}
 use Rattle.deck_assembler.proofs.old_deck.OldDeck.pass_to.Goals as goal
 
 pub returns-in-None-clause-front : goal.returns-in-None-clause-front

@@ -1,8 +1,6 @@
 use Rattle.std.proofs.Common.{ℕ, ◌≡◌, ◌≤◌, List, length}
 use Rattle.definitions.specs.Cards.{Card}
-use Rattle.deck_assembler.specs.Joins.Agreements.{left, HasFront, IsOfSameDeck}
-use Rattle.deck_assembler.specs.Joins.Meetings.{HasPiece}
-use Rattle.deck_assembler.specs.declared.sized_statement.SizedStatement.{SizedStatement}
+use Rattle.deck_assembler.specs.{Joins.Agreements.{left, HasFront, IsOfSameDeck}, Joins.Meetings.HasPiece, declared.sized_statement.SizedStatement.SizedStatement}
 use Rattle.deck_assembler.proofs.old_deck.OldDeck.pass_to.Given as goal
 
 -- its front goes on

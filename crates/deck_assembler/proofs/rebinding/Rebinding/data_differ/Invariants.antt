@@ -1,5 +1,4 @@
-use Rattle.std.proofs.Common.{◌≡◌, length, flat_map}
-use Rattle.std.specs.List.{list_any}
+use Rattle.std.{proofs.Common.{◌≡◌, length, flat_map}, specs.List.list_any}
 use Rattle.definitions.specs.Laws.Rebound.{datum_elements}
 use Rattle.deck_assembler.specs.Joins.Rebindings.{differs}
 use Rattle.deck_assembler.proofs.rebinding.Rebinding.data_differ.Given as goal

@@ -1,5 +1,4 @@
-use Rattle.std.proofs.Common.{◌≡◌, length}
-use Rattle.std.specs.List.{list_any}
+use Rattle.std.{proofs.Common.{◌≡◌, length}, specs.List.list_any}
 use Rattle.definitions.specs.Operations as op
 use Rattle.definitions.specs.Laws.Rebound.{name_elements}
 use Rattle.deck_assembler.specs.Joins.Rebindings.{differs}

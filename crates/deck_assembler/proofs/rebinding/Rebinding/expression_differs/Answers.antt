@@ -1,5 +1,4 @@
-use Rattle.std.proofs.Common.{ap}
-use Rattle.std.specs.List.{list_any}
+use Rattle.std.{proofs.Common.ap, specs.List.list_any}
 use Rattle.expr_forms.proofs.ElementListLaws.{elements_in-links}
 use Rattle.deck_assembler.specs.Joins.Rebindings.{differs}
 use Rattle.deck_assembler.proofs.rebinding.Rebinding.expression_differs.Goals as goal

@@ -1,5 +1,4 @@
-use Rattle.std.proofs.Common.{◌≡◌, length}
-use Rattle.std.specs.List.{list_any}
+use Rattle.std.{proofs.Common.{◌≡◌, length}, specs.List.list_any}
 use Rattle.definitions.specs.Expressions.{elements_of}
 use Rattle.expr_forms.specs.Joins.ElementLists.{elements_in}
 use Rattle.deck_assembler.specs.Joins.Rebindings.{differs}

@@ -1,7 +1,5 @@
-use Rattle.std.proofs.Common.{◌≡◌, length, flat_map}
-use Rattle.std.specs.List.{list_any}
-use Rattle.deck_assembler.specs.Joins.Rebindings.{bit_elements}
-use Rattle.deck_assembler.specs.Joins.Rebindings.{differs}
+use Rattle.std.{proofs.Common.{◌≡◌, length, flat_map}, specs.List.list_any}
+use Rattle.deck_assembler.specs.Joins.Rebindings.{bit_elements, differs}
 use Rattle.deck_assembler.proofs.rebinding.Rebinding.vfd_differs.Given as goal
 
 -- what is left shows what all shows

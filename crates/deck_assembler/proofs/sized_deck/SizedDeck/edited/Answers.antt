@@ -1,23 +1,8 @@
 -- No statement of an untouched front is sized.
-use Rattle.std.proofs.Common.{ℕ, ◌+◌, ◌≤◌, inl, inr, ◌∙◌, List, [], length, refl, ap, arith, sym, subst}
-use Rattle.std.proofs.lemmas.Bool.{cases_lt}
+use Rattle.std.proofs.{Common.{ℕ, ◌+◌, ◌≤◌, inl, inr, ◌∙◌, List, [], length, refl, ap, arith, sym, subst}, lemmas.Bool.cases_lt}
 use Rattle.cards.specs.declared.statement_list.Span.{Span}
-use Rattle.definitions.specs.DeckKinds.{kind_of_statements, up_to_end}
-use Rattle.definitions.specs.Literals.{literal_words}
-use Rattle.definitions.specs.Settled.{defined}
-use Rattle.definitions.specs.Settling.{View, settled_all}
-use Rattle.definitions.specs.Statements.{Statement}
-use Rattle.definitions.specs.declared.deck_kind.DeckKind.{DeckKind}
-use Rattle.deck_assembler.specs.Joins.FirstStatements.{all_statements}
-use Rattle.deck_assembler.specs.Joins.FirstSymbols.{symbol_in}
-use Rattle.deck_assembler.specs.Joins.Formers.{known_in}
-use Rattle.deck_assembler.specs.Joins.Meetings.{StandApart, WillAgreeAt}
-use Rattle.deck_assembler.specs.Joins.Tails.{HasTailIfAny, HasTailWithin}
-use Rattle.deck_assembler.specs.Stays.{RisesAnew}
-use Rattle.deck_assembler.proofs.AgreementLaws.{begins-due, untouched-before}
-use Rattle.deck_assembler.proofs.DeckLaws.{all-statements}
-use Rattle.deck_assembler.proofs.FrontLaws.{front-stands, front-still}
-use Rattle.deck_assembler.proofs.StayLaws.{within-all}
+use Rattle.definitions.specs.{DeckKinds.{kind_of_statements, up_to_end}, Literals.literal_words, Settled.defined, Settling.{View, settled_all}, Statements.Statement, declared.deck_kind.DeckKind.DeckKind}
+use Rattle.deck_assembler.{specs.Joins.FirstStatements.all_statements, specs.Joins.FirstSymbols.symbol_in, specs.Joins.Formers.known_in, specs.Joins.Meetings.{StandApart, WillAgreeAt}, specs.Joins.Tails.{HasTailIfAny, HasTailWithin}, specs.Stays.RisesAnew, proofs.AgreementLaws.{begins-due, untouched-before}, proofs.DeckLaws.all-statements, proofs.FrontLaws.{front-stands, front-still}, proofs.StayLaws.within-all}
 use Rattle.deck_assembler.proofs.sized_deck.SizedDeck.edited.Goals as goal
 
 pub made-requires-clause-old_deck : goal.made-requires-clause-old_deck

@@ -1,7 +1,6 @@
 -- The statements of a deck stay in one of its kind, and its head in one of another.
 use Rattle.std.proofs.Common.{sym, subst, ◌∙◌}
-use Rattle.deck_assembler.specs.Joins.SizedDecks.{IsSizedDeck}
-use Rattle.deck_assembler.proofs.HeadDeckLaws.{stays-beside, stays-whole}
+use Rattle.deck_assembler.{specs.Joins.SizedDecks.IsSizedDeck, proofs.HeadDeckLaws.{stays-beside, stays-whole}}
 use Rattle.deck_assembler.proofs.sized_deck.SizedDeck.parted.Goals as goal
 
 pub returns-clause-beside : goal.returns-clause-beside

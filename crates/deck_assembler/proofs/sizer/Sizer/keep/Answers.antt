@@ -1,16 +1,9 @@
 -- A statement that is kept is one statement more.
-use Rattle.std.proofs.Common.{◌≡◌, List, ℕ, refl, sym, ap, ◌∙◌, subst}
-use Rattle.std.specs.Prelude.{reverse}
-use Rattle.definitions.specs.Operands.{operand_of}
-use Rattle.definitions.specs.Settling.{number_base_of, settle, settled_all}
-use Rattle.definitions.specs.Laws.States.{advanced}
+use Rattle.std.{proofs.Common.{◌≡◌, List, ℕ, refl, sym, ap, ◌∙◌, subst}, specs.Prelude.reverse}
+use Rattle.definitions.specs.{Operands.operand_of, Settling.{number_base_of, settle, settled_all}, Laws.States.advanced}
 use Rattle.operations.specs.Joins.OperationsAs.{operation_as}
-use Rattle.use_blocks.specs.Joins.EffectsAs.{effect_as}
-use Rattle.deck_assembler.specs.Joins.FirstSymbols.{symbol_in}
-use Rattle.deck_assembler.specs.Joins.PieceSteps.{with_statement}
-use Rattle.use_blocks.specs.Joins.BlockLengths.{block_names}
-use Rattle.deck_assembler.specs.Joins.Sizers.{IsNoted}
-use Rattle.deck_assembler.proofs.SizerSteps.{sizer-step}
+use Rattle.use_blocks.specs.Joins.{EffectsAs.effect_as, BlockLengths.block_names}
+use Rattle.deck_assembler.{specs.Joins.FirstSymbols.symbol_in, specs.Joins.PieceSteps.with_statement, specs.Joins.Sizers.IsNoted, proofs.SizerSteps.sizer-step}
 use Rattle.deck_assembler.proofs.sizer.Sizer.keep.Goals as goal
 
 pub returns : goal.returns

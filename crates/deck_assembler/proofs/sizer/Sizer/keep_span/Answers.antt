@@ -1,8 +1,6 @@
 use Rattle.std.proofs.Common.{◌∙◌, List, ap, sym, subst}
 use Rattle.cards.specs.Joins.Spans.{statement_at}
-use Rattle.definitions.specs.Cards.{Card}
-use Rattle.definitions.specs.Fields.{fields_of}
-use Rattle.definitions.specs.Operations.{operation_of}
+use Rattle.definitions.specs.{Cards.Card, Fields.fields_of, Operations.operation_of}
 use Rattle.statement_coder.specs.Joins.StatementsRead.{IsRead}
 use Rattle.deck_assembler.proofs.sizer.Sizer.keep_span.Goals as goal
 

@@ -1,8 +1,6 @@
-use Rattle.std.proofs.Common.{[], sym, ap, subst, refl, ◌∙◌}
-use Rattle.std.specs.Prelude.{reverse}
+use Rattle.std.{proofs.Common.{[], sym, ap, subst, refl, ◌∙◌}, specs.Prelude.reverse}
 use Rattle.definitions.specs.Laws.States.{BlockState, names_of_blocks}
-use Rattle.deck_assembler.specs.Joins.PieceSteps.{sized_newest}
-use Rattle.deck_assembler.specs.Joins.Sizers.{AreSized, HaveStates, AreFilledNewest}
+use Rattle.deck_assembler.specs.Joins.{PieceSteps.sized_newest, Sizers.{AreSized, HaveStates, AreFilledNewest}}
 use Rattle.deck_assembler.proofs.sizer.Sizer.new.Goals as goal
 
 pub returns : goal.returns

@@ -1,6 +1,5 @@
 -- Where an operand that was kept shows enough, it is not read.
-use Rattle.std.proofs.Common.{◌∙◌, sym}
-use Rattle.std.proofs.lemmas.Result.{on_ok_weaker}
+use Rattle.std.proofs.{Common.{◌∙◌, sym}, lemmas.Result.on_ok_weaker}
 use Rattle.operations.specs.Joins.OperationsAs.{operation_as}
 use Rattle.deck_assembler.proofs.ToldOperands.{all-told}
 use Rattle.deck_assembler.proofs.sizer.Sizer.note_kept.Goals as goal

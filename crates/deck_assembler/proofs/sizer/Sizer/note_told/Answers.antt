@@ -1,7 +1,6 @@
 -- What was kept of an operand shows what its reading would.
 use Rattle.std.proofs.Common.{◌∙◌}
-use Rattle.deck_assembler.specs.Joins.FirstSymbols.{symbol_in}
-use Rattle.deck_assembler.proofs.ToldOperands.{told-defined, told-externals}
+use Rattle.deck_assembler.{specs.Joins.FirstSymbols.symbol_in, proofs.ToldOperands.{told-defined, told-externals}}
 use Rattle.deck_assembler.proofs.sizer.Sizer.note_told.Goals as goal
 
 pub returns-clause-noted : goal.returns-clause-noted

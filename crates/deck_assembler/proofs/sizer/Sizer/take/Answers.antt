@@ -1,18 +1,10 @@
 -- One statement more is a step of all that is kept.
-use Rattle.std.proofs.Common.{◌≡◌, ℕ, List, refl, sym, ap, ◌∙◌, subst}
-use Rattle.std.specs.Prelude.{IfSome, reverse}
-use Rattle.definitions.specs.Operands.{operand_of}
-use Rattle.definitions.specs.Settling.{number_base_of, settle, settled_all}
-use Rattle.definitions.specs.Laws.States.{BlockState, advanced}
+use Rattle.std.{proofs.Common.{◌≡◌, ℕ, List, refl, sym, ap, ◌∙◌, subst}, specs.Prelude.{IfSome, reverse}}
+use Rattle.definitions.specs.{Operands.operand_of, Settling.{number_base_of, settle, settled_all}, Laws.States.{BlockState, advanced}}
 use Rattle.operations.specs.Joins.OperationsAs.{operation_as}
 use Rattle.statement_coder.specs.declared.definitions_made.Defines.{Defines}
-use Rattle.use_blocks.specs.Joins.EffectsAs.{effect_as}
-use Rattle.deck_assembler.specs.Joins.FirstSymbols.{symbol_in}
-use Rattle.deck_assembler.specs.Joins.PieceSteps.{with_statement}
-use Rattle.use_blocks.specs.Joins.BlockLengths.{block_names}
-use Rattle.deck_assembler.specs.Joins.Sizers.{IsNoted}
-use Rattle.deck_assembler.specs.declared.sized_statement.SizedStatement.{SizedStatement}
-use Rattle.deck_assembler.proofs.SizerSteps.{operand_in, settled-operand, settled-sized, sizer-step}
+use Rattle.use_blocks.specs.Joins.{EffectsAs.effect_as, BlockLengths.block_names}
+use Rattle.deck_assembler.{specs.Joins.FirstSymbols.symbol_in, specs.Joins.PieceSteps.with_statement, specs.Joins.Sizers.IsNoted, specs.declared.sized_statement.SizedStatement.SizedStatement, proofs.SizerSteps.{operand_in, settled-operand, settled-sized, sizer-step}}
 use Rattle.deck_assembler.proofs.sizer.Sizer.take.Goals as goal
 
 pub returns-clause-taken : goal.returns-clause-taken

@@ -1,14 +1,7 @@
 -- The next statement is one more, kept or sized, and the old deck goes on behind it.
-use Rattle.std.proofs.Common.{ℕ, inl, inr, true≢false, refl, ap, sym, subst, arith, ◌∙◌}
-use Rattle.std.specs.Prelude.{Option, IfSome, is_some}
-use Rattle.deck_assembler.proofs.ResultLaws.{on_ok_any, on_ok_one}
+use Rattle.std.{proofs.Common.{ℕ, inl, inr, true≢false, refl, ap, sym, subst, arith, ◌∙◌}, specs.Prelude.{Option, IfSome, is_some}}
+use Rattle.deck_assembler.{proofs.ResultLaws.{on_ok_any, on_ok_one}, specs.Joins.Meetings.WillAgreeAt, specs.Joins.OldDecks.{IsAtStage, IsThatOf}, specs.Joins.Sizers.{stood, ahead, IsNext}, specs.declared.sized_statement.SizedStatement.SizedStatement, proofs.MeetLaws.goes-on, proofs.SizerSteps.sized-accepted}
 use Rattle.cards.specs.Joins.Spans.{statement_at}
-use Rattle.deck_assembler.specs.Joins.Meetings.{WillAgreeAt}
-use Rattle.deck_assembler.specs.Joins.OldDecks.{IsAtStage, IsThatOf}
-use Rattle.deck_assembler.specs.Joins.Sizers.{stood, ahead, IsNext}
-use Rattle.deck_assembler.specs.declared.sized_statement.SizedStatement.{SizedStatement}
-use Rattle.deck_assembler.proofs.MeetLaws.{goes-on}
-use Rattle.deck_assembler.proofs.SizerSteps.{sized-accepted}
 use Rattle.deck_assembler.proofs.sizer.Sizer.take_next.Goals as goal
 
 pub kept-requires-clause-ready : goal.kept-requires-clause-ready

@@ -1,20 +1,8 @@
 -- The statements are sized one behind the other, up to the first END.
 use Rattle.std.proofs.Common.{◌≡◌, ◌+◌, ◌≤◌, suc, List, get_or, length, sym, ap, ◌∙◌, subst, arith}
-use Rattle.cards.specs.Joins.Spans.{statement_at}
-use Rattle.cards.specs.declared.statement_list.Span.{Span}
-use Rattle.definitions.specs.DeckKinds.{has_end, up_to_end}
-use Rattle.definitions.specs.Statements.{Statement}
-use Rattle.deck_assembler.specs.Joins.FirstStatements.{first_statements, IsEnding}
-use Rattle.deck_assembler.specs.Joins.Formers.{known_in}
-use Rattle.deck_assembler.specs.Joins.OldDecks.{IsKeptOn, IsOnSpan}
-use Rattle.deck_assembler.specs.Joins.Sizers.{IsSizer}
-use Rattle.deck_assembler.specs.Joins.Meetings.{WillAgree}
-use Rattle.deck_assembler.specs.Stays.{RisesAnew}
-use Rattle.deck_assembler.proofs.DueLaws.{due-bound, next-known}
-use Rattle.deck_assembler.proofs.EndLaws.{length-first, first-step, next-at, few-sized, ending-here, open-step, ending-none, ending-length, few-all}
-use Rattle.deck_assembler.proofs.FrontLaws.{front-bound, front-end, front-more, goes-at, stands-few}
-use Rattle.deck_assembler.proofs.MeetLaws.{ends-in-tail, tail-taken, tail-within}
-use Rattle.deck_assembler.proofs.StayLaws.{stay-more}
+use Rattle.cards.specs.{Joins.Spans.statement_at, declared.statement_list.Span.Span}
+use Rattle.definitions.specs.{DeckKinds.{has_end, up_to_end}, Statements.Statement}
+use Rattle.deck_assembler.{specs.Joins.FirstStatements.{first_statements, IsEnding}, specs.Joins.Formers.known_in, specs.Joins.OldDecks.{IsKeptOn, IsOnSpan}, specs.Joins.Sizers.IsSizer, specs.Joins.Meetings.WillAgree, specs.Stays.RisesAnew, proofs.DueLaws.{due-bound, next-known}, proofs.EndLaws.{length-first, first-step, next-at, few-sized, ending-here, open-step, ending-none, ending-length, few-all}, proofs.FrontLaws.{front-bound, front-end, front-more, goes-at, stands-few}, proofs.MeetLaws.{ends-in-tail, tail-taken, tail-within}, proofs.StayLaws.stay-more}
 use Rattle.deck_assembler.proofs.sizer.Sizer.take_up_to_end.Goals as goal
 
 -- what stands where there is no span

@@ -1,16 +1,8 @@
 use Rattle.std.proofs.Common.{ℕ, ◌≡◌, length, ◌+◌, ◌≤◌, List, [], false}
-use Rattle.definitions.specs.Cards.{Card}
-use Rattle.definitions.specs.DeckKinds.{has_end, up_to_end}
-use Rattle.definitions.specs.Statements.{Statement}
+use Rattle.definitions.specs.{Cards.Card, DeckKinds.{has_end, up_to_end}, Statements.Statement}
 use Rattle.statement_coder.specs.Meters.{RisesBy}
-use Rattle.deck_assembler.specs.Joins.FirstStatements.{first_statements, all_statements}
-use Rattle.deck_assembler.specs.Joins.Formers.{known_in}
-use Rattle.deck_assembler.specs.Joins.Meetings.{IsBounded, WillAgree}
-use Rattle.deck_assembler.specs.Joins.OldDecks.{IsKeptOn, StandsInFront}
-use Rattle.deck_assembler.specs.Joins.Sizers.{IsSizer}
-use Rattle.deck_assembler.specs.Stays.{RisesAnew}
+use Rattle.deck_assembler.{specs.Joins.FirstStatements.{first_statements, all_statements}, specs.Joins.Formers.known_in, specs.Joins.Meetings.{IsBounded, WillAgree}, specs.Joins.OldDecks.{IsKeptOn, StandsInFront}, specs.Joins.Sizers.IsSizer, specs.Stays.RisesAnew, proofs.FrontLaws.IsFrontTaken}
 use Rattle.deck_assembler.specs.declared.old_deck.Stage.TheVariants as stages
-use Rattle.deck_assembler.proofs.FrontLaws.{IsFrontTaken}
 use Rattle.deck_assembler.proofs.sizer.Sizer.take_up_to_end.Given as goal
 
 -- the statements so far are sized, and none of them is END

@@ -1,6 +1,5 @@
 -- A clone of numbers and forms has the same.
-use Rattle.std.proofs.Common.{◌≡◌, ℕ, ◌∙◌}
-use Rattle.std.proofs.lemmas.Map.Entries.{entries_from_clone}
+use Rattle.std.proofs.{Common.{◌≡◌, ℕ, ◌∙◌}, lemmas.Map.Entries.entries_from_clone}
 use Rattle.definitions.specs.Forms.{Form}
 use Rattle.deck_assembler.proofs.symbol_table.SymbolTable.copy.Goals as goal
 

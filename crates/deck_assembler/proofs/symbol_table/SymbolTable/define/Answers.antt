@@ -1,11 +1,7 @@
 -- A name keeps its first value, and the call returns whether this is the first.
-use Rattle.std.proofs.Common.{◌≡◌, ◌∙◌, not, is_some, Option, ap, arith}
-use Rattle.std.specs.Prelude.{nat_eq}
-use Rattle.std.specs.Map.{lookup}
-use Rattle.std.proofs.lemmas.Result.{IfOk-weaker, on_ok_weaker}
+use Rattle.std.{proofs.Common.{◌≡◌, ◌∙◌, not, is_some, Option, ap, arith}, specs.Prelude.nat_eq, specs.Map.lookup, proofs.lemmas.Result.{IfOk-weaker, on_ok_weaker}}
 use Rattle.definitions.specs.Forms.{Form}
-use Rattle.deck_assembler.specs.Joins.FirstSymbols.{symbol_in, with_symbol}
-use Rattle.deck_assembler.proofs.SymbolLaws.{symbol_in-kept, symbol_in-some}
+use Rattle.deck_assembler.{specs.Joins.FirstSymbols.{symbol_in, with_symbol}, proofs.SymbolLaws.{symbol_in-kept, symbol_in-some}}
 use Rattle.deck_assembler.proofs.symbol_table.SymbolTable.define.Goals as goal
 
 pub returns-in-Some-clause-defined : goal.returns-in-Some-clause-defined

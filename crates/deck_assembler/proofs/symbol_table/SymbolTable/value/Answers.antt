@@ -1,7 +1,6 @@
 -- A name is found by its number.
 use Rattle.std.proofs.Common.{◌∙◌, ap, arith}
-use Rattle.deck_assembler.specs.Joins.FirstSymbols.{symbol_in}
-use Rattle.deck_assembler.proofs.SymbolLaws.{symbol_in-some}
+use Rattle.deck_assembler.{specs.Joins.FirstSymbols.symbol_in, proofs.SymbolLaws.symbol_in-some}
 use Rattle.deck_assembler.proofs.symbol_table.SymbolTable.value.Goals as goal
 
 pub returns-in-Some : goal.returns-in-Some

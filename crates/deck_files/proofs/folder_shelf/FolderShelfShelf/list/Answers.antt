@@ -1,6 +1,4 @@
-use Rattle.deck_files.specs.FolderShelves.{FolderShelf}
-use Rattle.deck_files.proofs.FolderSteps.{err-map}
-use Rattle.deck_files.proofs.ShelfSteps.{shelf-untold}
+use Rattle.deck_files.{specs.FolderShelves.FolderShelf, proofs.FolderSteps.err-map, proofs.ShelfSteps.shelf-untold}
 use Rattle.deck_files.proofs.folder_shelf.FolderShelfShelf.list.Goals as goal
 
 -- the fault that the list of the folder had

@@ -1,5 +1,4 @@
-use Rattle.deck_files.specs.FolderShelves.{FolderShelf}
-use Rattle.deck_files.proofs.ShelfSteps.{shelf-loads, shelf-refuses}
+use Rattle.deck_files.{specs.FolderShelves.FolderShelf, proofs.ShelfSteps.{shelf-loads, shelf-refuses}}
 use Rattle.deck_files.proofs.folder_shelf.FolderShelfShelf.load.Goals as goal
 
 -- the cards that the folder's load gave

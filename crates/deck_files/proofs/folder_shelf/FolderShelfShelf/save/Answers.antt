@@ -1,7 +1,4 @@
-use Rattle.deck_files.specs.Savings.{saving}
-use Rattle.deck_files.specs.FolderShelves.{FolderShelf}
-use Rattle.deck_files.proofs.FolderSteps.{err-map, ok-map}
-use Rattle.deck_files.proofs.ShelfSteps.{shelf-fails, shelf-saves}
+use Rattle.deck_files.{specs.Savings.saving, specs.FolderShelves.FolderShelf, proofs.FolderSteps.{err-map, ok-map}, proofs.ShelfSteps.{shelf-fails, shelf-saves}}
 use Rattle.deck_files.proofs.folder_shelf.FolderShelfShelf.save.Goals as goal
 
 -- what the save in its turn did

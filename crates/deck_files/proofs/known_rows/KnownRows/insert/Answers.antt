@@ -1,9 +1,5 @@
-use Rattle.std.proofs.Common.{Option, ◌∙◌, ap}
-use Rattle.std.specs.Prelude.{vec_items}
-use Rattle.deck_files.specs.Files.{with_named}
-use Rattle.deck_files.specs.declared.known_rows.Known.{Known}
-use Rattle.deck_files.specs.KnownFiles.{KnownRows}
-use Rattle.deck_files.proofs.FileSteps.{files_shown, insert-shown}
+use Rattle.std.{proofs.Common.{Option, ◌∙◌, ap}, specs.Prelude.vec_items}
+use Rattle.deck_files.{specs.Files.with_named, specs.declared.known_rows.Known.Known, specs.KnownFiles.KnownRows, proofs.FileSteps.{files_shown, insert-shown}}
 use Rattle.deck_files.proofs.known_rows.KnownRows.insert.Goals as goal
 
 pub returns : goal.returns

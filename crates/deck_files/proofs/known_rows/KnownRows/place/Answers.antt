@@ -1,10 +1,5 @@
-use Rattle.std.proofs.Common.{ℕ, List, Option, ◌∙◌, ap}
-use Rattle.std.specs.Prelude.{vec_items}
-use Rattle.std.specs.Option.{option_map}
-use Rattle.deck_files.specs.Files.{named}
-use Rattle.deck_files.specs.declared.known_rows.Known.{Known}
-use Rattle.deck_files.specs.KnownFiles.{KnownRows}
-use Rattle.deck_files.proofs.FileSteps.{files_shown, lookup-shown}
+use Rattle.std.{proofs.Common.{ℕ, List, Option, ◌∙◌, ap}, specs.Prelude.vec_items, specs.Option.option_map}
+use Rattle.deck_files.{specs.Files.named, specs.declared.known_rows.Known.Known, specs.KnownFiles.KnownRows, proofs.FileSteps.{files_shown, lookup-shown}}
 use Rattle.deck_files.proofs.known_rows.KnownRows.place.Goals as goal
 
 pub returns-in-Some : goal.returns-in-Some

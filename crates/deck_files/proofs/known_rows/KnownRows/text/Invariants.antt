@@ -1,6 +1,5 @@
 -- The lines of the files so far, and behind them those of the files that are left.
-use Rattle.std.proofs.Common.{◌≡◌, ◌++◌, map}
-use Rattle.std.specs.Prelude.{vec_items}
+use Rattle.std.{proofs.Common.{◌≡◌, ◌++◌, map}, specs.Prelude.vec_items}
 use Rattle.deck_files.specs.KnownTexts.{rows_text}
 use Rattle.deck_files.proofs.known_rows.KnownRows.text.Given as goal
 

@@ -1,10 +1,7 @@
-use Rattle.std.proofs.Common.{ℕ, List, Option, ap, ap₂, ◌∙◌}
-use Rattle.std.specs.Map.{lookup}
+use Rattle.std.{proofs.Common.{ℕ, List, Option, ap, ap₂, ◌∙◌}, specs.Map.lookup}
 use Rattle.indexmap.specs.IndexMap.{insert_entry}
-use Rattle.definitions.specs.Characters.{same_text}
-use Rattle.definitions.specs.Layout.{with_common}
-use Rattle.deck_linker.specs.Joins.CommonLengths.{lengths_shown, widened}
-use Rattle.deck_linker.proofs.CommonLaws.{with_common-shown}
+use Rattle.definitions.specs.{Characters.same_text, Layout.with_common}
+use Rattle.deck_linker.{specs.Joins.CommonLengths.{lengths_shown, widened}, proofs.CommonLaws.with_common-shown}
 use Rattle.deck_linker.proofs.common_table.CommonTable.add.Goals as goal
 
 pub returns : goal.returns

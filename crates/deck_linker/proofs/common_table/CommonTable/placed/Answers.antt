@@ -1,10 +1,7 @@
 use Rattle.std.proofs.Common.{ℕ, ◌≡◌, ◌++◌, ◌∷◌, List, ap, sym, ◌∙◌}
 use Rattle.indexmap.specs.IndexSet.{insert_key}
-use Rattle.definitions.specs.Lengths.{BlockLength}
-use Rattle.definitions.specs.Layout.{Common, commons_from, end_after_common, placed_common}
-use Rattle.deck_linker.specs.Joins.CommonLengths.{lengths_shown}
-use Rattle.deck_linker.specs.Joins.CommonSets.{are_named_alike}
-use Rattle.deck_linker.proofs.CommonLaws.{placed-more}
+use Rattle.definitions.specs.{Lengths.BlockLength, Layout.{Common, commons_from, end_after_common, placed_common}}
+use Rattle.deck_linker.{specs.Joins.CommonLengths.lengths_shown, specs.Joins.CommonSets.are_named_alike, proofs.CommonLaws.placed-more}
 use Rattle.deck_linker.proofs.common_table.CommonTable.placed.Goals as goal
 
 pub loop-name-preserved : goal.loop-name-preserved

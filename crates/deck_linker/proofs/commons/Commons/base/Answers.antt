@@ -1,5 +1,4 @@
-use Rattle.std.proofs.Common.{◌∙◌, List, ℕ, Option, ap}
-use Rattle.std.specs.Option.{option_map_or}
+use Rattle.std.{proofs.Common.{◌∙◌, List, ℕ, Option, ap}, specs.Option.option_map_or}
 use Rattle.definitions.specs.Layout.{Common, common_base}
 use Rattle.deck_linker.proofs.CommonLaws.{base-found}
 use Rattle.deck_linker.proofs.commons.Commons.base.Goals as goal

@@ -1,9 +1,6 @@
-use Rattle.std.proofs.Common.{◌∙◌, List, ℕ, ap}
-use Rattle.std.proofs.lemmas.Iterator.Adapters.{position_from-zero}
-use Rattle.definitions.specs.Characters.{same_text}
-use Rattle.definitions.specs.Layout.{Common}
-use Rattle.deck_linker.specs.Joins.CommonWords.{common_place}
-use Rattle.deck_linker.proofs.CommonLaws.{place-named}
+use Rattle.std.proofs.{Common.{◌∙◌, List, ℕ, ap}, lemmas.Iterator.Adapters.position_from-zero}
+use Rattle.definitions.specs.{Characters.same_text, Layout.Common}
+use Rattle.deck_linker.{specs.Joins.CommonWords.common_place, proofs.CommonLaws.place-named}
 use Rattle.deck_linker.proofs.commons.Commons.place.Goals as goal
 
 pub returns : goal.returns

@@ -1,6 +1,5 @@
 use Rattle.std.proofs.Common.{ℕ, ◌≡◌, ◌∙◌, List, [], ap, ap₂, map}
-use Rattle.definitions.specs.Layout.{Based, Common, Layout, based_from, commons_from, common_lengths, end_of_decks, first_base}
-use Rattle.definitions.specs.Objects.{Object, object_of}
+use Rattle.definitions.specs.{Layout.{Based, Common, Layout, based_from, commons_from, common_lengths, end_of_decks, first_base}, Objects.{Object, object_of}}
 use Rattle.deck_linker.proofs.PlaceLaws.{objects-based}
 use Rattle.deck_linker.proofs.layout.Layout.new.Goals as goal
 

@@ -1,14 +1,6 @@
-use Rattle.std.proofs.Common.{◌∙◌, List, ap, length, subst}
-use Rattle.std.specs.Prelude.{map}
-use Rattle.definitions.specs.Build.{errors_in}
-use Rattle.definitions.specs.DeckInput.{Deck}
-use Rattle.definitions.specs.Layout.{Layout, layout_of}
-use Rattle.definitions.specs.LinkLines.{link_lines}
-use Rattle.definitions.specs.Map.{map_text}
-use Rattle.definitions.specs.Objects.{object_of}
-use Rattle.deck_linker.specs.Joins.InPieces.{DoFit, deck_text}
-use Rattle.deck_linker.specs.Publishing.{listings}
-use Rattle.deck_linker.proofs.InPieceLaws.{linked-parts}
+use Rattle.std.{proofs.Common.{◌∙◌, List, ap, length, subst}, specs.Prelude.map}
+use Rattle.definitions.specs.{Build.errors_in, DeckInput.Deck, Layout.{Layout, layout_of}, LinkLines.link_lines, Map.map_text, Objects.object_of}
+use Rattle.deck_linker.{specs.Joins.InPieces.{DoFit, deck_text}, specs.Publishing.listings, proofs.InPieceLaws.linked-parts}
 use Rattle.deck_linker.proofs.linked_decks.LinkedDecks.new.Goals as goal
 
 pub invariant_of-result : goal.invariant_of-result

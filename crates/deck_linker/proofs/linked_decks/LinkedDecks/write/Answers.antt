@@ -1,12 +1,7 @@
-use Rattle.std.proofs.Common.{◌++◌, ◌∙◌, ℕ, List, ap, ap₂, arith, length, subst, sym}
-use Rattle.std.specs.Prelude.{flat_map}
-use Rattle.definitions.specs.Build.{build_of}
-use Rattle.definitions.specs.DeckInput.{Deck}
+use Rattle.std.{proofs.Common.{◌++◌, ◌∙◌, ℕ, List, ap, ap₂, arith, length, subst, sym}, specs.Prelude.flat_map}
+use Rattle.definitions.specs.{Build.build_of, DeckInput.Deck}
 use Rattle.text_ports.specs.Joins.Sending.{Sends}
-use Rattle.deck_linker.specs.Joins.InPieces.{end_text}
-use Rattle.deck_linker.specs.Publishing.{listings}
-use Rattle.deck_linker.specs.Joins.Sections.{deck_section}
-use Rattle.deck_linker.proofs.InPieceLaws.{parts-long, parts-whole}
+use Rattle.deck_linker.{specs.Joins.InPieces.end_text, specs.Publishing.listings, specs.Joins.Sections.deck_section, proofs.InPieceLaws.{parts-long, parts-whole}}
 use Rattle.deck_linker.proofs.linked_decks.LinkedDecks.write.Goals as goal
 
 pub send_all-requires-clause-few : goal.send_all-requires-clause-few

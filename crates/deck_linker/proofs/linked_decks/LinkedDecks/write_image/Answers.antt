@@ -1,8 +1,5 @@
-use Rattle.std.proofs.Common.{◌<◌, ◌^◌, ◌++◌, arith, length, length-append}
-use Rattle.std.specs.Prelude.{flat_map}
-use Rattle.deck_linker.specs.Joins.InPieces.{end_text}
-use Rattle.deck_linker.specs.Joins.Sections.{deck_section}
-use Rattle.deck_linker.proofs.InPieceLaws.{parts-long, sent-few}
+use Rattle.std.{proofs.Common.{◌<◌, ◌^◌, ◌++◌, arith, length, length-append}, specs.Prelude.flat_map}
+use Rattle.deck_linker.{specs.Joins.InPieces.end_text, specs.Joins.Sections.deck_section, proofs.InPieceLaws.{parts-long, sent-few}}
 use Rattle.deck_linker.proofs.linked_decks.LinkedDecks.write_image.Goals as goal
 
 pub send_image-requires-clause-few : goal.send_image-requires-clause-few

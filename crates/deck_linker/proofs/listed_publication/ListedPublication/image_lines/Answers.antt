@@ -1,8 +1,6 @@
 use Rattle.std.proofs.Common.{ℕ, List, ◌∙◌, ap}
 use Rattle.definitions.specs.DeckInput.{Deck}
-use Rattle.deck_linker.specs.Joins.Listed.{end_of, sections_of}
-use Rattle.deck_linker.specs.Publishing.{Published, lines_in}
-use Rattle.deck_linker.proofs.SectionLaws.{image-told}
+use Rattle.deck_linker.{specs.Joins.Listed.{end_of, sections_of}, specs.Publishing.{Published, lines_in}, proofs.SectionLaws.image-told}
 use Rattle.deck_linker.proofs.listed_publication.ListedPublication.image_lines.Goals as goal
 
 pub returns : goal.returns

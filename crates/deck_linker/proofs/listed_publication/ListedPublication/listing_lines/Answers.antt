@@ -1,7 +1,6 @@
 use Rattle.std.proofs.Common.{ℕ, List, ◌∙◌, ap}
 use Rattle.definitions.specs.DeckInput.{Deck}
-use Rattle.deck_linker.specs.Publishing.{Published, lines_in, map_of}
-use Rattle.deck_linker.proofs.ListedLaws.{listing-told}
+use Rattle.deck_linker.{specs.Publishing.{Published, lines_in, map_of}, proofs.ListedLaws.listing-told}
 use Rattle.deck_linker.proofs.listed_publication.ListedPublication.listing_lines.Goals as goal
 
 pub returns : goal.returns

@@ -1,8 +1,6 @@
 use Rattle.std.proofs.Common.{List, ◌∙◌, ap}
 use Rattle.definitions.specs.DeckInput.{Deck}
-use Rattle.deck_linker.specs.Joins.Listed.{sections_of}
-use Rattle.deck_linker.specs.Publishing.{Published}
-use Rattle.deck_linker.proofs.SectionLaws.{named-told}
+use Rattle.deck_linker.{specs.Joins.Listed.sections_of, specs.Publishing.Published, proofs.SectionLaws.named-told}
 use Rattle.deck_linker.proofs.listed_publication.ListedPublication.section_named.Goals as goal
 
 pub returns : goal.returns

@@ -1,9 +1,7 @@
 use Rattle.std.proofs.Common.{ℕ, List, ◌∙◌, ap, subst}
 use Rattle.definitions.specs.DeckInput.{Deck}
 use Rattle.text_ports.specs.Joins.Sending.{Sends}
-use Rattle.deck_linker.specs.Joins.Listed.{end_of, sections_of}
-use Rattle.deck_linker.specs.Publishing.{Published}
-use Rattle.deck_linker.proofs.SectionLaws.{image-told}
+use Rattle.deck_linker.{specs.Joins.Listed.{end_of, sections_of}, specs.Publishing.Published, proofs.SectionLaws.image-told}
 use Rattle.deck_linker.proofs.listed_publication.ListedPublication.write_image.Goals as goal
 
 pub returns-clause-sends : goal.returns-clause-sends

@@ -1,8 +1,7 @@
 use Rattle.std.proofs.Common.{ℕ, List, ◌∙◌, ap, subst}
 use Rattle.definitions.specs.DeckInput.{Deck}
 use Rattle.text_ports.specs.Joins.Sending.{Sends}
-use Rattle.deck_linker.specs.Publishing.{Published, map_of}
-use Rattle.deck_linker.proofs.ListedLaws.{listing-told}
+use Rattle.deck_linker.{specs.Publishing.{Published, map_of}, proofs.ListedLaws.listing-told}
 use Rattle.deck_linker.proofs.listed_publication.ListedPublication.write_listing.Goals as goal
 
 pub returns-clause-sends : goal.returns-clause-sends

@@ -1,7 +1,5 @@
 use Rattle.std.proofs.Common.{◌∙◌, ap}
-use Rattle.definitions.specs.DeckInput.{Deck}
-use Rattle.definitions.specs.Listing.{deck_listing}
-use Rattle.definitions.specs.Objects.{object_of}
+use Rattle.definitions.specs.{DeckInput.Deck, Listing.deck_listing, Objects.object_of}
 use Rattle.deck_listing.proofs.listed_object.ListedObject.listing.Goals as goal
 
 pub returns : goal.returns

@@ -1,5 +1,4 @@
-use Rattle.std.proofs.Common.{IfSome, Option, sym, ap, subst}
-use Rattle.std.specs.Option.{option_map}
+use Rattle.std.{proofs.Common.{IfSome, Option, sym, ap, subst}, specs.Option.option_map}
 use Rattle.definitions.specs.DeckInput.{Deck}
 use Rattle.deck_listing.specs.KeptSections.{IsSectionOf, KeptSection}
 use Rattle.deck_listing.proofs.listed_object.ListedObject.section.Goals as goal

@@ -1,10 +1,6 @@
-use Rattle.std.proofs.Common.{◌∙◌, IfSome, Option, sym, ap, subst}
-use Rattle.std.specs.Option.{option_map}
-use Rattle.definitions.specs.DeckInput.{Deck}
-use Rattle.definitions.specs.Listing.{deck_listing}
-use Rattle.definitions.specs.Objects.{object_of}
-use Rattle.deck_listing.specs.DecksBehind.{decks_behind}
-use Rattle.deck_listing.specs.KeptSections.{IsSectionOf, KeptSection}
+use Rattle.std.{proofs.Common.{◌∙◌, IfSome, Option, sym, ap, subst}, specs.Option.option_map}
+use Rattle.definitions.specs.{DeckInput.Deck, Listing.deck_listing, Objects.object_of}
+use Rattle.deck_listing.specs.{DecksBehind.decks_behind, KeptSections.{IsSectionOf, KeptSection}}
 use Rattle.deck_listing.proofs.listed_object.ListedObject.share.Goals as goal
 
 pub invariant_of-result : goal.invariant_of-result

@@ -1,5 +1,4 @@
-use Rattle.std.proofs.Common.{arith}
-use Rattle.std.proofs.lemmas.Nat.{shl_whole}
+use Rattle.std.proofs.{Common.arith, lemmas.Nat.shl_whole}
 use Rattle.deck_listing.proofs.ParcelSteps.{joined_below, joined_in_parcel}
 use Rattle.deck_listing.proofs.packing.fields.joined_bits.Goals as goal
 

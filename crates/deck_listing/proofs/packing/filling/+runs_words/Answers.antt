@@ -1,8 +1,5 @@
 use Rattle.std.proofs.Common.{arith, rules, List, sym, subst}
-use Rattle.deck_listing.specs.Joins.Spans.{parcels_in_runs}
-use Rattle.deck_listing.specs.Joins.Filling.{IsFilled, latest_value}
-use Rattle.deck_listing.specs.declared.packing.word_spans.WordSpan.{WordSpan}
-use Rattle.deck_listing.proofs.MergeLaws.{halves_rise, halves_filled, if_ok}
+use Rattle.deck_listing.{specs.Joins.Spans.parcels_in_runs, specs.Joins.Filling.{IsFilled, latest_value}, specs.declared.packing.word_spans.WordSpan.WordSpan, proofs.MergeLaws.{halves_rise, halves_filled, if_ok}}
 use Rattle.deck_listing.proofs.packing.filling.+runs_words.Goals as goal
 
 pub runs_words-requires : goal.runs_words-requires

@@ -1,8 +1,6 @@
 use Rattle.std.proofs.Common.{arith, ◌<◌, length, take, List, subst}
 use Rattle.definitions.specs.Words.{Parcel}
-use Rattle.deck_listing.specs.Joins.Spans.{parcels_in}
-use Rattle.deck_listing.specs.Joins.Filling.{IsGathered}
-use Rattle.deck_listing.proofs.GatherSteps.{run_more, next_order, next_stands}
+use Rattle.deck_listing.{specs.Joins.Spans.parcels_in, specs.Joins.Filling.IsGathered, proofs.GatherSteps.{run_more, next_order, next_stands}}
 use Rattle.deck_listing.proofs.packing.gathering.run_words.Goals as goal
 
 pub loop-span-init : goal.loop-span-init

@@ -1,7 +1,6 @@
 use Rattle.std.proofs.Common.{ℕ, ◌/◌, ◌≤◌, take, drop}
 use Rattle.definitions.specs.Kinds.{units}
-use Rattle.deck_listing.specs.Joins.Spans.{RiseWithin, places, parcels_in}
-use Rattle.deck_listing.specs.Joins.Filling.{IsGathered}
+use Rattle.deck_listing.specs.Joins.{Spans.{RiseWithin, places, parcels_in}, Filling.IsGathered}
 use Rattle.deck_listing.proofs.packing.gathering.run_words.Given as goal
 
 abbrev pub invariant-loop-span : goal.invariant-loop-span

@@ -1,10 +1,6 @@
-use Rattle.std.proofs.Common.{◌<◌, List, length, arith, get_or, subst}
-use Rattle.std.proofs.lemmas.List.{drop_more}
-use Rattle.deck_listing.specs.Joins.Joining.{IsJoining}
-use Rattle.deck_listing.specs.declared.packing.word_spans.WordSpan.{WordSpan}
-use Rattle.deck_listing.proofs.JoinLaws.{joining-next, joining-order, joining-same}
+use Rattle.std.proofs.{Common.{◌<◌, List, length, arith, get_or, subst}, lemmas.List.drop_more}
+use Rattle.deck_listing.{specs.Joins.Joining.IsJoining, specs.declared.packing.word_spans.WordSpan.WordSpan, proofs.JoinLaws.{joining-next, joining-order, joining-same}, proofs.packing.joining.joined_spans.Goals.{in-Some-both, in-None+in_ok-push-in-None}}
 use Rattle.deck_listing.proofs.packing.joining.joined_spans.Goals as goal
-use Rattle.deck_listing.proofs.packing.joining.joined_spans.Goals.{in-Some-both, in-None+in_ok-push-in-None}
 
 abbrev none_read : WordSpan
 none_read = record { offset = 0; count = 0; value = 0 }

@@ -1,5 +1,4 @@
-use Rattle.deck_listing.proofs.PackingLaws.{put_bits-joined}
-use Rattle.deck_listing.proofs.PutLaws.{moved_stays}
+use Rattle.deck_listing.proofs.{PackingLaws.put_bits-joined, PutLaws.moved_stays}
 use Rattle.deck_listing.proofs.packing.laws.fields_join.Goals as goal
 
 pub returns-clause-joined : goal.returns-clause-joined

@@ -1,9 +1,5 @@
-use Rattle.std.proofs.Common.{◌<◌, ◌≡◌, [], List, drop, length, arith, get_or, subst}
-use Rattle.std.proofs.lemmas.List.{drop_more, drop_all}
-use Rattle.deck_listing.specs.Joins.Filling.{IsMerging}
-use Rattle.deck_listing.specs.declared.packing.word_spans.WordSpan.{WordSpan}
-use Rattle.deck_listing.proofs.MergeLaws.{merging_all, merging_more}
-use Rattle.deck_listing.proofs.RiseLaws.{first_ends}
+use Rattle.std.proofs.{Common.{◌<◌, ◌≡◌, [], List, drop, length, arith, get_or, subst}, lemmas.List.{drop_more, drop_all}}
+use Rattle.deck_listing.{specs.Joins.Filling.IsMerging, specs.declared.packing.word_spans.WordSpan.WordSpan, proofs.MergeLaws.{merging_all, merging_more}, proofs.RiseLaws.first_ends}
 use Rattle.deck_listing.proofs.packing.merging.merged.Goals as goal
 
 abbrev none_read : WordSpan

@@ -1,8 +1,5 @@
-use Rattle.std.proofs.Common.{◌<◌, drop, length, arith, get_or}
-use Rattle.std.proofs.lemmas.List.{drop_more}
-use Rattle.deck_listing.specs.declared.packing.word_spans.WordSpan.{WordSpan}
-use Rattle.deck_listing.proofs.MergeLaws.{taking_none, taking_more, taking_last, taking_beyond}
-use Rattle.deck_listing.proofs.RiseLaws.{first_ends}
+use Rattle.std.proofs.{Common.{◌<◌, drop, length, arith, get_or}, lemmas.List.drop_more}
+use Rattle.deck_listing.{specs.declared.packing.word_spans.WordSpan.WordSpan, proofs.MergeLaws.{taking_none, taking_more, taking_last, taking_beyond}, proofs.RiseLaws.first_ends}
 use Rattle.deck_listing.proofs.packing.merging.push_between.Goals as goal
 
 abbrev none_read : WordSpan

@@ -1,5 +1,4 @@
-use Rattle.deck_listing.proofs.MergeLaws.{if_ok}
-use Rattle.deck_listing.proofs.OverLaws.{filled_over}
+use Rattle.deck_listing.proofs.{MergeLaws.if_ok, OverLaws.filled_over}
 use Rattle.deck_listing.proofs.packing.merging.words_over.Goals as goal
 
 pub returns-clause-words : goal.returns-clause-words

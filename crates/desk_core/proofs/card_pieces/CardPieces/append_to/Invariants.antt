@@ -1,5 +1,4 @@
-use Rattle.std.proofs.Common.{◌≡◌, ◌+◌, ◌++◌, length, take}
-use Rattle.std.specs.Prelude.{vec_len, vec_capacity}
+use Rattle.std.{proofs.Common.{◌≡◌, ◌+◌, ◌++◌, length, take}, specs.Prelude.{vec_len, vec_capacity}}
 use Rattle.desk_core.specs.Joins.Pieces.{joined}
 use Rattle.desk_core.proofs.card_pieces.CardPieces.append_to.Given as goal
 

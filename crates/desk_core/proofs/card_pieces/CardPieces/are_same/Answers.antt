@@ -1,11 +1,6 @@
 -- Cards are distinguished piece by piece.
-use Rattle.std.proofs.Common.{◌≡◌, ◌+◌, ◌&&◌, ◌==◌, Bool, true, false, List, [], length, take, drop, refl, sym, ap, ap₂, ◌∙◌, arith}
-use Rattle.std.proofs.lemmas.Bool.{and_left}
-use Rattle.std.proofs.lemmas.List.{drop_all}
-use Rattle.desk_core.specs.Joins.Language.{Card}
-use Rattle.desk_core.specs.Joins.Pieces.{joined}
-use Rattle.desk_core.specs.Delivering.{same_cards}
-use Rattle.desk_core.proofs.PieceLaws.{same-next, same-short, same-none}
+use Rattle.std.proofs.{Common.{◌≡◌, ◌+◌, ◌&&◌, ◌==◌, Bool, true, false, List, [], length, take, drop, refl, sym, ap, ap₂, ◌∙◌, arith}, lemmas.Bool.and_left, lemmas.List.drop_all}
+use Rattle.desk_core.{specs.Joins.Language.Card, specs.Joins.Pieces.joined, specs.Delivering.same_cards, proofs.PieceLaws.{same-next, same-short, same-none}}
 use Rattle.desk_core.proofs.card_pieces.CardPieces.are_same.Goals as goal
 
 pub returns-then-left-len : goal.returns-then-left-len

@@ -1,8 +1,5 @@
-use Rattle.std.proofs.Common.{◌<◌, List, [], length, get_or, sym, ap, subst, ◌∙◌, arith}
-use Rattle.std.proofs.lemmas.List.{get_or_read}
-use Rattle.desk_core.specs.Joins.Language.{Card}
-use Rattle.desk_core.specs.Joins.Pieces.{IsSpot}
-use Rattle.desk_core.proofs.PieceLaws.{is-piece, card-inside}
+use Rattle.std.proofs.{Common.{◌<◌, List, [], length, get_or, sym, ap, subst, ◌∙◌, arith}, lemmas.List.get_or_read}
+use Rattle.desk_core.{specs.Joins.Language.Card, specs.Joins.Pieces.IsSpot, proofs.PieceLaws.{is-piece, card-inside}}
 use Rattle.desk_core.proofs.card_pieces.CardPieces.card_at.Goals as goal
 
 pub returns : goal.returns

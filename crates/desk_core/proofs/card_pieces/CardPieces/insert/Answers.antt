@@ -1,10 +1,6 @@
 -- The card is put into the piece that has the place.
-use Rattle.std.proofs.Common.{List, [], set, ap, ap₂, ◌∙◌}
-use Rattle.std.specs.Prelude.{insert}
-use Rattle.std.proofs.lemmas.List.{get_or_read}
-use Rattle.desk_core.specs.Joins.Language.{Card}
-use Rattle.desk_core.specs.Joins.Pieces.{joined}
-use Rattle.desk_core.proofs.PieceLaws.{inserted-inside}
+use Rattle.std.{proofs.Common.{List, [], set, ap, ap₂, ◌∙◌}, specs.Prelude.insert, proofs.lemmas.List.get_or_read}
+use Rattle.desk_core.{specs.Joins.Language.Card, specs.Joins.Pieces.joined, proofs.PieceLaws.inserted-inside}
 use Rattle.desk_core.proofs.card_pieces.CardPieces.insert.Goals as goal
 
 pub returns : goal.returns

@@ -1,10 +1,6 @@
 -- The card goes out of its piece.
-use Rattle.std.proofs.Common.{◌<◌, List, [], length, set, sym, ap, subst, ◌∙◌, arith}
-use Rattle.std.specs.Prelude.{remove}
-use Rattle.std.proofs.lemmas.List.{get_or_read}
-use Rattle.desk_core.specs.Joins.Language.{Card}
-use Rattle.desk_core.specs.Joins.Pieces.{joined}
-use Rattle.desk_core.proofs.PieceLaws.{is-piece, removed-inside}
+use Rattle.std.{proofs.Common.{◌<◌, List, [], length, set, sym, ap, subst, ◌∙◌, arith}, specs.Prelude.remove, proofs.lemmas.List.get_or_read}
+use Rattle.desk_core.{specs.Joins.Language.Card, specs.Joins.Pieces.joined, proofs.PieceLaws.{is-piece, removed-inside}}
 use Rattle.desk_core.proofs.card_pieces.CardPieces.remove.Goals as goal
 
 pub returns : goal.returns

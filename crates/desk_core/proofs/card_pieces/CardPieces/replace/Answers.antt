@@ -1,9 +1,6 @@
 -- The card takes its place in its piece.
-use Rattle.std.proofs.Common.{◌<◌, List, [], length, set, sym, ap, ap₂, subst, ◌∙◌, arith}
-use Rattle.std.proofs.lemmas.List.{get_or_read}
-use Rattle.desk_core.specs.Joins.Language.{Card}
-use Rattle.desk_core.specs.Joins.Pieces.{joined}
-use Rattle.desk_core.proofs.PieceLaws.{is-piece, replaced-inside}
+use Rattle.std.proofs.{Common.{◌<◌, List, [], length, set, sym, ap, ap₂, subst, ◌∙◌, arith}, lemmas.List.get_or_read}
+use Rattle.desk_core.{specs.Joins.Language.Card, specs.Joins.Pieces.joined, proofs.PieceLaws.{is-piece, replaced-inside}}
 use Rattle.desk_core.proofs.card_pieces.CardPieces.replace.Goals as goal
 
 pub returns : goal.returns

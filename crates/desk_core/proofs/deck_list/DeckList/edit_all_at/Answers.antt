@@ -1,8 +1,5 @@
 use Rattle.std.proofs.Common.{◌∙◌, List, ap, refl, arith, length, is_ok, cond}
-use Rattle.desk_core.specs.Desks.{DeskDeck}
-use Rattle.desk_core.specs.Changing.{edited_deck}
-use Rattle.desk_core.specs.Joins.OwnNames.{with_at}
-use Rattle.desk_core.proofs.PlaceLaws.{formed-if}
+use Rattle.desk_core.{specs.Desks.DeskDeck, specs.Changing.edited_deck, specs.Joins.OwnNames.with_at, proofs.PlaceLaws.formed-if}
 use Rattle.desk_core.proofs.deck_list.DeckList.edit_all_at.Goals as goal
 
 pub invariant_of-self : goal.invariant_of-self

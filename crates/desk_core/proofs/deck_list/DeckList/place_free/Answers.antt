@@ -1,7 +1,5 @@
 use Rattle.std.proofs.Common.{◌∙◌, List, ap, position}
-use Rattle.desk_core.specs.Desks.{DeskDeck}
-use Rattle.desk_core.specs.Claiming.{is_free}
-use Rattle.desk_core.proofs.PlaceLaws.{placed}
+use Rattle.desk_core.{specs.Desks.DeskDeck, specs.Claiming.is_free, proofs.PlaceLaws.placed}
 use Rattle.desk_core.proofs.deck_list.DeckList.place_free.Goals as goal
 
 pub returns : goal.returns

@@ -1,7 +1,5 @@
 use Rattle.std.proofs.Common.{◌∙◌, List, ap, position}
-use Rattle.desk_core.specs.Desks.{DeskDeck}
-use Rattle.desk_core.specs.Joins.OwnNames.{has_lease}
-use Rattle.desk_core.proofs.PlaceLaws.{placed}
+use Rattle.desk_core.{specs.Desks.DeskDeck, specs.Joins.OwnNames.has_lease, proofs.PlaceLaws.placed}
 use Rattle.desk_core.proofs.deck_list.DeckList.place_leased.Goals as goal
 
 pub returns : goal.returns

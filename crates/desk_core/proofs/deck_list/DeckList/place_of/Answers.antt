@@ -1,6 +1,5 @@
 use Rattle.std.proofs.Common.{◌∙◌, List, ap, position}
-use Rattle.desk_core.specs.Desks.{DeskDeck, is_named}
-use Rattle.desk_core.proofs.PlaceLaws.{placed}
+use Rattle.desk_core.{specs.Desks.{DeskDeck, is_named}, proofs.PlaceLaws.placed}
 use Rattle.desk_core.proofs.deck_list.DeckList.place_of.Goals as goal
 
 pub returns : goal.returns

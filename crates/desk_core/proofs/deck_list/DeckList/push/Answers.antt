@@ -1,7 +1,5 @@
 use Rattle.std.proofs.Common.{◌∙◌, List, ap, sym, subst, find}
-use Rattle.desk_core.specs.Desks.{DeskDeck, is_named}
-use Rattle.desk_core.specs.Joins.OwnNames.{HaveOwnNames}
-use Rattle.desk_core.proofs.PlaceLaws.{own-added}
+use Rattle.desk_core.{specs.Desks.{DeskDeck, is_named}, specs.Joins.OwnNames.HaveOwnNames, proofs.PlaceLaws.own-added}
 use Rattle.desk_core.proofs.deck_list.DeckList.push.Goals as goal
 
 pub invariant_of-self-2 : goal.invariant_of-self-2

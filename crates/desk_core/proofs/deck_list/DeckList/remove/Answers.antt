@@ -1,6 +1,5 @@
 use Rattle.std.proofs.Common.{sym, subst}
-use Rattle.desk_core.specs.Joins.OwnNames.{HaveOwnNames}
-use Rattle.desk_core.proofs.PlaceLaws.{own-removed}
+use Rattle.desk_core.{specs.Joins.OwnNames.HaveOwnNames, proofs.PlaceLaws.own-removed}
 use Rattle.desk_core.proofs.deck_list.DeckList.remove.Goals as goal
 
 pub invariant_of-self : goal.invariant_of-self

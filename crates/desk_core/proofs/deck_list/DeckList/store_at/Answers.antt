@@ -1,8 +1,5 @@
 use Rattle.std.proofs.Common.{◌∙◌, List, Some, ap, refl, arith, length}
-use Rattle.desk_core.specs.Desks.{DeskDeck}
-use Rattle.desk_core.specs.Delivering.{stored}
-use Rattle.desk_core.specs.Joins.OwnNames.{with_at}
-use Rattle.desk_core.proofs.PlaceLaws.{formed-at}
+use Rattle.desk_core.{specs.Desks.DeskDeck, specs.Delivering.stored, specs.Joins.OwnNames.with_at, proofs.PlaceLaws.formed-at}
 use Rattle.desk_core.proofs.deck_list.DeckList.store_at.Goals as goal
 
 pub invariant_of-self : goal.invariant_of-self

@@ -1,11 +1,5 @@
 use Rattle.std.proofs.Common.{◌≡◌, ◌∙◌, ℕ, List, Option, inl, ap₂, sym, subst}
-use Rattle.desk_core.specs.Joins.Edits.{Edit}
-use Rattle.desk_core.specs.Desks.{Desk, is_named}
-use Rattle.desk_core.specs.Joins.OwnNames.{IsPlaceOf}
-use Rattle.desk_core.specs.Carrying.{batch_since}
-use Rattle.desk_core.specs.Joins.Turns.{MayAnswer}
-use Rattle.desk_core.specs.Joins.Calls.{Carried, Refused, OutOfMemory}
-use Rattle.desk_core.proofs.CarryDone.{batch-refused, batch-done, batch-starved, carried-applies}
+use Rattle.desk_core.{specs.Joins.Edits.Edit, specs.Desks.{Desk, is_named}, specs.Joins.OwnNames.IsPlaceOf, specs.Carrying.batch_since, specs.Joins.Turns.MayAnswer, specs.Joins.Calls.{Carried, Refused, OutOfMemory}, proofs.CarryDone.{batch-refused, batch-done, batch-starved, carried-applies}}
 use Rattle.desk_core.proofs.desk.Desk.batch_of.Goals as goal
 
 pub carry_at-requires : goal.carry_at-requires

@@ -1,7 +1,5 @@
 use Rattle.std.proofs.Common.{◌≡◌, ◌∙◌, List, subst}
-use Rattle.desk_core.specs.Joins.Edits.{Edit}
-use Rattle.desk_core.specs.Carrying.{batch_since}
-use Rattle.desk_core.specs.Joins.Turns.{MayAnswer}
+use Rattle.desk_core.specs.{Joins.Edits.Edit, Carrying.batch_since, Joins.Turns.MayAnswer}
 use Rattle.desk_core.proofs.desk.Desk.batch_since.Goals as goal
 
 pub returns : goal.returns

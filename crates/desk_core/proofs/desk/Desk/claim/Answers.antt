@@ -1,11 +1,5 @@
-use Rattle.std.proofs.Common.{◌≡◌, ℕ, Option, true, subst, sym}
-use Rattle.std.specs.List.{list_any}
-use Rattle.desk_core.specs.Desks.{Desk}
-use Rattle.desk_core.specs.Joins.Calls.{DeckJob, Refused, OutOfMemory}
-use Rattle.desk_core.specs.Claiming.{is_behind, is_free, claim}
-use Rattle.desk_core.specs.Joins.OwnNames.{IsPlaceOf}
-use Rattle.desk_core.specs.Joins.Turns.{MayAnswer}
-use Rattle.desk_core.proofs.ClaimDone.{claim-told, claim-lacking, claim-done}
+use Rattle.std.{proofs.Common.{◌≡◌, ℕ, Option, true, subst, sym}, specs.List.list_any}
+use Rattle.desk_core.{specs.Desks.Desk, specs.Joins.Calls.{DeckJob, Refused, OutOfMemory}, specs.Claiming.{is_behind, is_free, claim}, specs.Joins.OwnNames.IsPlaceOf, specs.Joins.Turns.MayAnswer, proofs.ClaimDone.{claim-told, claim-lacking, claim-done}}
 use Rattle.desk_core.proofs.desk.Desk.claim.Goals as goal
 
 pub give_out_at-requires-clause-within : goal.give_out_at-requires-clause-within

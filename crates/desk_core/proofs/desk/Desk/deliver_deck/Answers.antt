@@ -1,6 +1,5 @@
 use Rattle.std.proofs.Common.{ℕ, Option, subst, refl}
-use Rattle.desk_core.specs.Joins.OwnNames.{IsPlaceOf, has_lease}
-use Rattle.desk_core.proofs.DeliverDone.{delivered}
+use Rattle.desk_core.{specs.Joins.OwnNames.{IsPlaceOf, has_lease}, proofs.DeliverDone.delivered}
 use Rattle.desk_core.proofs.desk.Desk.deliver_deck.Goals as goal
 
 pub take_result-requires : goal.take_result-requires

@@ -1,8 +1,5 @@
 use Rattle.std.proofs.Common.{◌∙◌, ℕ, Option, ap, subst, sym}
-use Rattle.desk_core.specs.Desks.{is_named}
-use Rattle.desk_core.specs.Joins.OwnNames.{IsPlaceOf}
-use Rattle.desk_core.specs.Joins.Calls.{Changed}
-use Rattle.desk_core.proofs.ChangeDone.{drop-done}
+use Rattle.desk_core.{specs.Desks.is_named, specs.Joins.OwnNames.IsPlaceOf, specs.Joins.Calls.Changed, proofs.ChangeDone.drop-done}
 use Rattle.desk_core.proofs.desk.Desk.drop_deck.Goals as goal
 
 pub against_drop-requires : goal.against_drop-requires

@@ -1,8 +1,5 @@
 use Rattle.std.proofs.Common.{◌∙◌, ℕ, Option, inl, ap, subst, sym}
-use Rattle.desk_core.specs.Desks.{is_named}
-use Rattle.desk_core.specs.Joins.OwnNames.{IsPlaceOf}
-use Rattle.desk_core.specs.Joins.Calls.{Changed}
-use Rattle.desk_core.proofs.ChangeDone.{edit-done}
+use Rattle.desk_core.{specs.Desks.is_named, specs.Joins.OwnNames.IsPlaceOf, specs.Joins.Calls.Changed, proofs.ChangeDone.edit-done}
 use Rattle.desk_core.proofs.desk.Desk.edit_deck.Goals as goal
 
 pub against_edit-requires : goal.against_edit-requires

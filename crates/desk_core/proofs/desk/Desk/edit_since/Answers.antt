@@ -1,14 +1,5 @@
-use Rattle.std.proofs.Common.{rules, ◌≡◌, ◌∙◌, ◌∷◌, [], ◌+◌, ℕ, List, Option, None, inl, ap, ap₂, sym, subst}
-use Rattle.std.specs.Prelude.{slice_index_or}
-use Rattle.desk_core.specs.Joins.Edits.{Edit, fault_of, first_fault}
-use Rattle.desk_core.specs.Desks.{Desk, is_named}
-use Rattle.desk_core.specs.Joins.OwnNames.{IsPlaceOf, changed_at}
-use Rattle.desk_core.specs.Changing.{edited_deck}
-use Rattle.desk_core.specs.Joins.Calls.{Carried, Refused, OutOfMemory}
-use Rattle.desk_core.specs.Carrying.{edit_since}
-use Rattle.desk_core.specs.Joins.Turns.{MayAnswer}
-use Rattle.desk_core.proofs.CarryDone.{edit-refused, edit-done, edit-starved, carried-applies, only-one}
-use Rattle.desk_core.proofs.CardCounts.{first-applies}
+use Rattle.std.{proofs.Common.{rules, ◌≡◌, ◌∙◌, ◌∷◌, [], ◌+◌, ℕ, List, Option, None, inl, ap, ap₂, sym, subst}, specs.Prelude.slice_index_or}
+use Rattle.desk_core.{specs.Joins.Edits.{Edit, fault_of, first_fault}, specs.Desks.{Desk, is_named}, specs.Joins.OwnNames.{IsPlaceOf, changed_at}, specs.Changing.edited_deck, specs.Joins.Calls.{Carried, Refused, OutOfMemory}, specs.Carrying.edit_since, specs.Joins.Turns.MayAnswer, proofs.CarryDone.{edit-refused, edit-done, edit-starved, carried-applies, only-one}, proofs.CardCounts.first-applies}
 use Rattle.desk_core.proofs.desk.Desk.edit_since.Goals as goal
 
 pub carry_at-requires : goal.carry_at-requires

@@ -1,6 +1,5 @@
 use Rattle.std.proofs.Common.{◌∙◌, ℕ, Option, subst}
-use Rattle.desk_core.specs.Joins.OwnNames.{IsPlaceOf, has_lease}
-use Rattle.desk_core.proofs.DeliverDone.{given-up}
+use Rattle.desk_core.{specs.Joins.OwnNames.{IsPlaceOf, has_lease}, proofs.DeliverDone.given-up}
 use Rattle.desk_core.proofs.desk.Desk.give_up.Goals as goal
 
 pub lose-requires : goal.lose-requires

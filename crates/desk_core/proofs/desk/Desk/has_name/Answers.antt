@@ -1,6 +1,5 @@
 use Rattle.std.proofs.Common.{◌∙◌}
-use Rattle.desk_core.specs.Desks.{is_named}
-use Rattle.desk_core.proofs.PlaceLaws.{is-found}
+use Rattle.desk_core.{specs.Desks.is_named, proofs.PlaceLaws.is-found}
 use Rattle.desk_core.proofs.desk.Desk.has_name.Goals as goal
 
 pub returns : goal.returns

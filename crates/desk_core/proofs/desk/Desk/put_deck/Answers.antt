@@ -1,14 +1,5 @@
-use Rattle.std.proofs.Common.{◌≡◌, ◌∙◌, ℕ, Option, None, inl, inr, IsTrue, subst, sym}
-use Rattle.std.specs.Prelude.{slice_get}
-use Rattle.desk_core.specs.Joins.Language.{Deck}
-use Rattle.desk_core.specs.Desks.{Desk, is_named}
-use Rattle.desk_core.specs.Joins.OwnNames.{IsPlaceOf}
-use Rattle.desk_core.specs.Joins.Calls.{Reply}
-use Rattle.desk_core.specs.Answers.{Answer}
-use Rattle.desk_core.specs.Steps.{is_made}
-use Rattle.desk_core.specs.Changing.{against_put, put_deck}
-use Rattle.desk_core.specs.Joins.Turns.{IsAnswer, MayAnswer}
-use Rattle.desk_core.proofs.ChangeDone.{put-done}
+use Rattle.std.{proofs.Common.{◌≡◌, ◌∙◌, ℕ, Option, None, inl, inr, IsTrue, subst, sym}, specs.Prelude.slice_get}
+use Rattle.desk_core.{specs.Joins.Language.Deck, specs.Desks.{Desk, is_named}, specs.Joins.OwnNames.IsPlaceOf, specs.Joins.Calls.Reply, specs.Answers.Answer, specs.Steps.is_made, specs.Changing.{against_put, put_deck}, specs.Joins.Turns.{IsAnswer, MayAnswer}, proofs.ChangeDone.put-done}
 use Rattle.desk_core.proofs.desk.Desk.put_deck.Goals as goal
 
 pub against_put-requires : goal.against_put-requires

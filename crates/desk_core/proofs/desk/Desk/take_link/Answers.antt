@@ -1,7 +1,5 @@
 use Rattle.std.proofs.Common.{◌≡◌, ◌∙◌, List, ap, map, sym, true}
-use Rattle.desk_core.specs.Desks.{DeskDeck, Publication, deck_of}
-use Rattle.desk_core.specs.Delivering.{same_decks}
-use Rattle.desk_core.proofs.Same.{equal_lists}
+use Rattle.desk_core.{specs.Desks.{DeskDeck, Publication, deck_of}, specs.Delivering.same_decks, proofs.Same.equal_lists}
 use Rattle.desk_core.proofs.desk.Desk.take_link.Goals as goal
 
 pub refresh-requires : goal.refresh-requires

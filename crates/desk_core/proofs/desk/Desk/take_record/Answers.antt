@@ -1,9 +1,5 @@
-use Rattle.std.proofs.Common.{◌≡◌, ◌∙◌, true, sym, ap}
-use Rattle.std.specs.Prelude.{slice_get}
-use Rattle.std.proofs.lemmas.Bool.{and_parts}
-use Rattle.desk_core.specs.Desks.{Desk, deck_of}
-use Rattle.desk_core.specs.Delivering.{same_deck}
-use Rattle.desk_core.proofs.Same.{equal_decks}
+use Rattle.std.{proofs.Common.{◌≡◌, ◌∙◌, true, sym, ap}, specs.Prelude.slice_get, proofs.lemmas.Bool.and_parts}
+use Rattle.desk_core.{specs.Desks.{Desk, deck_of}, specs.Delivering.same_deck, proofs.Same.equal_decks}
 use Rattle.desk_core.proofs.desk.Desk.take_record.Goals as goal
 
 pub store_at-requires-clause-object : goal.store_at-requires-clause-object

@@ -1,8 +1,5 @@
-use Rattle.std.proofs.Common.{◌≡◌, ◌<◌, ◌∙◌, ℕ, List, length, Option, Some, ap, sym, subst, arith}
-use Rattle.std.specs.Prelude.{slice_get}
-use Rattle.desk_core.specs.Desks.{Desk, DeskDeck, is_named}
-use Rattle.desk_core.specs.Joins.OwnNames.{IsPlaceOf}
-use Rattle.desk_core.proofs.UndoDone.{few-backs, undo-refused, undo-done}
+use Rattle.std.{proofs.Common.{◌≡◌, ◌<◌, ◌∙◌, ℕ, List, length, Option, Some, ap, sym, subst, arith}, specs.Prelude.slice_get}
+use Rattle.desk_core.{specs.Desks.{Desk, DeskDeck, is_named}, specs.Joins.OwnNames.IsPlaceOf, proofs.UndoDone.{few-backs, undo-refused, undo-done}}
 use Rattle.desk_core.proofs.desk.Desk.undo.Goals as goal
 
 pub deck_at-deck-requires : goal.deck_at-deck-requires

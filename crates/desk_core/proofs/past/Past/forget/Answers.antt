@@ -1,9 +1,6 @@
 use Rattle.std.proofs.Common.{◌≡◌, ◌∙◌, ℕ, List, length, take, ap, ap₂, sym, arith}
 use Rattle.cards.specs.declared.carrying.MadeEdit.{MadeEdit}
-use Rattle.desk_core.specs.declared.past.Back.{Back}
-use Rattle.desk_core.specs.Past.{Past, KeptEdit, last_version, without_oldest}
-use Rattle.desk_core.specs.Joins.Stored.{kept_both}
-use Rattle.desk_core.proofs.PastSteps.{kept-length, kept-drop}
+use Rattle.desk_core.{specs.declared.past.Back.Back, specs.Past.{Past, KeptEdit, last_version, without_oldest}, specs.Joins.Stored.kept_both, proofs.PastSteps.{kept-length, kept-drop}}
 use Rattle.desk_core.proofs.past.Past.forget.Goals as goal
 
 pub version_of_last-last-requires : goal.version_of_last-last-requires

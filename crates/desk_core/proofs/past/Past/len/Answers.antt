@@ -1,6 +1,5 @@
 use Rattle.std.proofs.Common.{◌≡◌, ◌∙◌, length, ap, sym, arith}
-use Rattle.desk_core.specs.Past.{Past}
-use Rattle.desk_core.proofs.PastSteps.{kept-length}
+use Rattle.desk_core.{specs.Past.Past, proofs.PastSteps.kept-length}
 use Rattle.desk_core.proofs.past.Past.len.Goals as goal
 
 pub returns : goal.returns

@@ -1,9 +1,6 @@
 use Rattle.std.proofs.Common.{◌∙◌, ◌∷◌, [], List, ap, ap₂}
 use Rattle.cards.specs.declared.carrying.MadeEdit.{MadeEdit}
-use Rattle.desk_core.specs.declared.past.Back.{Back}
-use Rattle.desk_core.specs.Past.{Past, KeptEdit, with_edits}
-use Rattle.desk_core.specs.Joins.Stored.{past_of}
-use Rattle.desk_core.proofs.PastSteps.{kept-append}
+use Rattle.desk_core.{specs.declared.past.Back.Back, specs.Past.{Past, KeptEdit, with_edits}, specs.Joins.Stored.past_of, proofs.PastSteps.kept-append}
 use Rattle.desk_core.proofs.past.Past.push.Goals as goal
 
 pub returns-in-Ok : goal.returns-in-Ok

@@ -1,9 +1,6 @@
 use Rattle.std.proofs.Common.{◌∙◌, List, take, ap, ap₂}
 use Rattle.cards.specs.declared.carrying.MadeEdit.{MadeEdit}
-use Rattle.desk_core.specs.declared.past.Back.{Back}
-use Rattle.desk_core.specs.Past.{Past, KeptEdit}
-use Rattle.desk_core.specs.Joins.Stored.{past_of}
-use Rattle.desk_core.proofs.PastSteps.{kept-take}
+use Rattle.desk_core.{specs.declared.past.Back.Back, specs.Past.{Past, KeptEdit}, specs.Joins.Stored.past_of, proofs.PastSteps.kept-take}
 use Rattle.desk_core.proofs.past.Past.truncate.Goals as goal
 
 pub returns : goal.returns

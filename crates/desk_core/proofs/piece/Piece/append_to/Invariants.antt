@@ -1,5 +1,4 @@
-use Rattle.std.proofs.Common.{◌≡◌, ◌+◌, ◌++◌, take}
-use Rattle.std.specs.Prelude.{vec_len, vec_capacity}
+use Rattle.std.{proofs.Common.{◌≡◌, ◌+◌, ◌++◌, take}, specs.Prelude.{vec_len, vec_capacity}}
 use Rattle.desk_core.proofs.piece.Piece.append_to.Given as goal
 
 abbrev pub invariant-loop-card : goal.invariant-loop-card

@@ -1,8 +1,6 @@
 -- It ends behind so many cards of the piece.
 use Rattle.std.proofs.Common.{ℕ, ◌≡◌, ◌+◌, ◌-◌, List, take, length, sym, ap, ◌∙◌, arith}
-use Rattle.desk_core.specs.Joins.Language.{Card}
-use Rattle.desk_core.specs.Joins.Pieces.{part, source_cards}
-use Rattle.desk_core.proofs.PieceLaws.{part-length, part-front}
+use Rattle.desk_core.{specs.Joins.Language.Card, specs.Joins.Pieces.{part, source_cards}, proofs.PieceLaws.{part-length, part-front}}
 use Rattle.desk_core.proofs.piece.Piece.front.Goals as goal
 
 pub returns : goal.returns

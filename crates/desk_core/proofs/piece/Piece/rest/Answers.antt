@@ -1,8 +1,6 @@
 -- It begins behind so many cards of the piece.
 use Rattle.std.proofs.Common.{ℕ, ◌≡◌, ◌+◌, ◌-◌, List, drop, length, sym, ap, ◌∙◌, arith}
-use Rattle.desk_core.specs.Joins.Language.{Card}
-use Rattle.desk_core.specs.Joins.Pieces.{part, source_cards}
-use Rattle.desk_core.proofs.PieceLaws.{part-length, part-rest}
+use Rattle.desk_core.{specs.Joins.Language.Card, specs.Joins.Pieces.{part, source_cards}, proofs.PieceLaws.{part-length, part-rest}}
 use Rattle.desk_core.proofs.piece.Piece.rest.Goals as goal
 
 pub returns : goal.returns

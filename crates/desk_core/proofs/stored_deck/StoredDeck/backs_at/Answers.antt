@@ -1,8 +1,5 @@
 use Rattle.std.proofs.Common.{◌∙◌, List, length, ap, sym}
-use Rattle.desk_core.specs.Joins.Edits.{Edit}
-use Rattle.desk_core.specs.Desks.{DeskDeck}
-use Rattle.desk_core.specs.Undoing.{backs_at}
-use Rattle.desk_core.proofs.UndoDone.{backs-length}
+use Rattle.desk_core.{specs.Joins.Edits.Edit, specs.Desks.DeskDeck, specs.Undoing.backs_at, proofs.UndoDone.backs-length}
 use Rattle.desk_core.proofs.stored_deck.StoredDeck.backs_at.Goals as goal
 
 pub returns-clause-edits : goal.returns-clause-edits

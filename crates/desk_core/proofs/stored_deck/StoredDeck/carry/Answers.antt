@@ -1,10 +1,5 @@
 use Rattle.std.proofs.Common.{◌≡◌, ◌∙◌, List, length, None, ap, sym, subst}
-use Rattle.desk_core.specs.Joins.Language.{Card}
-use Rattle.desk_core.specs.Desks.{DeskDeck}
-use Rattle.desk_core.specs.Joins.Edits.{first_fault, edited_by}
-use Rattle.desk_core.specs.Past.{backs_of, behind}
-use Rattle.desk_core.proofs.CardCounts.{edited_by-few}
-use Rattle.desk_core.proofs.PastLaws.{past-behind, backs-apply}
+use Rattle.desk_core.{specs.Joins.Language.Card, specs.Desks.DeskDeck, specs.Joins.Edits.{first_fault, edited_by}, specs.Past.{backs_of, behind}, proofs.CardCounts.edited_by-few, proofs.PastLaws.{past-behind, backs-apply}}
 use Rattle.desk_core.proofs.stored_deck.StoredDeck.carry.Goals as goal
 
 pub seen_at-count-requires-clause-applies : goal.seen_at-count-requires-clause-applies

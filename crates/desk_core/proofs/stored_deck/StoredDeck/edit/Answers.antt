@@ -1,11 +1,6 @@
 use Rattle.std.proofs.Common.{rules, subst, sym, ap, ◌∙◌, ◌≡◌, ◌≤◌, [], ◌∷◌, List, length, None}
 use Rattle.cards.proofs.FaultLaws.{edited-few}
-use Rattle.desk_core.specs.Joins.Language.{Card}
-use Rattle.desk_core.specs.Desks.{DeskDeck}
-use Rattle.desk_core.specs.Joins.Edits.{edited, fault_of}
-use Rattle.desk_core.specs.Past.{Past, past_after}
-use Rattle.desk_core.specs.Led.{IsPastOf}
-use Rattle.desk_core.proofs.PastLaws.{past-more, one-applies}
+use Rattle.desk_core.{specs.Joins.Language.Card, specs.Desks.DeskDeck, specs.Joins.Edits.{edited, fault_of}, specs.Past.{Past, past_after}, specs.Led.IsPastOf, proofs.PastLaws.{past-more, one-applies}}
 use Rattle.desk_core.proofs.stored_deck.StoredDeck.edit.Goals as goal
 
 -- the edited cards are no more than a deck may have

@@ -1,16 +1,6 @@
 use Rattle.std.proofs.Common.{rules, subst, sym, ap, ap₂, ◌∙◌, ◌≡◌, ◌≤◌, Bool, false, cond, ◌||◌, is_some, ◌++◌, List, length, None}
 use Rattle.cards.specs.declared.carrying.MadeEdit.{MadeEdit}
-use Rattle.desk_core.specs.Joins.Language.{Card}
-use Rattle.desk_core.specs.Desks.{DeskDeck}
-use Rattle.desk_core.specs.Joins.Edits.{Edit, first_fault, edited_by}
-use Rattle.desk_core.specs.declared.past.Back.{Back}
-use Rattle.desk_core.specs.Past.{Past, KeptEdit, with_edits, trimmed, past_after}
-use Rattle.desk_core.specs.Led.{IsPastOf}
-use Rattle.desk_core.specs.Changing.{edited_deck}
-use Rattle.desk_core.specs.Joins.Stored.{backs_made, kept_both}
-use Rattle.desk_core.proofs.CardCounts.{edited_by-few}
-use Rattle.desk_core.proofs.PastSteps.{kept-batch, batch-length}
-use Rattle.desk_core.proofs.PastLaws.{past-more}
+use Rattle.desk_core.{specs.Joins.Language.Card, specs.Desks.DeskDeck, specs.Joins.Edits.{Edit, first_fault, edited_by}, specs.declared.past.Back.Back, specs.Past.{Past, KeptEdit, with_edits, trimmed, past_after}, specs.Led.IsPastOf, specs.Changing.edited_deck, specs.Joins.Stored.{backs_made, kept_both}, proofs.CardCounts.edited_by-few, proofs.PastSteps.{kept-batch, batch-length}, proofs.PastLaws.past-more}
 use Rattle.desk_core.proofs.stored_deck.StoredDeck.edit_all.Goals as goal
 
 -- as many edits as there are that take them back

@@ -1,6 +1,5 @@
 use Rattle.std.proofs.Common.{◌≡◌, ◌∙◌, sym, true}
-use Rattle.desk_core.specs.Desks.{deck_of}
-use Rattle.desk_core.proofs.Same.{equal_decks}
+use Rattle.desk_core.{specs.Desks.deck_of, proofs.Same.equal_decks}
 use Rattle.desk_core.proofs.stored_deck.StoredDeck.offer.Goals as goal
 
 -- it was compared

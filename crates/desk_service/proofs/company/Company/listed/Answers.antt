@@ -1,6 +1,5 @@
 use Rattle.std.proofs.Common.{◌≡◌, ◌<◌, ◌∙◌, List, Option, ℕ, length, get_or, ap, subst}
-use Rattle.desk_service.specs.Company.{Company}
-use Rattle.desk_service.proofs.CompanySteps.{listed-more}
+use Rattle.desk_service.{specs.Company.Company, proofs.CompanySteps.listed-more}
 use Rattle.desk_service.proofs.company.Company.listed.Goals as goal
 
 pub loop-at-preserved : goal.loop-at-preserved

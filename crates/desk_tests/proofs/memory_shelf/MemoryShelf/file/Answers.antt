@@ -1,11 +1,6 @@
-use Rattle.std.proofs.Common.{ℕ, List, Option, Some, ◌∙◌, ap}
-use Rattle.std.specs.Prelude.{vec_items}
-use Rattle.std.specs.Option.{option_map}
-use Rattle.desk_tests.specs.MemoryFiles.{Files, bytes_of}
-use Rattle.deck_files.specs.Files.{named}
-use Rattle.desk_tests.specs.declared.memory_shelf.MemoryFile.{MemoryFile}
-use Rattle.deck_files.proofs.FileSteps.{files_shown, lookup-shown}
-use Rattle.desk_tests.proofs.MemoryFileSteps.{file_shown}
+use Rattle.std.{proofs.Common.{ℕ, List, Option, Some, ◌∙◌, ap}, specs.Prelude.vec_items, specs.Option.option_map}
+use Rattle.desk_tests.{specs.MemoryFiles.{Files, bytes_of}, specs.declared.memory_shelf.MemoryFile.MemoryFile, proofs.MemoryFileSteps.file_shown}
+use Rattle.deck_files.{specs.Files.named, proofs.FileSteps.{files_shown, lookup-shown}}
 use Rattle.desk_tests.proofs.memory_shelf.MemoryShelf.file.Goals as goal
 
 pub returns-in-Some : goal.returns-in-Some

@@ -1,9 +1,6 @@
-use Rattle.std.proofs.Common.{ℕ, List, ◌∙◌, ap}
-use Rattle.std.specs.Prelude.{vec_items}
-use Rattle.deck_files.specs.Files.{with_named}
-use Rattle.desk_tests.specs.declared.memory_shelf.MemoryFile.{MemoryFile}
-use Rattle.deck_files.proofs.FileSteps.{files_shown, insert-shown}
-use Rattle.desk_tests.proofs.MemoryFileSteps.{file_shown}
+use Rattle.std.{proofs.Common.{ℕ, List, ◌∙◌, ap}, specs.Prelude.vec_items}
+use Rattle.deck_files.{specs.Files.with_named, proofs.FileSteps.{files_shown, insert-shown}}
+use Rattle.desk_tests.{specs.declared.memory_shelf.MemoryFile.MemoryFile, proofs.MemoryFileSteps.file_shown}
 use Rattle.desk_tests.proofs.memory_shelf.MemoryShelf.put_at.Goals as goal
 
 pub returns-clause-put : goal.returns-clause-put

@@ -1,11 +1,6 @@
-use Rattle.std.proofs.Common.{ℕ, ◌≡◌, List, Option, Some, None, ◌∙◌, sym, ap, is_some}
-use Rattle.std.specs.Prelude.{vec_items}
-use Rattle.std.specs.Option.{option_map}
-use Rattle.desk_tests.specs.MemoryFiles.{Files, KeptFile, noted}
-use Rattle.deck_files.specs.Files.{named, with_named}
-use Rattle.desk_tests.specs.declared.memory_shelf.MemoryFile.{MemoryFile}
-use Rattle.deck_files.proofs.FileSteps.{files_shown, lookup-shown, set-shown}
-use Rattle.desk_tests.proofs.MemoryFileSteps.{file_shown}
+use Rattle.std.{proofs.Common.{ℕ, ◌≡◌, List, Option, Some, None, ◌∙◌, sym, ap, is_some}, specs.Prelude.vec_items, specs.Option.option_map}
+use Rattle.desk_tests.{specs.MemoryFiles.{Files, KeptFile, noted}, specs.declared.memory_shelf.MemoryFile.MemoryFile, proofs.MemoryFileSteps.file_shown}
+use Rattle.deck_files.{specs.Files.{named, with_named}, proofs.FileSteps.{files_shown, lookup-shown, set-shown}}
 use Rattle.desk_tests.proofs.memory_shelf.MemoryShelfShelf.note.Goals as goal
 
 pub returns : goal.returns

@@ -1,11 +1,7 @@
 -- What one edit makes and counts is what a list of it does.
 use Rattle.std.proofs.Common.{◌∙◌, List, None, Option, OnOk, ap, subst, sym}
-use Rattle.cards.specs.declared.edits.Edit.{Edit}
-use Rattle.cards.specs.Edits.{edited, edited_by}
-use Rattle.edit_core.specs.declared.faults.RecordFault.{RecordFault}
-use Rattle.edit_core.specs.Edited.{CountsAnew, CountsAtOnce, CountsWithinDue, EndsAs}
-use Rattle.edit_core.specs.Faults.{against_all}
-use Rattle.edit_core.proofs.EditLaws.{against-one}
+use Rattle.cards.specs.{declared.edits.Edit.Edit, Edits.{edited, edited_by}}
+use Rattle.edit_core.{specs.declared.faults.RecordFault.RecordFault, specs.Edited.{CountsAnew, CountsAtOnce, CountsWithinDue, EndsAs}, specs.Faults.against_all, proofs.EditLaws.against-one}
 use Rattle.edit_core.proofs.kept.Kept.edit.Goals as goal
 
 pub returns-clause-ends : goal.returns-clause-ends

@@ -1,11 +1,7 @@
 -- Where an edit doesn't apply nothing is counted; else what is due for all is within the sum of what is due for each.
 use Rattle.std.proofs.Common.{◌≡◌, None, Option, sym, subst, rules}
 use Rattle.cards.specs.Edits.{edited_by}
-use Rattle.edit_core.specs.declared.faults.RecordFault.{RecordFault}
-use Rattle.edit_core.specs.Edited.{EndsAs}
-use Rattle.edit_core.specs.Faults.{against_all}
-use Rattle.edit_core.proofs.EditLaws.{front-still}
-use Rattle.edit_core.proofs.SumLaws.{sum-of-accepted, sum-of-accepted-code}
+use Rattle.edit_core.{specs.declared.faults.RecordFault.RecordFault, specs.Edited.EndsAs, specs.Faults.against_all, proofs.EditLaws.front-still, proofs.SumLaws.{sum-of-accepted, sum-of-accepted-code}}
 use Rattle.edit_core.proofs.kept.Kept.edit_all.Goals as goal
 
 pub returns-in-Some-clause-ends : goal.returns-in-Some-clause-ends

@@ -1,9 +1,7 @@
 -- What the first of the edits count, and so all of them.
 use Rattle.std.proofs.Common.{List, Err, ap, subst}
-use Rattle.cards.specs.Edits.{edited_by}
-use Rattle.cards.specs.declared.edits.Edit.{Edit}
-use Rattle.edit_core.specs.Edited.{IsRecordOf, RisesToAnew, RisesToRebound}
-use Rattle.edit_core.proofs.OrderLaws.{cut-accepted, cut-counts, first-made, whole-counts}
+use Rattle.cards.specs.{Edits.edited_by, declared.edits.Edit.Edit}
+use Rattle.edit_core.{specs.Edited.{IsRecordOf, RisesToAnew, RisesToRebound}, proofs.OrderLaws.{cut-accepted, cut-counts, first-made, whole-counts}}
 use Rattle.edit_core.proofs.kept.Kept.edit_first.Goals as goal
 
 pub returns-in-Ok-clause-made : goal.returns-in-Ok-clause-made

@@ -1,9 +1,6 @@
 use Rattle.std.proofs.Common.{◌∙◌, ap, arith, subst, sym, rules}
 use Rattle.cards.specs.Edits.{edited_by}
-use Rattle.edit_core.specs.Edited.{statement_count, RisesBehindFront, RisesToAnew, RisesToDue, RisesToDueCode, RisesToRebound}
-use Rattle.edit_core.specs.Records.{Record}
-use Rattle.edit_core.proofs.DueLaws.{due-code-none, due-code-some, due-none, due-some}
-use Rattle.edit_core.proofs.EditLaws.{anew-none, bound-some, front-still, none-made, not-spent, rebound-none}
+use Rattle.edit_core.{specs.Edited.{statement_count, RisesBehindFront, RisesToAnew, RisesToDue, RisesToDueCode, RisesToRebound}, specs.Records.Record, proofs.DueLaws.{due-code-none, due-code-some, due-none, due-some}, proofs.EditLaws.{anew-none, bound-some, front-still, none-made, not-spent, rebound-none}}
 use Rattle.edit_core.proofs.kept.Kept.edit_soundly.Goals as goal
 
 pub is_whole-requires : goal.is_whole-requires

@@ -1,7 +1,5 @@
 use Rattle.std.proofs.Common.{◌∙◌, ap, refl, subst}
-use Rattle.edit_core.specs.Edited.{statement_count}
-use Rattle.edit_core.specs.Records.{Record, ArePieces}
-use Rattle.edit_core.proofs.EditLaws.{kept-pieces}
+use Rattle.edit_core.{specs.Edited.statement_count, specs.Records.{Record, ArePieces}, proofs.EditLaws.kept-pieces}
 use Rattle.edit_core.proofs.kept.Kept.is_whole.Goals as goal
 
 pub returns : goal.returns

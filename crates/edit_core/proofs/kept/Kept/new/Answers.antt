@@ -1,7 +1,5 @@
 use Rattle.std.proofs.Common.{ℕ, List, Result, Ok, Err, OnOk, subst, sym, reverse, length}
-use Rattle.definitions.specs.Cards.{Card}
-use Rattle.definitions.specs.DeckKinds.{up_to_end}
-use Rattle.definitions.specs.Statements.{statements_of}
+use Rattle.definitions.specs.{Cards.Card, DeckKinds.up_to_end, Statements.statements_of}
 use Rattle.statement_coder.specs.Meters.{RisesBy}
 use Rattle.edit_core.proofs.kept.Kept.new.Goals as goal
 

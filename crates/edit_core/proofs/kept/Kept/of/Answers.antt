@@ -1,7 +1,5 @@
 use Rattle.std.proofs.Common.{List, ℕ, ap, refl, subst, sym, ◌∙◌}
-use Rattle.edit_core.specs.Edited.{statement_count}
-use Rattle.edit_core.specs.Records.{ArePieces, piece_counts}
-use Rattle.edit_core.proofs.PieceLaws.{deck-pieces}
+use Rattle.edit_core.{specs.Edited.statement_count, specs.Records.{ArePieces, piece_counts}, proofs.PieceLaws.deck-pieces}
 use Rattle.edit_core.proofs.kept.Kept.of.Goals as goal
 
 pub returns : goal.returns

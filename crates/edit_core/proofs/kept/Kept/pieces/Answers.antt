@@ -1,9 +1,5 @@
-use Rattle.std.proofs.Common.{◌∙◌, ℕ, ◌<◌, ◌≤◌, All, List, sym, ap, subst}
-use Rattle.std.specs.List.{sum}
-use Rattle.edit_core.specs.Edited.{statement_count}
-use Rattle.edit_core.specs.Records.{Record, ArePieces}
-use Rattle.edit_core.proofs.EditLaws.{kept-pieces}
-use Rattle.edit_core.proofs.PieceLaws.{pieces-each, pieces-sum}
+use Rattle.std.{proofs.Common.{◌∙◌, ℕ, ◌<◌, ◌≤◌, All, List, sym, ap, subst}, specs.List.sum}
+use Rattle.edit_core.{specs.Edited.statement_count, specs.Records.{Record, ArePieces}, proofs.EditLaws.kept-pieces, proofs.PieceLaws.{pieces-each, pieces-sum}}
 use Rattle.edit_core.proofs.kept.Kept.pieces.Goals as goal
 
 pub returns-clause-each : goal.returns-clause-each

@@ -1,18 +1,9 @@
 -- The edited cards are few, and those before and behind the edited ones are of the deck before.
 use Rattle.std.proofs.Common.{◌≡◌, ◌≤◌, None, List, length, take, refl, sym, ap, arith, subst, ◌∙◌, rules}
 use Rattle.cards.specs.Edits.{edited_by, first_fault}
-use Rattle.definitions.specs.Cards.{Card}
-use Rattle.definitions.specs.DeckInput.{Deck}
-use Rattle.definitions.specs.DeckKinds.{kind_of_statements}
-use Rattle.deck_assembler.specs.Joins.Agreements.{HaveSameEnd}
-use Rattle.deck_assembler.specs.Joins.Formers.{IsFormerOf, known_in}
-use Rattle.deck_assembler.specs.Joins.SizedDecks.{IsSizedDeck}
-use Rattle.deck_assembler.specs.Joins.Tails.{HasTailIfAny}
-use Rattle.deck_assembler.proofs.ResultLaws.{on_ok_any}
-use Rattle.edit_core.specs.Edited.{RisesBehindFront, RisesToAnew, RisesToDue, RisesToDueCode}
-use Rattle.edit_core.specs.Records.{Record}
-use Rattle.edit_core.proofs.DueLaws.{are-taken, due-code-object, due-code-still, due-edited, due-still}
-use Rattle.edit_core.proofs.EditLaws.{anew-edited, few-all, front-all, front-edited, front-still, rebound-edited}
+use Rattle.definitions.specs.{Cards.Card, DeckInput.Deck, DeckKinds.kind_of_statements}
+use Rattle.deck_assembler.{specs.Joins.Agreements.HaveSameEnd, specs.Joins.Formers.{IsFormerOf, known_in}, specs.Joins.SizedDecks.IsSizedDeck, specs.Joins.Tails.HasTailIfAny, proofs.ResultLaws.on_ok_any}
+use Rattle.edit_core.{specs.Edited.{RisesBehindFront, RisesToAnew, RisesToDue, RisesToDueCode}, specs.Records.Record, proofs.DueLaws.{are-taken, due-code-object, due-code-still, due-edited, due-still}, proofs.EditLaws.{anew-edited, few-all, front-all, front-edited, front-still, rebound-edited}}
 use Rattle.edit_core.proofs.kept.Kept.remade.Goals as goal
 
 pub edited-requires-clause-deck : goal.edited-requires-clause-deck

@@ -1,9 +1,6 @@
-use Rattle.std.proofs.Common.{◌∙◌, ap, sym, subst}
-use Rattle.std.specs.List.{list_all}
+use Rattle.std.{proofs.Common.{◌∙◌, ap, sym, subst}, specs.List.list_all}
 use Rattle.definitions.specs.Expressions.{is_allowed, elements_of}
-use Rattle.expr_forms.specs.Joins.Parsed.{IsPlainSum}
-use Rattle.expr_forms.proofs.PlainLaws.{all-allowed}
-use Rattle.expr_forms.proofs.ElementListLaws.{elements_in-links}
+use Rattle.expr_forms.{specs.Joins.Parsed.IsPlainSum, proofs.PlainLaws.all-allowed, proofs.ElementListLaws.elements_in-links}
 use Rattle.expr_forms.proofs.expressions.Expr.is_plain.Goals as goal
 
 pub returns-then-self : goal.returns-then-self

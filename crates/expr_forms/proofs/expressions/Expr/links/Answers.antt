@@ -1,11 +1,6 @@
 use Rattle.std.proofs.Common.{◌∙◌, List, ◌∷◌, length, ap, sym, subst, arith}
-use Rattle.definitions.specs.Expressions.{OperatorElement, Expression, Grouped, grouped}
-use Rattle.definitions.proofs.TermLaws.{links_in, grouped-links_in}
-use Rattle.expr_forms.specs.Joins.Links.{link_made, links_behind}
-use Rattle.expr_forms.specs.Joins.LoneRegisters.{links_left_by, terms_left_by}
-use Rattle.expr_forms.specs.Joins.Parsed.{BeginsTerm}
-use Rattle.expr_forms.proofs.LoneLaws.{left-links, left-terms, left-few, joined-begins}
-use Rattle.expr_forms.proofs.ParseLaws.{links_behind-few}
+use Rattle.definitions.{specs.Expressions.{OperatorElement, Expression, Grouped, grouped}, proofs.TermLaws.{links_in, grouped-links_in}}
+use Rattle.expr_forms.{specs.Joins.Links.{link_made, links_behind}, specs.Joins.LoneRegisters.{links_left_by, terms_left_by}, specs.Joins.Parsed.BeginsTerm, proofs.LoneLaws.{left-links, left-terms, left-few, joined-begins}, proofs.ParseLaws.links_behind-few}
 use Rattle.expr_forms.proofs.expressions.Expr.links.Goals as goal
 
 pub returns-clause-links : goal.returns-clause-links

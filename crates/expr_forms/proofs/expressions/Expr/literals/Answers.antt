@@ -1,11 +1,6 @@
-use Rattle.std.proofs.Common.{◌∙◌, ap, sym, subst}
-use Rattle.std.specs.Prelude.{filter_map}
-use Rattle.definitions.specs.Expressions.{elements_of}
-use Rattle.definitions.specs.Literals.{literal_in}
-use Rattle.expr_forms.specs.Joins.ElementLists.{literals_among}
-use Rattle.expr_forms.specs.Joins.Parsed.{IsPlainSum}
-use Rattle.expr_forms.proofs.PlainLaws.{no-literals}
-use Rattle.expr_forms.proofs.ElementListLaws.{elements_in-links}
+use Rattle.std.{proofs.Common.{◌∙◌, ap, sym, subst}, specs.Prelude.filter_map}
+use Rattle.definitions.specs.{Expressions.elements_of, Literals.literal_in}
+use Rattle.expr_forms.{specs.Joins.ElementLists.literals_among, specs.Joins.Parsed.IsPlainSum, proofs.PlainLaws.no-literals, proofs.ElementListLaws.elements_in-links}
 use Rattle.expr_forms.proofs.expressions.Expr.literals.Goals as goal
 
 pub returns-then-self : goal.returns-then-self

@@ -1,15 +1,6 @@
-use Rattle.std.proofs.Common.{◌≡◌, Some, ◌∙◌, ap, sym, refl, subst, arith}
-use Rattle.std.specs.Prelude.{option_map}
-use Rattle.definitions.specs.Expressions.{Operator, with_sign}
-use Rattle.definitions.specs.Laws.Grammar.{operator_of}
-use Rattle.definitions.proofs.GrammarLaws.{link_of}
-use Rattle.definitions.proofs.TermLaws.{JoinsTerms}
-use Rattle.expr_forms.specs.Joins.Elements.{sign_as, element_as}
-use Rattle.expr_forms.specs.Joins.Links.{link_made, pairs_behind}
-use Rattle.expr_forms.specs.Joins.Parsed.{are_plain, expression_behind}
-use Rattle.expr_forms.specs.declared.links.LoneRegisters.TheVariants.{Kept}
-use Rattle.expr_forms.proofs.ParseLaws.{parsed, refused}
-use Rattle.expr_forms.proofs.PlainLaws.{joins-sign, read-plain, told-some, told-plain, told-none}
+use Rattle.std.{proofs.Common.{◌≡◌, Some, ◌∙◌, ap, sym, refl, subst, arith}, specs.Prelude.option_map}
+use Rattle.definitions.{specs.Expressions.{Operator, with_sign}, specs.Laws.Grammar.operator_of, proofs.GrammarLaws.link_of, proofs.TermLaws.JoinsTerms}
+use Rattle.expr_forms.{specs.Joins.Elements.{sign_as, element_as}, specs.Joins.Links.{link_made, pairs_behind}, specs.Joins.Parsed.{are_plain, expression_behind}, specs.declared.links.LoneRegisters.TheVariants.Kept, proofs.ParseLaws.{parsed, refused}, proofs.PlainLaws.{joins-sign, read-plain, told-some, told-plain, told-none}}
 use Rattle.expr_forms.proofs.expressions.Expr.parse.Goals as goal
 
 pub returns-in-Some-are_plain : goal.returns-in-Some-are_plain

@@ -1,5 +1,4 @@
-use Rattle.std.proofs.Common.{ap}
-use Rattle.std.specs.Prelude.{flat_map}
+use Rattle.std.{proofs.Common.ap, specs.Prelude.flat_map}
 use Rattle.definitions.specs.Laws.Agreement.{symbols_of_element}
 use Rattle.expr_forms.proofs.ElementListLaws.{elements_in-links}
 use Rattle.expr_forms.proofs.expressions.Expr.symbols.Goals as goal

@@ -1,15 +1,7 @@
 use Rattle.std.proofs.Common.{◌≡◌, List, [], ◌∙◌, ap, sym, subst}
-use Rattle.definitions.specs.Expressions.{Sign, Term}
-use Rattle.definitions.specs.Matching.{Sum, sum_of, sum_field}
-use Rattle.definitions.proofs.ExpressionLaws.{expression_with}
-use Rattle.expr_forms.specs.Joins.Elements.{sign_as}
-use Rattle.expr_forms.specs.Joins.LoneRegisters.{other_terms}
-use Rattle.expr_forms.specs.Joins.Parsed.{IsPlainSum}
-use Rattle.expr_forms.proofs.PlainLaws.{plain-sum}
-use Rattle.expr_forms.specs.Joins.Sums.{HasParts, sum_from, field_of}
-use Rattle.expr_forms.proofs.SumLaws.{sum-others, field-some, field-none}
+use Rattle.definitions.{specs.Expressions.{Sign, Term}, specs.Matching.{Sum, sum_of, sum_field}, proofs.ExpressionLaws.expression_with}
+use Rattle.expr_forms.{specs.Joins.Elements.sign_as, specs.Joins.LoneRegisters.other_terms, specs.Joins.Parsed.IsPlainSum, proofs.PlainLaws.plain-sum, specs.Joins.Sums.{HasParts, sum_from, field_of}, proofs.SumLaws.{sum-others, field-some, field-none}, proofs.expressions.Expr.take_apart.Goals.{then-parts, else-parts}}
 use Rattle.expr_forms.proofs.expressions.Expr.take_apart.Goals as goal
-use Rattle.expr_forms.proofs.expressions.Expr.take_apart.Goals.{then-parts, else-parts}
 
 pub returns-then-self : goal.returns-then-self
 returns-then-self c =

@@ -1,10 +1,6 @@
 use Rattle.std.proofs.Common.{◌∷◌, ◌∙◌, ap, sym}
-use Rattle.definitions.specs.Expressions.{Expression, grouped}
-use Rattle.definitions.proofs.ExpressionLaws.{expression_with}
-use Rattle.expr_forms.specs.Joins.Elements.{sign_as}
-use Rattle.expr_forms.specs.Joins.Links.{link_made, links_behind}
-use Rattle.expr_forms.specs.Joins.LoneRegisters.{other_terms}
-use Rattle.expr_forms.proofs.LoneLaws.{left-again}
+use Rattle.definitions.{specs.Expressions.{Expression, grouped}, proofs.ExpressionLaws.expression_with}
+use Rattle.expr_forms.{specs.Joins.Elements.sign_as, specs.Joins.Links.{link_made, links_behind}, specs.Joins.LoneRegisters.other_terms, proofs.LoneLaws.left-again}
 use Rattle.expr_forms.proofs.expressions.Expr.without_registers.Goals as goal
 
 pub returns : goal.returns

@@ -1,6 +1,5 @@
 use Rattle.std.proofs.Common.{◌∙◌, ap, sym}
-use Rattle.expr_forms.specs.Joins.LoneRegisters.{begins_term}
-use Rattle.expr_forms.proofs.LoneLaws.{begins-left}
+use Rattle.expr_forms.{specs.Joins.LoneRegisters.begins_term, proofs.LoneLaws.begins-left}
 use Rattle.expr_forms.proofs.links.Links.begins_term.Goals as goal
 
 pub returns : goal.returns

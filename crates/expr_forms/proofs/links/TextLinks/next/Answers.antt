@@ -1,7 +1,5 @@
 use Rattle.std.proofs.Common.{◌∙◌, sym}
-use Rattle.expr_forms.specs.Joins.Elements.{element_as}
-use Rattle.expr_forms.specs.Joins.Links.{operator_as, pairs_behind}
-use Rattle.expr_forms.proofs.ParseLaws.{links_left-next, lawful-onto_pairs}
+use Rattle.expr_forms.{specs.Joins.Elements.element_as, specs.Joins.Links.{operator_as, pairs_behind}, proofs.ParseLaws.{links_left-next, lawful-onto_pairs}}
 use Rattle.expr_forms.proofs.links.TextLinks.next.Goals as goal
 
 pub returns-in-Link-clause-some : goal.returns-in-Link-clause-some

@@ -1,7 +1,5 @@
-use Rattle.std.proofs.Common.{◌∙◌, ap, sym}
-use Rattle.std.specs.Prelude.{option_copied}
-use Rattle.expr_forms.specs.Joins.Subfields.{subfields_left}
-use Rattle.expr_forms.proofs.SubfieldLaws.{field-cut}
+use Rattle.std.{proofs.Common.{◌∙◌, ap, sym}, specs.Prelude.option_copied}
+use Rattle.expr_forms.{specs.Joins.Subfields.subfields_left, proofs.SubfieldLaws.field-cut}
 use Rattle.expr_forms.proofs.subfields.Subfields.next.Goals as goal
 
 pub returns-in-Some-clause-some : goal.returns-in-Some-clause-some

@@ -1,6 +1,5 @@
 use Rattle.std.proofs.Common.{ℕ, ◌≡◌, length, ap, subst, ◌∙◌, arith}
-use Rattle.word_packing.specs.Packing.{Fit}
-use Rattle.word_packing.proofs.RoundTrip.{length-firsts}
+use Rattle.word_packing.{specs.Packing.Fit, proofs.RoundTrip.length-firsts}
 use Rattle.images.proofs.word_rows.WordRow.unpacked.Goals as goal
 
 pub invariant_of-result : goal.invariant_of-result

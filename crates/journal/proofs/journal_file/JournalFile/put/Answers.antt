@@ -1,6 +1,5 @@
 use Rattle.std.proofs.Common.{ℕ, ap, subst}
-use Rattle.journal.specs.JournalFiles.{AreKeptAs}
-use Rattle.journal.proofs.FileSteps.{cut-back-behind}
+use Rattle.journal.{specs.JournalFiles.AreKeptAs, proofs.FileSteps.cut-back-behind}
 use Rattle.journal.proofs.journal_file.JournalFile.put.Goals as goal
 
 -- the text was not kept, and what was written of it is cut off

@@ -1,6 +1,5 @@
 use Rattle.std.proofs.Common.{ℕ, ◌≡◌, ◌∙◌, List, [], sym, ap, subst}
-use Rattle.journal.specs.JournalFiles.{AreKeptAs}
-use Rattle.journal.proofs.FileSteps.{none-kept-as, no-drafts}
+use Rattle.journal.{specs.JournalFiles.AreKeptAs, proofs.FileSteps.{none-kept-as, no-drafts}}
 use Rattle.journal.proofs.journal_file.JournalFile.put_batch.Goals as goal
 
 -- there are none

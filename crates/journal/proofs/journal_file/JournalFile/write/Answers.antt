@@ -1,6 +1,5 @@
 use Rattle.std.proofs.Common.{ℕ, ◌≡◌, true, sym, ap, subst, ◌∙◌}
-use Rattle.journal.specs.JournalFiles.{AreKeptAs, IsRun, TakesSome}
-use Rattle.journal.proofs.FileSteps.{has-written, has-not-written, takes-writing, are-kept-as}
+use Rattle.journal.{specs.JournalFiles.{AreKeptAs, IsRun, TakesSome}, proofs.FileSteps.{has-written, has-not-written, takes-writing, are-kept-as}}
 use Rattle.journal.proofs.journal_file.JournalFile.write.Goals as goal
 
 -- the text was not kept

@@ -1,7 +1,6 @@
 use Rattle.std.proofs.Common.{ap, ◌∙◌}
 use Rattle.definitions.specs.Matching.{first_fit}
-use Rattle.operations.specs.Joins.RegistersFound.{digits_as}
-use Rattle.operations.proofs.RowLaws.{central-fits}
+use Rattle.operations.{specs.Joins.RegistersFound.digits_as, proofs.RowLaws.central-fits}
 use Rattle.operations.proofs.central.central_fits.central_fit.Goals as goal
 
 pub returns : goal.returns

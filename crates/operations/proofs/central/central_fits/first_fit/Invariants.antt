@@ -1,16 +1,7 @@
-use Rattle.std.proofs.Common.{◌≡◌, List, map, length}
-use Rattle.std.specs.Prelude.{IsTrue}
-use Rattle.std.specs.List.{list_all}
-use Rattle.definitions.specs.Pieces.{Piece}
-use Rattle.definitions.specs.Matching.{first_fit}
-use Rattle.definitions.specs.declared.number_base.NumberBase.{NumberBase}
-use Rattle.operations.specs.declared.row.Row.{Row}
+use Rattle.std.{proofs.Common.{◌≡◌, List, map, length}, specs.Prelude.IsTrue, specs.List.list_all}
+use Rattle.definitions.specs.{Pieces.Piece, Matching.first_fit, declared.number_base.NumberBase.NumberBase}
+use Rattle.operations.specs.{declared.row.Row.Row, declared.central.code.OperandForm.OperandForm, Joins.RegistersFound.digits_as, Joins.CentralTables.operand_row, Joins.LawfulCodes.has_lawful_code, Joins.Fits.row_fit_with}
 use Rattle.expr_forms.specs.Joins.Operands.{IsOperand}
-use Rattle.operations.specs.declared.central.code.OperandForm.{OperandForm}
-use Rattle.operations.specs.Joins.RegistersFound.{digits_as}
-use Rattle.operations.specs.Joins.CentralTables.{operand_row}
-use Rattle.operations.specs.Joins.LawfulCodes.{has_lawful_code}
-use Rattle.operations.specs.Joins.Fits.{row_fit_with}
 use Rattle.operations.proofs.central.central_fits.first_fit.Given as goal
 
 -- no row before those that are left fits

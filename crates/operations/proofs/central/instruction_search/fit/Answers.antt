@@ -1,14 +1,9 @@
-use Rattle.std.proofs.Common.{◌||◌, Bool, ap, ap₂, sym, ◌∙◌}
-use Rattle.std.specs.Prelude.{if◌then◌else◌}
-use Rattle.std.specs.List.{list_any}
+use Rattle.std.{proofs.Common.{◌||◌, Bool, ap, ap₂, sym, ◌∙◌}, specs.Prelude.if◌then◌else◌, specs.List.list_any}
 use Rattle.definitions.specs.CentralTable as table
 use Rattle.definitions.specs.Matching.{is_operation}
 use Rattle.definitions.specs.declared.letter.Letter.TheVariants as letters
 use Rattle.expr_forms.specs.Joins.Shapes.{instruction_as}
-use Rattle.operations.specs.Joins.CentralTables.{operand_row, sum_row, padded_row, padded_sum_row}
-use Rattle.operations.specs.Joins.Found.{fitted_as}
-use Rattle.operations.proofs.CentralLaws.{any_row}
-use Rattle.operations.proofs.SearchLaws.{by_sum, by_central}
+use Rattle.operations.{specs.Joins.CentralTables.{operand_row, sum_row, padded_row, padded_sum_row}, specs.Joins.Found.fitted_as, proofs.CentralLaws.any_row, proofs.SearchLaws.{by_sum, by_central}}
 use Rattle.operations.proofs.central.instruction_search.fit.Goals as goal
 
 pub returns-in-Some-clause-found : goal.returns-in-Some-clause-found

@@ -1,9 +1,7 @@
 use Rattle.std.proofs.Common.{Some, subst, ap, ◌∙◌}
 use Rattle.definitions.specs.Matching.{NoField, Match, subfields_matched}
 use Rattle.expr_forms.specs.Joins.Operands.{IsOperand}
-use Rattle.operations.specs.Joins.RegistersFound.{digits_as}
-use Rattle.operations.specs.Joins.Parts.{part_text}
-use Rattle.operations.proofs.FitLaws.{three_of_two}
+use Rattle.operations.{specs.Joins.RegistersFound.digits_as, specs.Joins.Parts.part_text, proofs.FitLaws.three_of_two}
 use Rattle.operations.proofs.central.operand_fits.operand_fit.Goals as goal
 
 pub returns-in-Two-operand-3 : goal.returns-in-Two-operand-3

@@ -1,8 +1,6 @@
 use Rattle.std.proofs.Common.{sym, ap, ◌∙◌}
 use Rattle.definitions.specs.Matching.{subfield_matched, with_field}
-use Rattle.operations.specs.Joins.Found.{central_field_as, found_as}
-use Rattle.operations.specs.Joins.Parts.{part_text, is_part}
-use Rattle.operations.proofs.FitLaws.{subfield-registers}
+use Rattle.operations.{specs.Joins.Found.{central_field_as, found_as}, specs.Joins.Parts.{part_text, is_part}, proofs.FitLaws.subfield-registers}
 use Rattle.operations.proofs.central.operand_fits.subfield_fit.Goals as goal
 
 pub returns-in-Some : goal.returns-in-Some

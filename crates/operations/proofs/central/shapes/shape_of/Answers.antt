@@ -1,11 +1,6 @@
-use Rattle.std.proofs.Common.{◌≤◌, ◌<◌, ◌^◌, length, sym, subst, arith}
-use Rattle.std.specs.Prelude.{nat_le}
-use Rattle.std.proofs.lemmas.Bool.{and_parts}
+use Rattle.std.{proofs.Common.{◌≤◌, ◌<◌, ◌^◌, length, sym, subst, arith}, specs.Prelude.nat_le, proofs.lemmas.Bool.and_parts}
 use Rattle.definitions.specs.Matching.{octal_number, code_digits}
-use Rattle.operations.specs.Joins.CodeTexts.{code_text}
-use Rattle.operations.specs.Joins.RegistersFound.{digits_as}
-use Rattle.operations.specs.Joins.LawfulCodes.{sevens, are_octal}
-use Rattle.operations.proofs.CodeLaws.{AreOctal, number-room}
+use Rattle.operations.{specs.Joins.CodeTexts.code_text, specs.Joins.RegistersFound.digits_as, specs.Joins.LawfulCodes.{sevens, are_octal}, proofs.CodeLaws.{AreOctal, number-room}}
 use Rattle.operations.proofs.central.shapes.shape_of.Goals as goal
 
 pub overflow_cast-result : goal.overflow_cast-result

@@ -1,14 +1,7 @@
-use Rattle.std.proofs.Common.{◌≡◌, Some, map, length}
-use Rattle.std.specs.Prelude.{IsTrue}
-use Rattle.std.specs.List.{list_all}
+use Rattle.std.{proofs.Common.{◌≡◌, Some, map, length}, specs.Prelude.IsTrue, specs.List.list_all}
 use Rattle.definitions.specs.Matching.{Sum, first_fit}
-use Rattle.operations.specs.declared.row.Row.{Row}
+use Rattle.operations.specs.{declared.row.Row.Row, declared.central.code.SumForm.SumForm, Joins.RegistersFound.digits_as, Joins.CentralTables.sum_row, Joins.LawfulCodes.has_lawful_codes, Joins.Fits.sum_fit_with}
 use Rattle.expr_forms.specs.Joins.Sums.{IsSum}
-use Rattle.operations.specs.declared.central.code.SumForm.{SumForm}
-use Rattle.operations.specs.Joins.RegistersFound.{digits_as}
-use Rattle.operations.specs.Joins.CentralTables.{sum_row}
-use Rattle.operations.specs.Joins.LawfulCodes.{has_lawful_codes}
-use Rattle.operations.specs.Joins.Fits.{sum_fit_with}
 use Rattle.operations.proofs.central.sum_fits.first_fit.Given as goal
 
 -- no row before those that are left fits

@@ -1,10 +1,7 @@
 use Rattle.std.proofs.Common.{Some, ap, sym, ◌∙◌}
 use Rattle.definitions.specs.Matching.{Sum, first_fit, sum_of}
 use Rattle.expr_forms.specs.Joins.Sums.{sum_from}
-use Rattle.operations.specs.Joins.RegistersFound.{digits_as}
-use Rattle.operations.specs.Joins.Found.{fitted_as}
-use Rattle.operations.proofs.RowLaws.{sum-fits}
-use Rattle.operations.proofs.SumLaws.{no_rows-fit}
+use Rattle.operations.{specs.Joins.RegistersFound.digits_as, specs.Joins.Found.fitted_as, proofs.RowLaws.sum-fits, proofs.SumLaws.no_rows-fit}
 use Rattle.operations.proofs.central.sum_fits.one_fit.Goals as goal
 
 pub returns-in-Some-clause-instruction : goal.returns-in-Some-clause-instruction

@@ -1,12 +1,6 @@
-use Rattle.std.proofs.Common.{ap, ◌∙◌}
-use Rattle.std.proofs.lemmas.Bool.{and_parts}
+use Rattle.std.proofs.{Common.{ap, ◌∙◌}, lemmas.Bool.and_parts}
 use Rattle.definitions.specs.Matching.{sum_code, sum_instruction}
-use Rattle.operations.specs.Joins.RegistersFound.{digits_as}
-use Rattle.operations.specs.Joins.CodeTexts.{code_text_or_none}
-use Rattle.operations.specs.Joins.CentralTables.{sum_row}
-use Rattle.operations.specs.Joins.LawfulCodes.{is_lawful_or_none}
-use Rattle.operations.specs.Joins.Fits.{form_fit}
-use Rattle.operations.proofs.SumLaws.{sum-form}
+use Rattle.operations.{specs.Joins.RegistersFound.digits_as, specs.Joins.CodeTexts.code_text_or_none, specs.Joins.CentralTables.sum_row, specs.Joins.LawfulCodes.is_lawful_or_none, specs.Joins.Fits.form_fit, proofs.SumLaws.sum-form}
 use Rattle.operations.proofs.central.sum_fits.row_fit.Goals as goal
 
 pub form_fit-requires-clause-with_k : goal.form_fit-requires-clause-with_k

@@ -1,10 +1,8 @@
 use Rattle.std.proofs.Common.{Option, map, ap, sym, subst, ◌∙◌}
-use Rattle.definitions.specs.Expressions.{Expression}
+use Rattle.definitions.specs.{Expressions.Expression, Matching.{first_fit, sum_fit, sum_read, sum_rows_for}}
 use Rattle.definitions.specs.CentralTable as table
-use Rattle.definitions.specs.Matching.{first_fit, sum_fit, sum_read, sum_rows_for}
 use Rattle.expr_forms.specs.Joins.Operands.{IsOperand}
-use Rattle.operations.proofs.RowLaws.{no_sum-fits}
-use Rattle.operations.proofs.SumLaws.{one_single, two_single, three_single}
+use Rattle.operations.proofs.{RowLaws.no_sum-fits, SumLaws.{one_single, two_single, three_single}}
 use Rattle.operations.proofs.central.sum_fits.sum_fit.Goals as goal
 
 pub returns-in-One-clause-instruction : goal.returns-in-One-clause-instruction

@@ -1,10 +1,5 @@
-use Rattle.std.proofs.Common.{map, ap, refl, sym, ◌∙◌}
-use Rattle.std.specs.List.{list_all}
-use Rattle.operations.specs.Joins.CentralTables.{operand_row}
-use Rattle.operations.specs.Joins.LawfulCodes.{has_lawful_code}
-use Rattle.operations.specs.declared.central.operand_table.TheConstants.{OPERAND_ROWS}
-use Rattle.operations.proofs.CentralLaws.{operand_rows-named, all-named}
-use Rattle.operations.proofs.FirstLetterLaws.{no_other}
+use Rattle.std.{proofs.Common.{map, ap, refl, sym, ◌∙◌}, specs.List.list_all}
+use Rattle.operations.{specs.Joins.CentralTables.operand_row, specs.Joins.LawfulCodes.has_lawful_code, specs.declared.central.operand_table.TheConstants.OPERAND_ROWS, proofs.CentralLaws.{operand_rows-named, all-named}, proofs.FirstLetterLaws.no_other}
 use Rattle.operations.proofs.central.tables.central_rows.Goals as goal
 
 pub returns-else-begins_sum-clause-rows : goal.returns-else-begins_sum-clause-rows

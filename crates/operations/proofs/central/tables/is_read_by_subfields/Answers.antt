@@ -1,8 +1,7 @@
 use Rattle.std.proofs.Common.{◌∙◌}
 use Rattle.definitions.specs.CentralTable as table
 use Rattle.definitions.specs.Matching.{is_operation}
-use Rattle.operations.specs.Joins.CentralTables.{operand_row, padded_row}
-use Rattle.operations.proofs.CentralLaws.{any_row}
+use Rattle.operations.{specs.Joins.CentralTables.{operand_row, padded_row}, proofs.CentralLaws.any_row}
 use Rattle.operations.proofs.central.tables.is_read_by_subfields.Goals as goal
 
 pub returns : goal.returns

@@ -1,10 +1,5 @@
-use Rattle.std.proofs.Common.{map, ap, refl, sym, ◌∙◌}
-use Rattle.std.specs.List.{list_all}
-use Rattle.operations.specs.Joins.CentralTables.{sum_row}
-use Rattle.operations.specs.Joins.LawfulCodes.{has_lawful_codes}
-use Rattle.operations.specs.declared.central.sum_table.TheConstants.{SUM_ROWS}
-use Rattle.operations.proofs.CentralLaws.{sum_rows-named, all-named}
-use Rattle.operations.proofs.FirstLetterLaws.{no_sum}
+use Rattle.std.{proofs.Common.{map, ap, refl, sym, ◌∙◌}, specs.List.list_all}
+use Rattle.operations.{specs.Joins.CentralTables.sum_row, specs.Joins.LawfulCodes.has_lawful_codes, specs.declared.central.sum_table.TheConstants.SUM_ROWS, proofs.CentralLaws.{sum_rows-named, all-named}, proofs.FirstLetterLaws.no_sum}
 use Rattle.operations.proofs.central.tables.sum_rows.Goals as goal
 
 pub returns-then-begins_sum-clause-rows : goal.returns-then-begins_sum-clause-rows

@@ -1,8 +1,6 @@
 use Rattle.std.proofs.Common.{◌∙◌, Some, map, false, refl, sym, ap, subst}
 use Rattle.definitions.specs.Operands.{plain_of, by_form, peripheral_operand}
-use Rattle.operations.specs.Joins.PeripheralCodes.{row_as, found_row}
-use Rattle.operations.specs.Joins.PeripheralShapes.{IsFieldOf, fault_of}
-use Rattle.operations.proofs.ShapeLaws.{is_found}
+use Rattle.operations.{specs.Joins.PeripheralCodes.{row_as, found_row}, specs.Joins.PeripheralShapes.{IsFieldOf, fault_of}, proofs.ShapeLaws.is_found}
 use Rattle.operations.proofs.peripheral.shapes.find.Goals as goal
 
 pub returns-in-Some-field_of : goal.returns-in-Some-field_of

@@ -1,7 +1,6 @@
 use Rattle.definitions.specs.Operands.{operand_of}
 use Rattle.operations.specs.Joins.OperationsAs.{operation_as}
-use Rattle.statement_coder.proofs.OperandLaws.{operand_of-fills}
-use Rattle.statement_coder.proofs.CodingLaws.{read_whole}
+use Rattle.statement_coder.proofs.{OperandLaws.operand_of-fills, CodingLaws.read_whole}
 use Rattle.statement_coder.proofs.statement.Statement.read_operand.Goals as goal
 
 pub invariant_of-result : goal.invariant_of-result

@@ -1,28 +1,13 @@
 -- `new` makes a history without bytes. Only a proof by hand can say which bytes a history has. Assumes `Logic`.
 use Rattle.std.proofs.Common.{[], ◌∷◌, refl}
 use seplogic.Ra.Ura.{Ura}
-use mir.Syntax.{Fn}
-use mir.Val.{Val}
+use mir.{Syntax.Fn, Val.Val}
 use base.Logic.{SProp, ent}
-use prog.Memory.{Memory}
-use prog.Routine.{Routine}
-use prog.Wp.{Calls, Loops, WpFn, Tables}
-use contract.Monad.{Fun}
-use contract.Running.{tables, tables_of}
+use prog.{Memory.Memory, Routine.Routine, Wp.{Calls, Loops, WpFn, Tables}}
+use contract.{Monad.Fun, Running.{tables, tables_of}}
 use sound.WpLaws.{WpFn-mono}
-use types.Logic.{Logic}
-use types.Kit.{‵, raw, ◌⊛◌, ◌$◌, ◌∵◌, !, qed, move, keep, drop, split, fjoin, suffices, done}
-use types.Part.{agg}
-use types.Run.{enter, returns, no_more}
-use types.ByLocal.{alloc_all, pass_all, free_all, look_at, sets}
-use denote.RattleType.{owns}
-use denote.Signature.{types_at}
-use denote.Steps.{nothing}
-use denote.Triple.Clauses.{Clauses, Ended, closing}
-use denote.Triple.Entry.{alive}
-use denote.Triple.Spec.{Meets, triple_of}
-use denote.Triple.Table.{entered}
-use denote.Triple.Walked.{says, Stays, walk_of, ends_at, walk_Meets}
+use types.{Logic.Logic, Kit.{‵, raw, ◌⊛◌, ◌$◌, ◌∵◌, !, qed, move, keep, drop, split, fjoin, suffices, done}, Part.agg, Run.{enter, returns, no_more}, ByLocal.{alloc_all, pass_all, free_all, look_at, sets}}
+use denote.{RattleType.owns, Signature.types_at, Steps.nothing, Triple.Clauses.{Clauses, Ended, closing}, Triple.Entry.alive, Triple.Spec.{Meets, triple_of}, Triple.Table.entered, Triple.Walked.{says, Stays, walk_of, ends_at, walk_Meets}}
 use Rattle.text_ports.proofs.Walks.{none, none_made}
 use Rattle.text_ports.specs.contracts.history.History as History
 use Rattle.text_ports.specs.contracts.history.History.new as F

@@ -1,5 +1,4 @@
-use Rattle.std.proofs.Common.{◌≡◌, ◌≤◌, ◌+◌, ◌-◌, ◌∙◌, sym, ap, ap₂, ◌++◌, drop, length, arith, rules}
-use Rattle.std.proofs.lemmas.List.{length-drop}
+use Rattle.std.proofs.{Common.{◌≡◌, ◌≤◌, ◌+◌, ◌-◌, ◌∙◌, sym, ap, ap₂, ◌++◌, drop, length, arith, rules}, lemmas.List.length-drop}
 use Rattle.definitions.specs.Numerals.{digits_of}
 use Rattle.text_ports.proofs.DigitSteps.{digits_of-step}
 use Rattle.text_ports.proofs.prepended_text.PrependedText.put_digits.Goals as goal

@@ -1,9 +1,5 @@
-use Rattle.std.proofs.Common.{rules, arith, ◌≡◌, ℕ, ◌<◌, [], length, sym, ap, ◌∙◌}
-use Rattle.std.proofs.lemmas.List.FromFn.{length-map-range_with_len}
-use Rattle.turn_office.specs.Rule.{at_rest, seen_of}
-use Rattle.turn_office.specs.Seats.{new_seats}
-use Rattle.turn_office.proofs.Dealing.{dealt_next, dealt_rest, dealt_more}
-use Rattle.turn_office.proofs.Seating.{deals}
+use Rattle.std.proofs.{Common.{rules, arith, ◌≡◌, ℕ, ◌<◌, [], length, sym, ap, ◌∙◌}, lemmas.List.FromFn.length-map-range_with_len}
+use Rattle.turn_office.{specs.Rule.{at_rest, seen_of}, specs.Seats.new_seats, proofs.Dealing.{dealt_next, dealt_rest, dealt_more}, proofs.Seating.deals}
 use Rattle.turn_office.proofs.office.Office.deal.Goals as goal
 
 pub split_seat-place-requires : goal.split_seat-place-requires

@@ -1,6 +1,5 @@
 use Rattle.std.proofs.Common.{◌≡◌, []}
-use Rattle.turn_office.specs.Seats.{new_seats}
-use Rattle.turn_office.proofs.Dealing.{left_from}
+use Rattle.turn_office.{specs.Seats.new_seats, proofs.Dealing.left_from}
 use Rattle.turn_office.proofs.office.Office.deal.Given as goal
 
 -- the numbers so far are dealt, in order, and the dealer has the others

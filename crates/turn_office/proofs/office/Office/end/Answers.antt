@@ -1,6 +1,5 @@
 use Rattle.std.proofs.Common.{◌≡◌, sym, ap, ◌∙◌, subst}
-use Rattle.turn_office.specs.Rule.{Ends}
-use Rattle.turn_office.proofs.Seating.{closes}
+use Rattle.turn_office.{specs.Rule.Ends, proofs.Seating.closes}
 use Rattle.turn_office.proofs.office.Office.end.Goals as goal
 
 pub unreachable-requires : goal.unreachable-requires

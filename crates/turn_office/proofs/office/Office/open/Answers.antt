@@ -1,6 +1,5 @@
 use Rattle.std.proofs.Common.{rules, ◌≡◌, sym, subst}
-use Rattle.turn_office.specs.Seats.{AreOf, new_seats}
-use Rattle.turn_office.proofs.Dealing.{new_are_of}
+use Rattle.turn_office.{specs.Seats.{AreOf, new_seats}, proofs.Dealing.new_are_of}
 use Rattle.turn_office.proofs.office.Office.open.Goals as goal
 
 pub returns-clause-seats : goal.returns-clause-seats

@@ -1,7 +1,5 @@
-use Rattle.std.proofs.Common.{◌≡◌, ◌∙◌, List, ℕ, sym, ap}
-use Rattle.std.specs.Map.{values_of}
-use Rattle.definitions.specs.Lengths.{base_in}
-use Rattle.definitions.proofs.TextLaws.{same_text-true}
+use Rattle.std.{proofs.Common.{◌≡◌, ◌∙◌, List, ℕ, sym, ap}, specs.Map.values_of}
+use Rattle.definitions.{specs.Lengths.base_in, proofs.TextLaws.same_text-true}
 use Rattle.use_blocks.proofs.bases.Bases.base.Goals as goal
 
 pub returns-then-is_same : goal.returns-then-is_same

@@ -1,14 +1,7 @@
-use Rattle.std.proofs.Common.{◌≡◌, ◌+◌, ◌++◌, ◌∷◌, [], ◌∙◌, ℕ, List, None, false, refl, ap, ap₂, sym, subst, length}
-use Rattle.std.specs.Map.{values_of}
-use Rattle.std.specs.Option.{option_eq}
+use Rattle.std.{proofs.Common.{◌≡◌, ◌+◌, ◌++◌, ◌∷◌, [], ◌∙◌, ℕ, List, None, false, refl, ap, ap₂, sym, subst, length}, specs.Map.values_of, specs.Option.option_eq}
 use Rattle.indexmap.specs.IndexMap.{insert_entry}
-use Rattle.definitions.specs.Blocks.{is_common}
-use Rattle.definitions.specs.Characters.{same_text}
-use Rattle.definitions.specs.Lengths.{BlockLength, BlockRow, local_words, rows_from, rows_of, total_length}
-use Rattle.use_blocks.specs.Joins.BlockLengths.{lengths_shown}
-use Rattle.use_blocks.specs.Joins.KeyedRows.{KeyedRow, AreKeyed}
-use Rattle.use_blocks.proofs.BaseLaws.{total-push}
-use Rattle.use_blocks.proofs.RowLaws.{literals-join, literals-keyed, literals-shown, literals_behind, rows-alone, rows-before, rows-keyed, rows-shown}
+use Rattle.definitions.specs.{Blocks.is_common, Characters.same_text, Lengths.{BlockLength, BlockRow, local_words, rows_from, rows_of, total_length}}
+use Rattle.use_blocks.{specs.Joins.BlockLengths.lengths_shown, specs.Joins.KeyedRows.{KeyedRow, AreKeyed}, proofs.BaseLaws.total-push, proofs.RowLaws.{literals-join, literals-keyed, literals-shown, literals_behind, rows-alone, rows-before, rows-keyed, rows-shown}}
 use Rattle.use_blocks.proofs.bases.Bases.new.Goals as goal
 
 pub found-requires-clause-keyed : goal.found-requires-clause-keyed

@@ -1,9 +1,6 @@
 use Rattle.std.proofs.Common.{◌≡◌, ◌∙◌, ◌<◌, ℕ, length, ap, sym, subst}
 use Rattle.definitions.specs.Laws.States.{BlockState, advanced}
-use Rattle.use_blocks.specs.Joins.EffectsAs.{effect_as}
-use Rattle.use_blocks.specs.Joins.StateInside.{block_at, latest}
-use Rattle.use_blocks.specs.Joins.Changes.{written, changed}
-use Rattle.use_blocks.proofs.StackLaws.{state_of, below-latest, index-kept, advanced-parts}
+use Rattle.use_blocks.{specs.Joins.EffectsAs.effect_as, specs.Joins.StateInside.{block_at, latest}, specs.Joins.Changes.{written, changed}, proofs.StackLaws.{state_of, below-latest, index-kept, advanced-parts}}
 use Rattle.use_blocks.proofs.block_state.BlockState.advance.Goals as goal
 
 pub write-requires : goal.write-requires

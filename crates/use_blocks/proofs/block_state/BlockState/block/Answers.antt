@@ -1,8 +1,6 @@
 use Rattle.std.proofs.Common.{◌∙◌, sym, ap}
 use Rattle.definitions.specs.Laws.States.{UsedBlock, names_of_blocks}
-use Rattle.use_blocks.specs.Joins.StateInside.{latest}
-use Rattle.use_blocks.proofs.BlockLaws.{name_at-block}
-use Rattle.use_blocks.proofs.StackLaws.{in_use-latest, block_now-latest, block_now-read}
+use Rattle.use_blocks.{specs.Joins.StateInside.latest, proofs.BlockLaws.name_at-block, proofs.StackLaws.{in_use-latest, block_now-latest, block_now-read}}
 use Rattle.use_blocks.proofs.block_state.BlockState.block.Goals as goal
 
 pub returns-clause-block : goal.returns-clause-block

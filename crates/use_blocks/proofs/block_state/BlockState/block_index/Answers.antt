@@ -1,8 +1,6 @@
-use Rattle.std.proofs.Common.{◌∙◌, ℕ, ap}
-use Rattle.std.specs.Prelude.{slice_get}
+use Rattle.std.{proofs.Common.{◌∙◌, ℕ, ap}, specs.Prelude.slice_get}
 use Rattle.definitions.specs.Laws.States.{names_of_blocks}
-use Rattle.use_blocks.specs.Joins.StateInside.{latest}
-use Rattle.use_blocks.proofs.NameLaws.{in_use-at}
+use Rattle.use_blocks.{specs.Joins.StateInside.latest, proofs.NameLaws.in_use-at}
 use Rattle.use_blocks.proofs.block_state.BlockState.block_index.Goals as goal
 
 pub returns : goal.returns

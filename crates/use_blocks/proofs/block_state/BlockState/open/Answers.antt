@@ -1,10 +1,6 @@
-use Rattle.std.proofs.Common.{◌∙◌, ℕ, List, ◌++◌, ◌∷◌, [], ap, ap₂, sym}
-use Rattle.std.specs.Prelude.{nat_lt}
-use Rattle.std.specs.List.{prefix_len}
-use Rattle.std.proofs.lemmas.Bool.{ltb-true}
+use Rattle.std.{proofs.Common.{◌∙◌, ℕ, List, ◌++◌, ◌∷◌, [], ap, ap₂, sym}, specs.Prelude.nat_lt, specs.List.prefix_len, proofs.lemmas.Bool.ltb-true}
 use Rattle.definitions.specs.Laws.States.{UsedBlock}
-use Rattle.use_blocks.specs.Joins.StateInside.{is_other}
-use Rattle.use_blocks.proofs.StackLaws.{accepted-index, state-opened, opened-as, blocks_opened, state_of}
+use Rattle.use_blocks.{specs.Joins.StateInside.is_other, proofs.StackLaws.{accepted-index, state-opened, opened-as, blocks_opened, state_of}}
 use Rattle.use_blocks.proofs.block_state.BlockState.open.Goals as goal
 
 pub open-requires-clause-few : goal.open-requires-clause-few

@@ -1,10 +1,6 @@
-use Rattle.std.proofs.Common.{◌∙◌, ℕ, List, ap, sym, refl}
-use Rattle.std.specs.Prelude.{nat_lt}
-use Rattle.std.specs.List.{prefix_len}
-use Rattle.std.proofs.lemmas.Bool.{lt-ltb, le-ltb}
+use Rattle.std.{proofs.Common.{◌∙◌, ℕ, List, ap, sym, refl}, specs.Prelude.nat_lt, specs.List.prefix_len, proofs.lemmas.Bool.{lt-ltb, le-ltb}}
 use Rattle.definitions.specs.Laws.States.{UsedBlock}
-use Rattle.use_blocks.specs.Joins.StateInside.{is_other}
-use Rattle.use_blocks.proofs.StackLaws.{accepted-index}
+use Rattle.use_blocks.{specs.Joins.StateInside.is_other, proofs.StackLaws.accepted-index}
 use Rattle.use_blocks.proofs.block_state.BlockState.use_name.Goals as goal
 
 pub returns-then-opened-lt-MOST_BLOCKS-clause-change : goal.returns-then-opened-lt-MOST_BLOCKS-clause-change

@@ -1,9 +1,6 @@
 use Rattle.std.proofs.Common.{◌∙◌, ◌<◌, length, ap, sym, refl}
 use Rattle.definitions.specs.Laws.States.{names_of_blocks}
-use Rattle.use_blocks.specs.Joins.EffectsAs.{effect_as}
-use Rattle.use_blocks.specs.Joins.StateInside.{block_at}
-use Rattle.use_blocks.proofs.BlockLaws.{behind-at, names-behind}
-use Rattle.use_blocks.proofs.StackLaws.{state-renamed, written-as}
+use Rattle.use_blocks.{specs.Joins.EffectsAs.effect_as, specs.Joins.StateInside.block_at, proofs.BlockLaws.{behind-at, names-behind}, proofs.StackLaws.{state-renamed, written-as}}
 use Rattle.use_blocks.proofs.block_state.BlockState.write.Goals as goal
 
 pub invariant_of-self : goal.invariant_of-self

@@ -1,8 +1,6 @@
 use Rattle.std.proofs.Common.{◌≡◌, ◌∙◌, List, true, false, sym, ap}
-use Rattle.definitions.specs.Blocks.{is_accepted}
-use Rattle.definitions.specs.Lengths.{BlockLength}
-use Rattle.use_blocks.specs.Joins.BlockLengths.{block_names, has_name, lengths_shown}
-use Rattle.use_blocks.proofs.ReachLaws.{accepted-old, accepted-new, shown-length}
+use Rattle.definitions.specs.{Blocks.is_accepted, Lengths.BlockLength}
+use Rattle.use_blocks.{specs.Joins.BlockLengths.{block_names, has_name, lengths_shown}, proofs.ReachLaws.{accepted-old, accepted-new, shown-length}}
 use Rattle.use_blocks.proofs.lengths.Lengths.accepts.Goals as goal
 
 pub returns-then-has_block : goal.returns-then-has_block

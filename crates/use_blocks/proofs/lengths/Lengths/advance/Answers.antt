@@ -1,12 +1,6 @@
-use Rattle.std.proofs.Common.{◌≡◌, Some, List, ap, ◌∙◌}
-use Rattle.std.specs.Prelude.{slice_get, map}
-use Rattle.std.specs.Option.{option_map}
-use Rattle.definitions.specs.Settled.{Opens}
-use Rattle.definitions.specs.Lengths.{BlockLength}
-use Rattle.definitions.specs.Laws.States.{lengths_behind}
-use Rattle.use_blocks.specs.Joins.BlockLengths.{reaching}
-use Rattle.use_blocks.proofs.ReachLaws.{opened-at, advanced-opened, advanced-unopened}
-use Rattle.use_blocks.proofs.lengths.Lengths.advance.Goals.{in-Some+in_ok-open-in-Some, in-None}
+use Rattle.std.{proofs.Common.{◌≡◌, Some, List, ap, ◌∙◌}, specs.Prelude.{slice_get, map}, specs.Option.option_map}
+use Rattle.definitions.specs.{Settled.Opens, Lengths.BlockLength, Laws.States.lengths_behind}
+use Rattle.use_blocks.{specs.Joins.BlockLengths.reaching, proofs.ReachLaws.{opened-at, advanced-opened, advanced-unopened}, proofs.lengths.Lengths.advance.Goals.{in-Some+in_ok-open-in-Some, in-None}}
 use Rattle.use_blocks.proofs.lengths.Lengths.advance.Goals as goal
 
 pub returns-clause-advanced : goal.returns-clause-advanced

@@ -1,10 +1,6 @@
-use Rattle.std.proofs.Common.{◌≡◌, ◌∙◌, ℕ, List, Some, ap, sym, refl}
-use Rattle.std.specs.Prelude.{slice_get}
-use Rattle.definitions.specs.Blocks.{block_in_use}
-use Rattle.definitions.specs.Laws.States.{lengths_advanced}
-use Rattle.use_blocks.specs.Joins.BlockLengths.{block_names}
-use Rattle.use_blocks.specs.Joins.EffectsAs.{effect_as}
-use Rattle.use_blocks.proofs.NameLaws.{length-at, names-advanced}
+use Rattle.std.{proofs.Common.{◌≡◌, ◌∙◌, ℕ, List, Some, ap, sym, refl}, specs.Prelude.slice_get}
+use Rattle.definitions.specs.{Blocks.block_in_use, Laws.States.lengths_advanced}
+use Rattle.use_blocks.{specs.Joins.BlockLengths.block_names, specs.Joins.EffectsAs.effect_as, proofs.NameLaws.{length-at, names-advanced}}
 use Rattle.use_blocks.proofs.lengths.Lengths.follow.Goals as goal
 
 pub returns-clause-advanced : goal.returns-clause-advanced

@@ -1,10 +1,7 @@
 use Rattle.std.proofs.Common.{◌≡◌, ◌≤◌, ℕ, true, false, List, [], ◌∷◌, ◌++◌, length, ap, sym, ◌∙◌, subst, length-append, arith}
 use Rattle.indexmap.specs.IndexMap.{insert_entry}
-use Rattle.definitions.specs.Characters.{same_text}
-use Rattle.definitions.specs.Blocks.{is_named, is_accepted}
-use Rattle.definitions.specs.Lengths.{BlockLength}
-use Rattle.use_blocks.specs.Joins.BlockLengths.{block_names, has_name, lengths_shown}
-use Rattle.use_blocks.proofs.ReachLaws.{is_named_blocks, accepted-few, opened-new, opened-old, shown-length, shown-new}
+use Rattle.definitions.specs.{Characters.same_text, Blocks.{is_named, is_accepted}, Lengths.BlockLength}
+use Rattle.use_blocks.{specs.Joins.BlockLengths.{block_names, has_name, lengths_shown}, proofs.ReachLaws.{is_named_blocks, accepted-few, opened-new, opened-old, shown-length, shown-new}}
 use Rattle.use_blocks.proofs.lengths.Lengths.open.Goals as goal
 
 pub invariant_of-self-2 : goal.invariant_of-self-2

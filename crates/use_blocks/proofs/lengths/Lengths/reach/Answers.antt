@@ -1,10 +1,7 @@
-use Rattle.std.proofs.Common.{◌≡◌, ◌≤◌, ◌∙◌, ℕ, Some, List, max, ap, sym, subst}
-use Rattle.std.specs.Prelude.{slice_get, map}
-use Rattle.indexmap.specs.IndexMap.{set_value_at}
-use Rattle.indexmap.specs.Layout.{length-set_value_at}
+use Rattle.std.{proofs.Common.{◌≡◌, ◌≤◌, ◌∙◌, ℕ, Some, List, max, ap, sym, subst}, specs.Prelude.{slice_get, map}}
+use Rattle.indexmap.specs.{IndexMap.set_value_at, Layout.length-set_value_at}
 use Rattle.definitions.specs.Lengths.{BlockLength}
-use Rattle.use_blocks.specs.Joins.BlockLengths.{lengths_shown, reaching}
-use Rattle.use_blocks.proofs.ReachLaws.{reached-at, words-at}
+use Rattle.use_blocks.{specs.Joins.BlockLengths.{lengths_shown, reaching}, proofs.ReachLaws.{reached-at, words-at}}
 use Rattle.use_blocks.proofs.lengths.Lengths.reach.Goals as goal
 
 pub invariant_of-self : goal.invariant_of-self

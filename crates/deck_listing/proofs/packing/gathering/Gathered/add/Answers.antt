@@ -1,6 +1,5 @@
 use Rattle.std.proofs.Common.{◌%◌, ◌/◌, ap, sym, ◌∙◌}
-use Rattle.deck_listing.specs.Joins.Packing.{parcel_at}
-use Rattle.deck_listing.proofs.GatherLaws.{gathered_more}
+use Rattle.deck_listing.{specs.Joins.Packing.parcel_at, proofs.GatherLaws.gathered_more}
 use Rattle.deck_listing.proofs.packing.gathering.Gathered.add.Goals as goal
 
 pub returns-clause-gathered : goal.returns-clause-gathered

@@ -1,8 +1,6 @@
 use Rattle.std.proofs.Common.{arith, ◌≡◌, ◌+◌, ◌-◌, ◌/◌, List, ◌++◌, ap, ◌∙◌, subst, replicate}
-use Rattle.definitions.specs.Kinds.{units}
-use Rattle.definitions.specs.Words.{Parcel, parcels_from}
-use Rattle.deck_listing.specs.Joins.Filling.{IsGathered}
-use Rattle.deck_listing.proofs.GatherSteps.{span_more}
+use Rattle.definitions.specs.{Kinds.units, Words.{Parcel, parcels_from}}
+use Rattle.deck_listing.{specs.Joins.Filling.IsGathered, proofs.GatherSteps.span_more}
 use Rattle.deck_listing.proofs.packing.gathering.Gathered.add_parcels.Goals as goal
 
 pub loop-index-preserved : goal.loop-index-preserved

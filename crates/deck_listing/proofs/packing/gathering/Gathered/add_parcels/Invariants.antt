@@ -1,6 +1,5 @@
 use Rattle.std.proofs.Common.{◌≡◌, ◌+◌, ◌-◌, ◌/◌, ◌<◌, List, ◌++◌, replicate}
-use Rattle.definitions.specs.Kinds.{units}
-use Rattle.definitions.specs.Words.{Parcel, parcels_from}
+use Rattle.definitions.specs.{Kinds.units, Words.{Parcel, parcels_from}}
 use Rattle.deck_listing.specs.Joins.Filling.{IsGathered}
 use Rattle.deck_listing.proofs.packing.gathering.Gathered.add_parcels.Given as goal
 

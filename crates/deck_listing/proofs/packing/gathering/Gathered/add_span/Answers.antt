@@ -1,8 +1,6 @@
-use Rattle.std.proofs.Common.{◌++◌, List, refl, subst, sym}
-use Rattle.std.proofs.lemmas.Result.{on_ok_weaker}
+use Rattle.std.proofs.{Common.{◌++◌, List, refl, subst, sym}, lemmas.Result.on_ok_weaker}
 use Rattle.definitions.specs.Words.{Parcel}
-use Rattle.deck_listing.specs.Joins.Filling.{IsGathered}
-use Rattle.deck_listing.proofs.ZeroLaws.{zeros-span}
+use Rattle.deck_listing.{specs.Joins.Filling.IsGathered, proofs.ZeroLaws.zeros-span}
 use Rattle.deck_listing.proofs.packing.gathering.Gathered.add_span.Goals as goal
 
 pub returns-clause-gathered : goal.returns-clause-gathered

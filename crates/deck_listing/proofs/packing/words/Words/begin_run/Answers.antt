@@ -1,9 +1,5 @@
 use Rattle.std.proofs.Common.{◌≡◌, List, [], ◌∷◌, reverse, sym, subst}
-use Rattle.deck_listing.specs.Joins.Packing.{empty_run}
-use Rattle.deck_listing.specs.Joins.Spans.{IsKept, parcels_in_runs, run_of}
-use Rattle.deck_listing.specs.declared.packing.spans.Span.{Span}
-use Rattle.deck_listing.proofs.PutLaws.{empty_kept}
-use Rattle.deck_listing.proofs.PackedLaws.{block, begun_kept, begun_view}
+use Rattle.deck_listing.{specs.Joins.Packing.empty_run, specs.Joins.Spans.{IsKept, parcels_in_runs, run_of}, specs.declared.packing.spans.Span.Span, proofs.PutLaws.empty_kept, proofs.PackedLaws.{block, begun_kept, begun_view}}
 use Rattle.deck_listing.proofs.packing.words.Words.begin_run.Goals as goal
 
 pub invariant_of-self : goal.invariant_of-self

@@ -1,9 +1,5 @@
 use Rattle.std.proofs.Common.{List, ◌∙◌, sym, subst}
-use Rattle.deck_listing.specs.Joins.Spans.{RiseWithin, places, parcels_in, parcels_in_runs}
-use Rattle.deck_listing.specs.declared.packing.spans.Span.{Span}
-use Rattle.deck_listing.proofs.MergeLaws.{if_ok}
-use Rattle.deck_listing.proofs.PutLaws.{whole_rise}
-use Rattle.deck_listing.proofs.PackedLaws.{fill_view}
+use Rattle.deck_listing.{specs.Joins.Spans.{RiseWithin, places, parcels_in, parcels_in_runs}, specs.declared.packing.spans.Span.Span, proofs.MergeLaws.if_ok, proofs.PutLaws.whole_rise, proofs.PackedLaws.fill_view}
 use Rattle.deck_listing.proofs.packing.words.Words.filled.Goals as goal
 
 pub run_words-requires : goal.run_words-requires

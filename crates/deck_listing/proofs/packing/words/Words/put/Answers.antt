@@ -1,7 +1,5 @@
 use Rattle.std.proofs.Common.{◌+◌, reverse}
-use Rattle.deck_listing.specs.Joins.Spans.{parcels_in_runs, run_of}
-use Rattle.deck_listing.proofs.PutLaws.{put_kept}
-use Rattle.deck_listing.proofs.PackedLaws.{most_kept, put_moved}
+use Rattle.deck_listing.{specs.Joins.Spans.{parcels_in_runs, run_of}, proofs.PutLaws.put_kept, proofs.PackedLaws.{most_kept, put_moved}}
 use Rattle.deck_listing.proofs.packing.words.Words.put.Goals as goal
 
 pub invariant_of-self-2 : goal.invariant_of-self-2

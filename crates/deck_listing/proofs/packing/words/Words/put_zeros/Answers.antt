@@ -1,6 +1,5 @@
 use Rattle.std.proofs.Common.{reverse}
-use Rattle.deck_listing.specs.Joins.Spans.{parcels_in_runs}
-use Rattle.deck_listing.proofs.PackedLaws.{zeros_kept_by, zeros_view}
+use Rattle.deck_listing.{specs.Joins.Spans.parcels_in_runs, proofs.PackedLaws.{zeros_kept_by, zeros_view}}
 use Rattle.deck_listing.proofs.packing.words.Words.put_zeros.Goals as goal
 
 pub invariant_of-self-2 : goal.invariant_of-self-2

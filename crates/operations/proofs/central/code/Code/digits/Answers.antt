@@ -1,7 +1,6 @@
 use Rattle.std.proofs.Common.{◌∙◌, sym, ap, length}
 use Rattle.definitions.specs.Matching.{octal_number}
-use Rattle.operations.specs.Joins.RegistersFound.{digits_as}
-use Rattle.operations.proofs.DigitLaws.{code_digits-shortened}
+use Rattle.operations.{specs.Joins.RegistersFound.digits_as, proofs.DigitLaws.code_digits-shortened}
 use Rattle.operations.proofs.central.code.Code.digits.Goals as goal
 
 pub returns-in-Short-clause-number : goal.returns-in-Short-clause-number
