@@ -3,6 +3,9 @@
 use std::alloc::{AllocError, Global};
 use std::fmt::{Debug, Display};
 
+/// What was asked for; the error is that there was no memory for it.
+pub type Got<T> = Result<T, AllocError>;
+
 /// A text of parts. Where there is no memory for one, it is left out, and the text is none that is
 /// wanted.
 #[derive(Drop)]
@@ -22,7 +25,7 @@ impl Answer {
     }
 
     /// The text; the error is that there was no memory for a part of it.
-    pub fn text(&self) -> Result<&str, AllocError> {
+    pub fn text(&self) -> Got<&str> {
         if self.is_lacking {
             return Err(AllocError);
         }
@@ -34,8 +37,14 @@ impl Answer {
     }
 
     /// Notes whether there was memory.
-    pub fn keep(&mut self, done: Result<(), AllocError>) {
+    pub fn keep(&mut self, done: Got<()>) {
         self.is_lacking |= done.is_err();
+    }
+
+    /// What was found, if there was memory.
+    pub fn kept<T>(&mut self, found: Got<T>) -> Option<T> {
+        self.is_lacking |= found.is_err();
+        found.ok()
     }
 
     pub fn push(&mut self, part: &str) {
@@ -60,7 +69,7 @@ impl Answer {
     }
 
     /// A part that was made, if there was memory for it.
-    pub fn made(&mut self, part: Result<String, AllocError>) {
+    pub fn made(&mut self, part: Got<String>) {
         match part {
             Ok(part) => self.push(part.as_str()),
             Err(_) => self.is_lacking = true,

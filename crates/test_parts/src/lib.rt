@@ -15,7 +15,7 @@ mod known_bases;
 mod known_names;
 mod words;
 
-pub use answers::Answer;
+pub use answers::{Answer, Got};
 pub use assembling::{
     asm_answer, assembled, counted_record, new_object, new_record, object_of, record_of,
 };
