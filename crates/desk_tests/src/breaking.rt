@@ -38,10 +38,7 @@ impl Shelf for BreakingShelf {
         cards: &[Card],
     ) -> Result<(), ShelfSaveFault> {
         let mut output = Counted::new(FaultyWriter::new(self.alloc, self.most.max(1), 2));
-        match save(&mut output, cards) {
-            Ok(()) => Ok(()),
-            Err(broken) => Err(ShelfSaveFault::WriteFault { sent: broken.sent }),
-        }
+        save(&mut output, cards).map_err(|broken| ShelfSaveFault::WriteFault { sent: broken.sent })
     }
 
     fn list(&mut self) -> Result<Vec<FileRow>, ShelfLoadFault> {

@@ -12,14 +12,14 @@ pub struct Refusing<F> {
 }
 
 impl<F> Refusing<F> {
-    /// Counts a call, and refuses it if it is the one.
-    fn pass(&mut self) -> io::Result<()> {
+    /// The folder, which is called once more, unless this call is the one.
+    fn pass(&mut self) -> io::Result<&mut F> {
         let calls = self.calls;
         self.calls = calls.saturating_sub(1);
         if calls == 1 {
             return Err(io::Error::from(ErrorKind::StorageFull));
         }
-        Ok(())
+        Ok(&mut self.files)
     }
 }
 
@@ -33,57 +33,46 @@ impl<F: Folder> Folder for Refusing<F> {
     ghost has_done = { λ _ _. ⊤ };
 
     fn look(&mut self, path: &str) -> io::Result<Standing> {
-        self.pass()?;
-        self.files.look(path)
+        self.pass()?.look(path)
     }
 
     fn open(&mut self, path: &str) -> io::Result<F::File> {
-        self.pass()?;
-        self.files.open(path)
+        self.pass()?.open(path)
     }
 
     fn make(&mut self, path: &str) -> io::Result<F::NewFile> {
-        self.pass()?;
-        self.files.make(path)
+        self.pass()?.make(path)
     }
 
     fn take_after(&mut self, file: &F::NewFile, path: &str) -> io::Result<()> {
-        self.pass()?;
-        self.files.take_after(file, path)
+        self.pass()?.take_after(file, path)
     }
 
     fn keep(&mut self, file: &F::NewFile) -> io::Result<()> {
-        self.pass()?;
-        self.files.keep(file)
+        self.pass()?.keep(file)
     }
 
     fn put(&mut self, file: F::NewFile, new: &str, path: &str) -> io::Result<()> {
-        self.pass()?;
-        self.files.put(file, new, path)
+        self.pass()?.put(file, new, path)
     }
 
     fn rename(&mut self, from: &str, to: &str) -> io::Result<()> {
-        self.pass()?;
-        self.files.rename(from, to)
+        self.pass()?.rename(from, to)
     }
 
     fn link(&mut self, path: &str, other: &str) -> io::Result<()> {
-        self.pass()?;
-        self.files.link(path, other)
+        self.pass()?.link(path, other)
     }
 
     fn remove(&mut self, path: &str) -> io::Result<()> {
-        self.pass()?;
-        self.files.remove(path)
+        self.pass()?.remove(path)
     }
 
     fn keep_folder(&mut self, folder: &str) -> io::Result<()> {
-        self.pass()?;
-        self.files.keep_folder(folder)
+        self.pass()?.keep_folder(folder)
     }
 
     fn decks(&mut self, alloc: Global, folder: &str) -> io::Result<Vec<DeckEntry>> {
-        self.pass()?;
-        self.files.decks(alloc, folder)
+        self.pass()?.decks(alloc, folder)
     }
 }
