@@ -7,10 +7,11 @@
 
 use asm_main::{AsmFault, Tally, asm_status};
 use cards::Card;
-use deck_files::{LoadFault, load, save};
+use deck_files::{load, save};
 use std::alloc::{AllocError, Global};
-use std::io::{BufReader, Read, Write};
-use test_parts::{Answer, Failing, FaultyReader, FaultyWriter, assembled, cards_of, number};
+use std::fmt::Debug;
+use std::io::{BufReader, Write};
+use test_parts::{Answer, Failing, FaultyReader, FaultyWriter, Got, assembled, cards_of, number};
 use text_ports::{Broken, Counted};
 
 /// Makes a step of this word, if it is one of files, and answers whether it is.
@@ -27,17 +28,20 @@ pub fn make(file: &[u8], word: &str, rest: &str, answer: &mut Answer) -> bool {
     true
 }
 
-/// Loads cards. What comes of it is looked at and no contract of it, and so who calls has no facts of it.
-fn loaded<R: Read>(alloc: Global, input: &mut Counted<R>) -> Result<Vec<Card>, LoadFault> {
-    load(alloc, input)
+/// A value as a program writes it, and how many faults a port had.
+fn push_found<T: Debug>(answer: &mut Answer, value: &T, faults: u64) {
+    answer.push("= ");
+    answer.debug(value);
+    answer.number(", faults ", faults);
+    answer.line("");
 }
 
 /// Cards, or a fault, and how many faults the reader had, where it had some.
 fn push_loaded(answer: &mut Answer, file: &[u8], fails_at: u64) {
     let mut input = Counted::new(FaultyReader::new(file, 1, fails_at));
-    match loaded(answer.alloc, &mut input) {
+    match load(answer.alloc, &mut input) {
         Ok(cards) => push_lines(answer, &cards),
-        Err(fault) => push_fault(answer, &fault, input.faults()),
+        Err(fault) => push_found(answer, &fault, input.faults()),
     }
 }
 
@@ -49,17 +53,10 @@ pub fn push_lines(answer: &mut Answer, cards: &[Card]) {
     }
 }
 
-fn push_fault(answer: &mut Answer, fault: &LoadFault, faults: u64) {
-    answer.push("= ");
-    answer.debug(fault);
-    answer.number(", faults ", faults);
-    answer.line("");
-}
-
 /// How many cards a file has.
 fn push_count(answer: &mut Answer, file: &[u8]) {
     let mut input = Counted::new(FaultyReader::new(file, 80, 0));
-    match loaded(answer.alloc, &mut input) {
+    match load(answer.alloc, &mut input) {
         Ok(cards) => answer.number("= ", cards.len() as u64),
         Err(fault) => answer.debug(&fault),
     }
@@ -67,11 +64,7 @@ fn push_count(answer: &mut Answer, file: &[u8]) {
 }
 
 /// Saves the cards of a file.
-fn saved<W: Write>(
-    alloc: Global,
-    output: &mut Counted<W>,
-    file: &[u8],
-) -> Result<Result<(), Broken>, AllocError> {
+fn saved<W: Write>(alloc: Global, output: &mut Counted<W>, file: &[u8]) -> Got<Result<(), Broken>> {
     let cards = cards_of(alloc, str::from_utf8(file).unwrap_or(""))?;
     Ok(save(output, &cards))
 }
@@ -82,10 +75,7 @@ fn push_saved(answer: &mut Answer, file: &[u8], fails_at: u64) {
     let saved = saved(answer.alloc, &mut output, file);
     let faults = output.faults();
     answer.bytes(output.into_inner().taken());
-    answer.push("= ");
-    answer.debug(&saved);
-    answer.number(", faults ", faults);
-    answer.line("");
+    push_found(answer, &saved, faults);
 }
 
 /// What a run answered, and its status.
@@ -101,16 +91,13 @@ fn push_outcome(answer: &mut Answer, outcome: &Result<Tally, AsmFault>) {
     answer.number(", status ", u64::from(asm_status(outcome)));
 }
 
-/// Assembles the file by ports: what they have written. Shown are the outcome, and how many faults they had.
-fn run_ports(
-    answer: &mut Answer,
-    reader: FaultyReader<'_>,
-    mut output: Counted<FaultyWriter>,
-) -> Result<FaultyWriter, AllocError> {
-    let Ok(reader) = BufReader::new(answer.alloc, reader) else {
-        return Err(AllocError);
-    };
+/// Assembles the file by ports that give and take so many bytes at a time, and fail at the calls of the numbers
+/// behind: what they have written. Shown are the outcome, and how many faults they had.
+fn run(answer: &mut Answer, file: &[u8], text: &str) -> Got<FaultyWriter> {
+    let (failing, _) = Failing::cut(text);
+    let reader = BufReader::new(answer.alloc, failing.reader(file)).map_err(|_| AllocError)?;
     let mut input = Counted::new(reader);
+    let mut output = failing.writer(answer.alloc);
     let outcome = assembled(answer.alloc, &mut input, &mut output);
     push_outcome(answer, &outcome);
     answer.number(", faults ", input.faults());
@@ -119,21 +106,11 @@ fn run_ports(
     Ok(output.into_inner())
 }
 
-/// Assembles the file by ports that give and take so many bytes at a time, and fail at the calls of the numbers
-/// behind.
-fn run(answer: &mut Answer, file: &[u8], text: &str) -> Result<FaultyWriter, AllocError> {
-    let (failing, _) = Failing::cut(text);
-    let reader = failing.reader(file);
-    run_ports(answer, reader, failing.writer(answer.alloc))
-}
-
 fn push_run(answer: &mut Answer, file: &[u8], text: &str) {
-    match run(answer, file, text) {
-        Ok(writer) => {
-            answer.bytes(writer.taken());
-            answer.line("");
-        }
-        Err(error) => answer.keep(Err(error)),
+    let writer = run(answer, file, text);
+    if let Some(writer) = answer.kept(writer) {
+        answer.bytes(writer.taken());
+        answer.line("");
     }
 }
 
@@ -144,9 +121,9 @@ fn has_line(text: &[u8], line: &[u8]) -> bool {
 
 /// Assembles the file: whether this line is written.
 fn push_run_line(answer: &mut Answer, file: &[u8], line: &str) {
-    match run(answer, file, "1000 0 0") {
-        Ok(writer) => answer.debug(&has_line(writer.taken(), line.as_bytes())),
-        Err(error) => answer.keep(Err(error)),
+    let writer = run(answer, file, "1000 0 0");
+    if let Some(writer) = answer.kept(writer) {
+        answer.debug(&has_line(writer.taken(), line.as_bytes()));
     }
     answer.line("");
 }

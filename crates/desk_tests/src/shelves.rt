@@ -10,14 +10,15 @@
 
 use crate::files::push_lines;
 use crate::refusing::Refusing;
-use cards::{Card, DeckName, MOST_CARDS};
-use deck_files::{FileRow, FolderShelf, KnownFiles, SaveOver, Shelf, SystemFolder, clear_folder};
-use std::alloc::{AllocError, AllocGlobal, Global};
+use deck_files::{
+    FileRow, FolderShelf, KnownFiles, SaveOver, Shelf, ShelfLoadFault, SystemFolder, clear_folder,
+};
+use std::alloc::{AllocGlobal, Global};
 use std::fs::{self, File};
-use std::io::{self, ErrorKind};
+use std::io;
 use std::rt::Files;
 use std::sync::Wait;
-use test_parts::{Answer, cards_of, cut, cut_line, cut_number, name_of, number};
+use test_parts::{Answer, Got, cards_of, cut, cut_line, cut_number, name_of, number};
 
 /// Makes a step of this word, if it is one of folders, and answers whether it is.
 pub fn make<R: AllocGlobal + Files<File = File> + Wait + Clone + Drop>(
@@ -30,65 +31,35 @@ pub fn make<R: AllocGlobal + Files<File = File> + Wait + Clone + Drop>(
     Shelves { rt, known }.make(word, rest, answer) || change(rt, word, rest, answer)
 }
 
-/// What is saved: under which name, over what, of which version, and the cards.
-#[derive(Drop)]
-struct Saved {
-    name: DeckName,
-    over: SaveOver,
-    version: u64,
-    cards: Vec<Card>,
-}
-
-/// What may be written over.
-fn over_of(text: &str) -> SaveOver {
-    if text == "Any" {
-        SaveOver::Any
-    } else {
-        SaveOver::Known
-    }
-}
-
-fn saved_of(alloc: Global, text: &str) -> Result<Saved, AllocError> {
+/// Saves cards on a shelf, as these words say.
+fn save<S: Shelf>(alloc: Global, shelf: &mut S, text: &str, answer: &mut Answer) -> Got<()> {
     let (head, lines) = cut_line(text);
     let (of, rest) = cut(head);
     let (over, version) = cut(rest);
-    Ok(Saved {
-        name: name_of(of)?,
-        over: over_of(over),
-        version: number(version),
-        cards: cards_of(alloc, lines)?,
-    })
-}
-
-/// Saves cards on a shelf.
-fn save<S: Shelf>(alloc: Global, shelf: &mut S, text: &str, answer: &mut Answer) {
-    match saved_of(alloc, text) {
-        Ok(saved) => push_saved(shelf, &saved, answer),
-        Err(error) => answer.keep(Err(error)),
-    }
+    let over = match over {
+        "Any" => SaveOver::Any,
+        _ => SaveOver::Known,
+    };
+    let name = name_of(of)?;
+    let cards = cards_of(alloc, lines)?;
+    answer.debug(&shelf.save(&name, over, number(version), &cards));
     answer.line("");
-}
-
-fn push_saved<S: Shelf>(shelf: &mut S, saved: &Saved, answer: &mut Answer) {
-    if saved.cards.len() > MOST_CARDS {
-        return;
-    }
-    let done = shelf.save(&saved.name, saved.over, saved.version, &saved.cards);
-    answer.debug(&done);
+    Ok(())
 }
 
 /// Loads the cards of a deck.
-fn load<S: Shelf>(shelf: &mut S, of: &str, answer: &mut Answer) {
-    let Ok(name) = name_of(of) else {
-        return;
-    };
-    match shelf.load(&name) {
+fn load<S: Shelf>(shelf: &mut S, of: &str, answer: &mut Answer) -> Got<()> {
+    match shelf.load(&name_of(of)?) {
         Ok(cards) => push_lines(answer, &cards),
-        Err(fault) => {
-            answer.debug(&fault);
-            answer.line("");
-        }
+        Err(fault) => push_fault(answer, &fault),
     }
+    Ok(())
+}
+
+/// A fault on a line.
+fn push_fault(answer: &mut Answer, fault: &ShelfLoadFault) {
+    answer.debug(fault);
+    answer.line("");
 }
 
 /// The system's folders, and what is known of the files there.
@@ -101,14 +72,15 @@ struct Shelves<'a, R> {
 impl<'a, R: AllocGlobal + Files<File = File> + Wait + Clone + Drop> Shelves<'a, R> {
     /// Makes a step of this word, if it is one of shelves, and answers whether it is.
     fn make(&self, word: &str, rest: &str, answer: &mut Answer) -> bool {
-        match word {
+        let done = match word {
             "save_over" => self.save_refused(rest, answer),
             "load_from" => self.load_from(rest, answer),
             "list_in" => self.list_refused(rest, answer),
             "note_in" => self.note_in(rest, answer),
             "saved_in" => self.saved_in(rest, answer),
             _ => return false,
-        }
+        };
+        answer.keep(done);
         true
     }
 
@@ -129,64 +101,55 @@ impl<'a, R: AllocGlobal + Files<File = File> + Wait + Clone + Drop> Shelves<'a, 
         FolderShelf::over(files, self.rt, self.rt.alloc(), folder, number, self.known)
     }
 
-    fn save_refused(&self, text: &'a str, answer: &mut Answer) {
+    fn save_refused(&self, text: &'a str, answer: &mut Answer) -> Got<()> {
         let (calls, rest) = cut_number(text);
         let (number, rest) = cut_number(rest);
         let (folder, rest) = cut(rest);
         let mut shelf = self.refusing(folder, number as usize, calls);
-        save(self.rt.alloc(), &mut shelf, rest, answer);
+        save(self.rt.alloc(), &mut shelf, rest, answer)
     }
 
-    fn load_from(&self, text: &'a str, answer: &mut Answer) {
+    fn load_from(&self, text: &'a str, answer: &mut Answer) -> Got<()> {
         let (number, rest) = cut_number(text);
         let (folder, of) = cut(rest);
-        load(&mut self.shelf(folder, number as usize), of, answer);
+        load(&mut self.shelf(folder, number as usize), of, answer)
     }
 
-    /// Saves an empty deck by a shelf of its own.
-    fn save_empty(&self, folder: &'a str, name: &DeckName, version: u64, answer: &mut Answer) {
-        let mut shelf = self.shelf(folder, 1);
-        let done = shelf.save(name, SaveOver::Known, version, &[]);
-        answer.debug(&done);
-        answer.line("");
-    }
-
-    /// Loads by a shelf, which notes a version then; another may have saved in between.
-    fn note_in(&self, text: &'a str, answer: &mut Answer) {
+    /// Loads by a shelf, which notes a version then; another may have saved an empty deck in between.
+    fn note_in(&self, text: &'a str, answer: &mut Answer) -> Got<()> {
         let (version, rest) = cut_number(text);
         let (between, rest) = cut_number(rest);
         let (folder, of) = cut(rest);
-        let Ok(name) = name_of(of) else {
-            return;
-        };
+        let name = name_of(of)?;
         let mut shelf = self.shelf(folder, 0);
-        load(&mut shelf, of, answer);
+        let done = load(&mut shelf, of, answer);
         if between > 0 {
-            self.save_empty(folder, &name, between, answer);
+            let mut other = self.shelf(folder, 1);
+            answer.debug(&other.save(&name, SaveOver::Known, between, &[]));
+            answer.line("");
         }
         shelf.note(&name, version);
+        done
     }
 
     /// Whether the file of a deck has the cards of a version.
-    fn saved_in(&self, text: &'a str, answer: &mut Answer) {
+    fn saved_in(&self, text: &'a str, answer: &mut Answer) -> Got<()> {
         let (version, rest) = cut_number(text);
         let (folder, of) = cut(rest);
-        if let Ok(name) = name_of(of) {
-            let is_saved = self.shelf(folder, 0).is_saved(&name, version);
-            answer.line(if is_saved { "saved" } else { "unsaved" });
-        }
+        let name = name_of(of)?;
+        let is_saved = self.shelf(folder, 0).is_saved(&name, version);
+        answer.line(if is_saved { "saved" } else { "unsaved" });
+        Ok(())
     }
 
     /// Lists the files of decks by a shelf that refuses.
-    fn list_refused(&self, text: &'a str, answer: &mut Answer) {
+    fn list_refused(&self, text: &'a str, answer: &mut Answer) -> Got<()> {
         let (calls, folder) = cut_number(text);
         match self.refusing(folder, 0, calls).list() {
             Ok(rows) => push_rows(answer, &rows),
-            Err(fault) => {
-                answer.debug(&fault);
-                answer.line("");
-            }
+            Err(fault) => push_fault(answer, &fault),
         }
+        Ok(())
     }
 }
 
