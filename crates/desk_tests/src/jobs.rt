@@ -3,10 +3,9 @@
 //! `claim`: the job, which is out then; `deliver`: its result is made and handed in; `giveup LEASE`;
 //! `result LEASE DECK VERSION RECORD OBJECT`: a result made of single cards, the record's deck and a colon
 //! in front of its card, or `-` for no record; `link LEASE VERSION CARD ..`: a publication of decks of a
-//! card each, and `lay LEASE VERSION CARD ..` lays one down; `compare LEASE`: its next deck is compared;
-//! `batch SEEN COUNT`: so many edits; `settle TURNS`; `image`: the version that is shown, and
-//! the last 32 bytes of its image; `meter`: how many statements were sized and coded; `lost`: a job whose
-//! edit does not apply.
+//! card each; `offer LEASE PLACE CARD`: an object for the deck at a place; `publish LEASE`; `batch SEEN COUNT`: so
+//! many edits; `settle TURNS`; `image`: the version that is shown, and the last 32 bytes of its image; `meter`: how
+//! many statements were sized and coded; `lost`: a job whose edit does not apply.
 
 use crate::settling::settle;
 use cards::{Card, Edit};
@@ -21,7 +20,8 @@ use session_line::Calls;
 use std::alloc::{AllocError, Global};
 use std::hash::RandomState;
 use test_parts::{
-    Answer, card_of, cards_of, cut, cut_number, fixed_keys, name_of, number, object_of, record_of,
+    Answer, Got, card_of, cards_of, cut, cut_number, fixed_keys, name_of, number, object_of,
+    record_of, small,
 };
 use text_ports::Counted;
 use work_meter::Meter;
@@ -50,15 +50,20 @@ impl Jobs {
         match word {
             "claim" => self.claim(desk, answer),
             "deliver" => self.deliver(desk, answer),
-            "settle" => self.settle(desk, number(rest), answer),
-            "image" => push_image(desk, answer),
-            "meter" => push_pair(answer, self.meter.sized(), self.meter.coded()),
-            "lost" => push_lost(self.alloc, self.keys, answer),
-            "giveup" | "result" | "link" | "offer" | "publish" | "batch" => {
-                let done = make_call(self.alloc, desk, word, rest, answer);
-                answer.keep(done);
+            "settle" => {
+                let ended = settle(self.alloc, self.keys, desk, &mut self.meter, small(rest));
+                answer.debug(&ended);
             }
-            _ => return false,
+            "image" => push_image(desk, answer),
+            "meter" => {
+                answer.number("", self.meter.sized());
+                answer.number(" ", self.meter.coded());
+            }
+            "lost" => push_lost(self.alloc, self.keys, answer),
+            _ => match call_of(self.alloc, word, rest) {
+                Some(call) => push_call(desk, call, answer),
+                None => return false,
+            },
         }
         answer.line("");
         true
@@ -68,56 +73,46 @@ impl Jobs {
     fn claim(&mut self, desk: &mut Desk, answer: &mut Answer) {
         let reply = ask(desk, Call::Claim);
         push_reply(answer, &reply);
-        match job_in(reply) {
-            Some(job) => drop(self.out.replace(job)),
-            None => {}
+        if let Some(job) = job_in(reply) {
+            drop(self.out.replace(job));
         }
     }
 
     /// Runs the job that is out, and hands in what it makes.
     fn deliver(&mut self, desk: &mut Desk, answer: &mut Answer) {
-        match self.out.take() {
-            Some(job) => {
-                let made = run(self.alloc, self.keys, job, &mut self.meter);
-                hand_in(desk, made, answer);
+        if let Some(job) = self.out.take() {
+            let made = job.run(self.alloc, self.keys, &mut self.meter);
+            if !made.is_result() {
+                answer.push("lost, ");
             }
-            None => {}
+            push_asked(desk, made.into_call(), answer);
         }
-    }
-
-    fn settle(&mut self, desk: &mut Desk, turns: u64, answer: &mut Answer) {
-        let turns = u32::try_from(turns).unwrap_or(0);
-        answer.debug(&settle(self.alloc, self.keys, desk, &mut self.meter, turns));
     }
 }
 
-/// The call that these words say.
-fn call_of(alloc: Global, word: &str, rest: &str) -> Result<Call, AllocError> {
-    match word {
+/// The call that these words say, if they say one.
+fn call_of(alloc: Global, word: &str, rest: &str) -> Option<Got<Call>> {
+    let call = match word {
         "giveup" => Ok(Call::GiveUp(number(rest))),
         "result" => result_of(alloc, rest),
         "link" => link_of(alloc, rest),
         "offer" => offer_of(alloc, rest),
         "publish" => Ok(Call::Publish(number(rest))),
-        _ => batch_of(alloc, rest),
+        "batch" => batch_of(alloc, rest),
+        _ => return None,
+    };
+    Some(call)
+}
+
+/// Makes a call, if there is memory for it.
+fn push_call(desk: &mut Desk, call: Got<Call>, answer: &mut Answer) {
+    if let Some(call) = answer.kept(call) {
+        push_asked(desk, call, answer);
     }
 }
 
-/// Makes the call that these words say.
-fn make_call(
-    alloc: Global,
-    desk: &mut Desk,
-    word: &str,
-    rest: &str,
-    answer: &mut Answer,
-) -> Result<(), AllocError> {
-    let call = call_of(alloc, word, rest)?;
-    push_asked(desk, call, answer);
-    Ok(())
-}
-
 /// The call that adds a deck of these lines.
-pub fn addition(alloc: Global, of: &str, lines: &str) -> Result<Call, AllocError> {
+pub fn addition(alloc: Global, of: &str, lines: &str) -> Got<Call> {
     let name = name_of(of)?;
     let cards = cards_of(alloc, lines)?;
     Ok(Call::AddDeck(NewDeck::new(name, cards)))
@@ -128,53 +123,20 @@ pub fn ask<C: Calls>(desk: &mut C, call: Call) -> Reply {
     desk.call(call)
 }
 
-/// Asks a desk, and returns what it answers.
-fn push_asked(desk: &mut Desk, call: Call, answer: &mut Answer) {
-    let reply = ask(desk, call);
-    push_reply(answer, &reply);
-    drop(reply);
-}
-
-/// Runs a job, in the same way.
-fn run(alloc: Global, keys: RandomState, job: Job, meter: &mut Meter) -> Made {
-    job.run(alloc, keys, meter)
-}
-
-/// Hands in what was made of a job.
-fn hand_in(desk: &mut Desk, made: Made, answer: &mut Answer) {
-    push_whether_lost(answer, &made);
-    push_asked(desk, made.into_call(), answer);
-}
-
-fn push_whether_lost(answer: &mut Answer, made: &Made) {
-    if !made.is_result() {
-        answer.push("lost, ");
-    }
-}
-
-/// Two numbers.
-fn push_pair(answer: &mut Answer, first: u64, second: u64) {
-    answer.number("", first);
-    answer.number(" ", second);
-}
-
-/// The image of a publication.
-fn image_of(alloc: Global, publication: &ListedPublication) -> Result<Vec<u8>, AllocError> {
-    let mut output = Counted::new(Vec::new(alloc));
-    match publication.write_image(&mut output) {
-        Ok(()) => Ok(output.into_inner()),
-        Err(_) => Err(AllocError),
-    }
+/// Asks a desk, or from a seat, and shows what it answers.
+pub fn push_asked<C: Calls>(desk: &mut C, call: Call, answer: &mut Answer) {
+    push_told(answer, ask(desk, call));
 }
 
 /// The version of a publication, and the last 32 bytes of its image.
 fn push_publication(answer: &mut Answer, publication: &ListedPublication) {
+    let mut output = Counted::new(Vec::new(answer.alloc));
+    let written = publication.write_image(&mut output);
+    answer.keep(written.map_err(|_| AllocError));
+    let image = output.into_inner();
     answer.number("", publication.version());
     answer.push(" ");
-    match image_of(answer.alloc, publication) {
-        Ok(image) => answer.bytes(image.split_at(image.len().saturating_sub(32)).1),
-        Err(error) => answer.keep(Err(error)),
-    }
+    answer.bytes(image.split_at(image.len().saturating_sub(32)).1);
 }
 
 /// The publication that a desk shows.
@@ -199,13 +161,17 @@ pub fn push_reply(answer: &mut Answer, reply: &Reply) {
         Reply::Published(before) => push_before(answer, before),
         Reply::Cleared => answer.push("cleared"),
         Reply::Refused(refusal) => answer.debug(refusal),
+        Reply::Shown(shown) => {
+            let decks = shown.publication().objects().len() as u64;
+            answer.number("what a session asks for, decks ", decks);
+        }
         Reply::LinkJob(work) => push_out(answer, "link", work.lease, work.version),
         Reply::DeckJob(work) => push_job(answer, work),
         _ => answer.push("what a session asks for"),
     }
 }
 
-/// A reply to a call for the cards of a deck.
+/// A reply that may have the cards of a deck.
 pub fn push_told(answer: &mut Answer, reply: Reply) {
     match reply {
         Reply::CardsAre(version, cards) => {
@@ -257,7 +223,7 @@ fn push_record(answer: &mut Answer, cards: &[Card]) {
 }
 
 /// Cards, each behind a blank.
-pub fn push_cards(answer: &mut Answer, cards: &[Card]) {
+fn push_cards(answer: &mut Answer, cards: &[Card]) {
     for card in cards {
         answer.push(" ");
         answer.bytes(card.as_slice());
@@ -275,7 +241,7 @@ fn push_edit(answer: &mut Answer, edit: &Edit) {
 }
 
 /// The record of a deck, whose name and a colon stand in front of its one card; none for `-`.
-fn held_of(alloc: Global, text: &str) -> Result<Option<Held>, AllocError> {
+fn held_of(alloc: Global, text: &str) -> Got<Option<Held>> {
     match text.split_once(":") {
         Some((of, line)) => Ok(Held::new(record_of(alloc, of, line)?)),
         None => Ok(None),
@@ -283,11 +249,11 @@ fn held_of(alloc: Global, text: &str) -> Result<Option<Held>, AllocError> {
 }
 
 /// The object of M with this one card.
-fn listed_of(alloc: Global, line: &str) -> Result<ListedObject, AllocError> {
+fn listed_of(alloc: Global, line: &str) -> Got<ListedObject> {
     ListedObject::new(alloc, object_of(alloc, "M", line)?)
 }
 
-fn result_of(alloc: Global, text: &str) -> Result<Call, AllocError> {
+fn result_of(alloc: Global, text: &str) -> Got<Call> {
     let (lease, rest) = cut_number(text);
     let (deck, rest) = cut_number(rest);
     let (version, rest) = cut_number(rest);
@@ -309,7 +275,7 @@ fn result_of(alloc: Global, text: &str) -> Result<Call, AllocError> {
 }
 
 /// The objects of decks of these cards, one each.
-fn objects_of(alloc: Global, lines: &str) -> Result<Vec<ListedObject>, AllocError> {
+fn objects_of(alloc: Global, lines: &str) -> Got<Vec<ListedObject>> {
     let mut objects = Vec::new(alloc);
     for line in lines.split_whitespace() {
         objects.push(listed_of(alloc, line)?)?;
@@ -317,26 +283,17 @@ fn objects_of(alloc: Global, lines: &str) -> Result<Vec<ListedObject>, AllocErro
     Ok(objects)
 }
 
-/// Their publication.
-fn publication_of(
-    alloc: Global,
-    lines: &str,
-    version: u64,
-) -> Result<SharedPublication, AllocError> {
-    let keys = fixed_keys()?;
-    let publication = publish(alloc, keys, objects_of(alloc, lines)?, version)?;
-    SharedPublication::new(alloc, publication)
-}
-
-fn link_of(alloc: Global, text: &str) -> Result<Call, AllocError> {
+/// The link of their publication.
+fn link_of(alloc: Global, text: &str) -> Got<Call> {
     let (lease, rest) = cut_number(text);
     let (version, lines) = cut_number(rest);
-    let publication = publication_of(alloc, lines, version)?;
+    let publication = publish(alloc, fixed_keys()?, objects_of(alloc, lines)?, version)?;
+    let publication = SharedPublication::new(alloc, publication)?;
     Ok(Call::DeliverLink { lease, publication })
 }
 
 /// The offer of an object of these cards, for the deck at a place.
-fn offer_of(alloc: Global, text: &str) -> Result<Call, AllocError> {
+fn offer_of(alloc: Global, text: &str) -> Got<Call> {
     let (lease, rest) = cut_number(text);
     let (place, line) = cut_number(rest);
     let object = listed_of(alloc, line)?;
@@ -348,16 +305,22 @@ fn offer_of(alloc: Global, text: &str) -> Result<Call, AllocError> {
 }
 
 /// Edits by which the second card of a deck goes and comes again, so many in all.
-fn edits_of(alloc: Global, count: u64) -> Result<Listed<Edit>, AllocError> {
+fn edits_of(alloc: Global, count: u64) -> Got<Listed<Edit>> {
     let mut edits = Vec::new(alloc);
     for edit in 0..count {
-        edits.push(to_or_fro(edit % 2 == 0)?)?;
+        let edit = if edit % 2 == 0 {
+            Edit::Remove { at: 2 }
+        } else {
+            let card = card_of("*B")?;
+            Edit::Insert { at: 2, card }
+        };
+        edits.push(edit)?;
     }
     Ok(Listed::new(edits))
 }
 
 /// So many edits of M.
-fn batch_of(alloc: Global, text: &str) -> Result<Call, AllocError> {
+fn batch_of(alloc: Global, text: &str) -> Got<Call> {
     let (seen, count) = cut_number(text);
     let (name, by) = (name_of("M")?, name_of("0")?);
     let edits = edits_of(alloc, number(count))?;
@@ -369,16 +332,8 @@ fn batch_of(alloc: Global, text: &str) -> Result<Call, AllocError> {
     })
 }
 
-fn to_or_fro(goes: bool) -> Result<Edit, AllocError> {
-    if goes {
-        return Ok(Edit::Remove { at: 2 });
-    }
-    let card = card_of("*B")?;
-    Ok(Edit::Insert { at: 2, card })
-}
-
 /// A job of a deck of one card, of which the second is removed.
-fn job_that_does_not_apply(alloc: Global) -> Result<Job, AllocError> {
+fn job_that_does_not_apply(alloc: Global) -> Got<Job> {
     let name = name_of("M")?;
     let edits = edits_of(alloc, 1)?;
     let start = Start::FromCards(DeckCards::new(alloc, cards_of(alloc, "*A")?)?);
@@ -392,26 +347,20 @@ fn job_that_does_not_apply(alloc: Global) -> Result<Job, AllocError> {
     }))
 }
 
+/// Runs it, and shows what it made: nothing.
 fn push_lost(alloc: Global, keys: RandomState, answer: &mut Answer) {
-    match job_that_does_not_apply(alloc) {
-        Ok(job) => {
-            let mut meter = work_meter::begin();
-            let made = run(alloc, keys, job, &mut meter);
-            push_made(answer, &made);
+    let Some(job) = answer.kept(job_that_does_not_apply(alloc)) else {
+        return;
+    };
+    match job.run(alloc, keys, &mut work_meter::begin()) {
+        Made::Lost { lease, fault } => {
+            answer.number("lost ", lease);
+            answer.push(" ");
+            answer.debug(&fault);
+        }
+        made => {
+            answer.push("made");
             drop(made);
         }
-        Err(error) => answer.keep(Err(error)),
-    }
-}
-
-/// What a job made that made nothing.
-fn push_made(answer: &mut Answer, made: &Made) {
-    match made {
-        Made::Lost { lease, fault } => {
-            answer.number("lost ", *lease);
-            answer.push(" ");
-            answer.debug(fault);
-        }
-        _ => answer.push("made"),
     }
 }

@@ -25,7 +25,7 @@ mod workers;
 mod sweeps;
 
 use deck_files::KnownFiles;
-pub use jobs::{ask, push_told};
+pub use jobs::push_asked;
 pub use place::Place;
 use std::alloc::AllocGlobal;
 use std::fs::File;
@@ -35,21 +35,6 @@ use std::thread::Threads;
 use std::time::Clock;
 pub use sweeps::{Ended, run_chosen, text_of};
 use test_parts::Answer;
-
-/// Makes a step that stands in no place, and answers whether there is one of this word.
-fn make_alone<R: AllocGlobal + Threads + Wait + Sync + Files<File = File> + Clock + Clone + Drop>(
-    rt: &R,
-    known: &KnownFiles,
-    word: &str,
-    rest: &str,
-    answer: &mut Answer,
-) -> bool {
-    lines::make(word, rest, answer)
-        || faults::make(rt.alloc(), word, answer)
-        || shelves::make(rt, known, word, rest, answer)
-        || offices::make(rt, word, rest, answer)
-        || workers::make(rt, word, answer)
-}
 
 /// Makes a step, and answers whether there is one of this word.
 pub fn make<R: AllocGlobal + Threads + Wait + Sync + Files<File = File> + Clock + Clone + Drop>(
@@ -62,5 +47,9 @@ pub fn make<R: AllocGlobal + Threads + Wait + Sync + Files<File = File> + Clock 
 ) -> bool {
     place.make(word, rest, answer)
         || files::make(place.file.as_slice(), word, rest, answer)
-        || make_alone(rt, known, word, rest, answer)
+        || lines::make(word, rest, answer)
+        || faults::make(rt.alloc(), word, answer)
+        || shelves::make(rt, known, word, rest, answer)
+        || offices::make(rt, word, rest, answer)
+        || workers::make(rt, word, answer)
 }

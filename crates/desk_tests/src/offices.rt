@@ -8,7 +8,7 @@
 ghost use Rattle.std.specs.Prelude.{◌≡◌, ◌+◌, ◌-◌, ◌^◌, ◌≤◌, min, IfOk};
 ghost use Rattle.turn_office.specs.Seats.{AreOf};
 
-use crate::jobs::{addition, push_reply, push_told};
+use crate::jobs::{addition, push_told};
 use crate::memory_shelf::MemoryShelf;
 use crate::place::serve_ports;
 use desk_core::{Call, Desk, Reply};
@@ -18,7 +18,7 @@ use std::mem::size_of;
 use std::sync::Wait;
 use std::thread;
 use std::thread::Threads;
-use test_parts::{Answer, Failing, cut_number, fixed_keys, name_of};
+use test_parts::{Answer, Failing, Got, cut_number, fixed_keys, name_of, number};
 use turn_office::{CloseFault, Office, Seat, SeatList, Sequential};
 
 /// How many calls each thread makes.
@@ -32,10 +32,10 @@ pub fn make<R: AllocGlobal + Threads + Wait + Sync>(
     answer: &mut Answer,
 ) -> bool {
     let (first, second) = cut_number(rest);
-    let (second, _) = cut_number(second);
+    let second = number(second);
     let done = match word {
         "meet" => meet(rt, first, second, answer),
-        "close" => close_twice(rt, first, second, answer),
+        "close" => close(rt, first, second, answer),
         "threads" => add_in_threads(rt, answer),
         "seat" => say_all(rt, rest, answer),
         "seats" => meet_at_desk(rt, answer),
@@ -65,23 +65,6 @@ impl Sequential for Sum {
     }
 }
 
-/// An object that an office is over, as a step shows it.
-trait Told: Sequential {
-    fn tell(&self, answer: &mut Answer);
-}
-
-impl Told for Sum {
-    fn tell(&self, answer: &mut Answer) {
-        answer.number(", sum ", self.total);
-    }
-}
-
-impl Told for Desk {
-    fn tell(&self, answer: &mut Answer) {
-        answer.number(", version ", self.version());
-    }
-}
-
 /// One seat adds, another meets it and reads the sum: it is proved that it reads what was added, at
 /// least, whoever else adds at the same time.
 fn add_and_read<R: Wait>(
@@ -90,7 +73,7 @@ fn add_and_read<R: Wait>(
     first: &mut Seat<Sum>,
     second: &mut Seat<Sum>,
     amount: u64,
-) -> Result<u64, AllocError>
+) -> Got<u64>
     requires { (first.old.office ≡ office.now.id) × (second.old.office ≡ office.now.id) }
     ensures same { (first.new.office ≡ first.old.office) × (second.new.office ≡ second.old.office) }
     ensures read { IfOk result (λ sum. amount ≤ sum) }
@@ -116,7 +99,7 @@ fn add_from_all<R: Threads + Wait + Sync>(
     rt: &R,
     office: &Office<Sum>,
     seats: SeatList<Sum>,
-) -> Result<SeatList<Sum>, AllocError>
+) -> Got<SeatList<Sum>>
     requires { AreOf office.now.id seats.items }
     ensures { IfOk result (λ list. AreOf office.now.id list.items) }
 {
@@ -128,30 +111,27 @@ pub fn open<T: Sequential + Drop>(
     alloc: Global,
     object: T,
     seats: usize,
-) -> Result<(Office<T>, SeatList<T>), AllocError>
+) -> Got<(Office<T>, SeatList<T>)>
     requires { (1 ≤ seats) × (seats ≤ 64) }
     ensures { IfOk result (λ opened. AreOf opened.0.id opened.1.items) }
 {
-    match Office::open(alloc, object, seats) {
-        Ok(opened) => Ok(opened),
-        Err(failed) => {
-            drop(failed);
-            Err(AllocError)
-        }
+    Ok(Office::open(alloc, object, seats)?)
+}
+
+/// An office over an object, and its two seats.
+fn open_two<T: Sequential + Drop>(alloc: Global, object: T) -> Got<(Office<T>, Seat<T>, Seat<T>)>
+    ensures { IfOk result (λ r. (r.1.office ≡ r.0.id) × (r.2.office ≡ r.0.id)) }
+{
+    let (office, mut seats) = open(alloc, object, 2)?;
+    match (seats.pop(), seats.pop()) {
+        (Some(second), Some(first)) => Ok((office, first, second)),
+        _ => Err(AllocError),
     }
 }
 
 /// One seat adds, and another meets it and reads.
-fn meet<R: AllocGlobal + Wait>(
-    rt: &R,
-    total: u64,
-    amount: u64,
-    answer: &mut Answer,
-) -> Result<(), AllocError> {
-    let (office, mut seats) = open(rt.alloc(), Sum { total }, 2)?;
-    let (Some(mut second), Some(mut first)) = (seats.pop(), seats.pop()) else {
-        return Err(AllocError);
-    };
+fn meet<R: AllocGlobal + Wait>(rt: &R, total: u64, amount: u64, answer: &mut Answer) -> Got<()> {
+    let (office, mut first, mut second) = open_two(rt.alloc(), Sum { total })?;
     answer.number("seats ", first.number() as u64);
     answer.number(" and ", second.number() as u64);
     answer.push(", read ");
@@ -159,57 +139,12 @@ fn meet<R: AllocGlobal + Wait>(
     Ok(())
 }
 
-/// Closes an office with all its seats, and shows what it was over.
-fn close<T: Told + Drop>(office: Office<T>, seats: SeatList<T>, answer: &mut Answer)
+/// What an office was over, which is closed with all its seats.
+pub fn closed<T: Sequential + Drop>(office: Office<T>, seats: SeatList<T>) -> Got<T>
     requires { AreOf office.id seats.items }
 {
     match office.close(seats) {
-        Ok(object) => {
-            object.tell(answer);
-            drop(object);
-        }
-        Err(fault) => {
-            drop(fault);
-            answer.push(", not closed");
-        }
-    }
-}
-
-/// Closes an office with these seats and one more.
-fn close_with<T: Told + Drop>(
-    office: Office<T>,
-    seats: SeatList<T>,
-    last: Seat<T>,
-    answer: &mut Answer,
-) -> Result<(), AllocError>
-    requires own { AreOf office.id seats.items }
-    requires last { last.office ≡ office.id }
-{
-    let mut all = seats;
-    all.push(last)?;
-    close(office, all, answer);
-    Ok(())
-}
-
-/// Closes an office with some seats, and then with the last one, too.
-fn close_without<T: Told + Drop>(
-    office: Office<T>,
-    seats: SeatList<T>,
-    last: Seat<T>,
-    answer: &mut Answer,
-) -> Result<(), AllocError>
-    requires own { AreOf office.id seats.items }
-    requires last { last.office ≡ office.id }
-{
-    match office.close(seats) {
-        Ok(object) => {
-            drop(object);
-            Ok(())
-        }
-        Err(CloseFault::SeatsOut { office, seats }) => {
-            answer.number(", not closed with ", seats.len() as u64);
-            close_with(office, seats, last, answer)
-        }
+        Ok(object) => Ok(object),
         Err(fault) => {
             drop(fault);
             Err(AllocError)
@@ -217,30 +152,56 @@ fn close_without<T: Told + Drop>(
     }
 }
 
-/// Closes an office with one seat, and then with both.
-fn close_twice<R: AllocGlobal + Wait>(
-    rt: &R,
-    total: u64,
-    amount: u64,
+/// The same with these seats and one more.
+fn closed_with<T: Sequential + Drop>(office: Office<T>, seats: SeatList<T>, last: Seat<T>) -> Got<T>
+    requires own { AreOf office.id seats.items }
+    requires last { last.office ≡ office.id }
+{
+    let mut all = seats;
+    all.push(last)?;
+    closed(office, all)
+}
+
+/// The same with one of two seats, and then with both.
+fn closed_in_turn<T: Sequential + Drop>(
+    office: Office<T>,
+    first: Seat<T>,
+    second: Seat<T>,
     answer: &mut Answer,
-) -> Result<(), AllocError> {
-    let (office, mut seats) = open(rt.alloc(), Sum { total }, 2)?;
-    let Some(mut second) = seats.pop() else {
-        return Err(AllocError);
-    };
+) -> Got<T>
+    requires first { first.office ≡ office.id }
+    requires second { second.office ≡ office.id }
+{
+    let mut one = Vec::new(answer.alloc);
+    one.push(first)?;
+    match office.close(one) {
+        Err(CloseFault::SeatsOut { office, seats }) => {
+            answer.number(", not closed with ", seats.len() as u64);
+            closed_with(office, seats, second)
+        }
+        other => {
+            drop(other);
+            Err(AllocError)
+        }
+    }
+}
+
+/// Closes an office with one seat, and then with both.
+fn close<R: AllocGlobal + Wait>(rt: &R, total: u64, amount: u64, answer: &mut Answer) -> Got<()> {
+    let (office, first, mut second) = open_two(rt.alloc(), Sum { total })?;
     answer.number("reply ", second.call(rt, &office, amount));
-    close_without(office, seats, second, answer)
+    let sum = closed_in_turn(office, first, second, answer)?;
+    answer.number(", sum ", sum.total);
+    Ok(())
 }
 
 /// Eight seats add in threads of their own: the sum, and how many words a seat has.
-fn add_in_threads<R: AllocGlobal + Threads + Wait + Sync>(
-    rt: &R,
-    answer: &mut Answer,
-) -> Result<(), AllocError> {
+fn add_in_threads<R: AllocGlobal + Threads + Wait + Sync>(rt: &R, answer: &mut Answer) -> Got<()> {
     let (office, seats) = open(rt.alloc(), Sum { total: 0 }, 8)?;
     let seats = add_from_all(rt, &office, seats)?;
     answer.debug(&(size_of::<Seat<Sum>>() == size_of::<usize>()));
-    close(office, seats, answer);
+    let sum = closed(office, seats)?;
+    answer.number(", sum ", sum.total);
     Ok(())
 }
 
@@ -252,21 +213,6 @@ pub fn ask_from<R: Wait>(rt: &R, office: &Office<Desk>, seat: &mut Seat<Desk>, c
     seat.call(rt, office, call)
 }
 
-/// Shows the cards of M.
-fn show_cards<R: Wait>(
-    rt: &R,
-    office: &Office<Desk>,
-    seat: &mut Seat<Desk>,
-    answer: &mut Answer,
-) -> Result<(), AllocError>
-    requires { seat.old.office ≡ office.now.id }
-    ensures { seat.new.office ≡ seat.old.office }
-{
-    let call = Call::Cards(name_of("M")?);
-    push_told(answer, ask_from(rt, office, seat, call));
-    Ok(())
-}
-
 /// One seat adds a deck, and another meets it and reads the deck.
 fn add_and_show<R: Wait>(
     rt: &R,
@@ -274,80 +220,42 @@ fn add_and_show<R: Wait>(
     first: &mut Seat<Desk>,
     second: &mut Seat<Desk>,
     answer: &mut Answer,
-) -> Result<(), AllocError>
+) -> Got<()>
     requires { (first.old.office ≡ office.now.id) × (second.old.office ≡ office.now.id) }
     ensures same { (first.new.office ≡ first.old.office) × (second.new.office ≡ second.old.office) }
 {
+    let name = name_of("M")?;
     let call = addition(answer.alloc, "M", "*A")?;
-    let reply = ask_from(rt, office, first, call);
-    push_reply(answer, &reply);
-    drop(reply);
+    push_told(answer, ask_from(rt, office, first, call));
     answer.push(", ");
     second.meet(rt, office, first)?;
-    show_cards(rt, office, second, answer)
-}
-
-/// An office over a desk, and its two seats.
-fn open_desk(alloc: Global) -> Result<(Office<Desk>, Seat<Desk>, Seat<Desk>), AllocError>
-    ensures { IfOk result (λ r. (r.1.office ≡ r.0.id) × (r.2.office ≡ r.0.id)) }
-{
-    let desk = Desk::new(alloc, fixed_keys()?);
-    let (office, mut seats) = open(alloc, desk, 2)?;
-    match (seats.pop(), seats.pop()) {
-        (Some(second), Some(first)) => Ok((office, first, second)),
-        _ => Err(AllocError),
-    }
-}
-
-/// Closes an office with one of its two seats, and then with both.
-fn close_in_turn(
-    office: Office<Desk>,
-    first: Seat<Desk>,
-    second: Seat<Desk>,
-    answer: &mut Answer,
-) -> Result<(), AllocError>
-    requires first { first.office ≡ office.id }
-    requires second { second.office ≡ office.id }
-{
-    let mut one = Vec::new(answer.alloc);
-    one.push(first)?;
-    close_without(office, one, second, answer)
+    push_told(answer, ask_from(rt, office, second, Call::Cards(name)));
+    Ok(())
 }
 
 /// An office over a desk, whose seats meet; closed with one of them, and with both.
-fn meet_at_desk<R: AllocGlobal + Wait>(rt: &R, answer: &mut Answer) -> Result<(), AllocError> {
-    let (office, mut first, mut second) = open_desk(rt.alloc())?;
+fn meet_at_desk<R: AllocGlobal + Wait>(rt: &R, answer: &mut Answer) -> Got<()> {
+    let desk = Desk::new(rt.alloc(), fixed_keys()?);
+    let (office, mut first, mut second) = open_two(rt.alloc(), desk)?;
     let done = add_and_show(rt, &office, &mut first, &mut second, answer);
     answer.keep(done);
-    close_in_turn(office, first, second, answer)
+    let desk = closed_in_turn(office, first, second, answer)?;
+    answer.number(", version ", desk.version());
+    drop(desk);
+    Ok(())
 }
 
-/// Serves commands of a session on a desk, each from the second seat of its office: the number of the seat.
-fn serve_seated<R: Wait>(
-    rt: &R,
-    office: &Office<Desk>,
-    seat: Seat<Desk>,
-    lines: &str,
-    answer: &mut Answer,
-)
-    requires { seat.office ≡ office.now.id }
-{
-    let mut shelf = MemoryShelf::new(answer.alloc);
-    let mut desk = SeatCalls::new(rt, office, seat);
+/// Says commands of a session on a desk, each from the second seat of its office: the number of the seat.
+fn say_all<R: AllocGlobal + Wait>(rt: &R, lines: &str, answer: &mut Answer) -> Got<()> {
+    let desk = Desk::new(rt.alloc(), fixed_keys()?);
+    let (office, _, seat) = open_two(rt.alloc(), desk)?;
+    let mut shelf = MemoryShelf::new(rt.alloc());
+    let mut desk = SeatCalls::new(rt, &office, seat);
     for line in lines.split_inclusive('\n') {
         serve_ports(&mut desk, &mut shelf, line, Failing::never(1), answer);
     }
     answer.number("seat ", desk.into_seat().number() as u64);
     drop(shelf);
-}
-
-fn say_all<R: AllocGlobal + Wait>(
-    rt: &R,
-    lines: &str,
-    answer: &mut Answer,
-) -> Result<(), AllocError> {
-    let (office, _, seat) = open_desk(rt.alloc())?;
-    serve_seated(rt, &office, seat, lines, answer);
     drop(office);
     Ok(())
 }

@@ -6,11 +6,11 @@
 ghost use Rattle.std.specs.Prelude.{◌≡◌, IfOk};
 ghost use Rattle.std.specs.Thread.{IsSync};
 
-use crate::jobs::{addition, ask, push_reply};
+use crate::jobs::{addition, ask, push_asked};
 use crate::offices::open;
 use crossbeam_channel::Receiver;
 use deck_workers::{Bell, Gate, NoSubscriber, OpenGate, worker};
-use desk_core::{Call, Desk, Reply};
+use desk_core::{Call, Desk};
 use session_line::{Calls, SeatCalls};
 use std::alloc::{AllocError, AllocGlobal, Global};
 use std::hash::RandomState;
@@ -19,7 +19,7 @@ use std::sync::atomic::{AtomicU64, Ordering};
 use std::thread;
 use std::thread::Threads;
 use std::time::Clock;
-use test_parts::{Answer, fixed_keys};
+use test_parts::{Answer, Got, fixed_keys};
 use turn_office::{Office, Seat};
 
 /// Makes a step of this word, if it is one of workers, and answers whether it is.
@@ -54,8 +54,7 @@ struct MeetingGate {
 }
 
 impl Gate for MeetingGate {
-    fn enter(&self, lease: u64) {
-        let _ = lease;
+    fn enter(&self, _lease: u64) {
         self.entered.fetch_add(1, Ordering::SeqCst);
         for _ in 0..LOOKS {
             if self.entered.load(Ordering::SeqCst) >= 2 {
@@ -66,8 +65,7 @@ impl Gate for MeetingGate {
         }
     }
 
-    fn leave(&self, lease: u64) {
-        let _ = lease;
+    fn leave(&self, _lease: u64) {
         self.left.fetch_add(1, Ordering::SeqCst);
     }
 }
@@ -114,9 +112,7 @@ fn work_at_seats<R: Threads + Wait + Clock + Sync>(
 }
 
 /// An office over a desk, and its three seats, the first in front.
-type Opened = (Office<Desk>, Seat<Desk>, Seat<Desk>, Seat<Desk>);
-
-fn open_three(alloc: Global) -> Result<Opened, AllocError>
+fn open_three(alloc: Global) -> Got<(Office<Desk>, Seat<Desk>, Seat<Desk>, Seat<Desk>)>
     ensures { IfOk result (λ r. (r.1.office ≡ r.0.id) × (r.2.office ≡ r.0.id) × (r.3.office ≡ r.0.id)) }
 {
     let desk = Desk::new(alloc, fixed_keys()?);
@@ -133,33 +129,13 @@ const CARD: &str = "          BX6    X1";
 /// How many cards a deck has of which two have more than are delivered at once.
 const MANY: u32 = 10_001;
 
-/// Adds a deck of this name.
-fn add<C: Calls>(desk: &mut C, alloc: Global, of: &str, lines: &str) -> Result<(), AllocError> {
-    let call = addition(alloc, of, lines)?;
-    drop(ask(desk, call));
-    Ok(())
-}
-
 /// Adds the decks A and B.
-fn add_two<C: Calls>(desk: &mut C, alloc: Global, lines: &str) -> Result<(), AllocError> {
-    add(desk, alloc, "A", lines)?;
-    add(desk, alloc, "B", lines)
-}
-
-/// How many decks a reply shows.
-fn push_shown(reply: &Reply, answer: &mut Answer) {
-    if let Reply::Shown(shown) = reply {
-        let decks = shown.publication().objects().len() as u64;
-        answer.number(", decks ", decks);
+fn add_two<C: Calls>(desk: &mut C, alloc: Global, lines: &str) -> Got<()> {
+    for of in &["A", "B"] {
+        let call = addition(alloc, of, lines)?;
+        drop(ask(desk, call));
     }
-}
-
-/// What a call answers, and how many decks it shows.
-fn push_asked<C: Calls>(desk: &mut C, call: Call, answer: &mut Answer) {
-    let reply = ask(desk, call);
-    push_reply(answer, &reply);
-    push_shown(&reply, answer);
-    drop(reply);
+    Ok(())
 }
 
 /// What a claim finds to do, and how many decks the publication has.
@@ -169,22 +145,23 @@ fn push_published<C: Calls>(desk: &mut C, answer: &mut Answer) {
     push_asked(desk, Call::Show, answer);
 }
 
-/// Two channels' ends for two workers, and two bells that stop them.
-fn stopped<R: Wait>(rt: &R, alloc: Global) -> Result<(Receiver<Bell>, Receiver<Bell>), AllocError> {
+/// The end of a channel with this bell, so many times.
+fn rung<R: Wait>(rt: &R, alloc: Global, bell: Bell, times: usize) -> Got<Receiver<Bell>> {
     let (ring, bells) = crossbeam_channel::unbounded(alloc)?;
-    for _ in 0..2 {
-        let _ = ring.send(rt, Bell::Stop);
+    for _ in 0..times {
+        let _ = ring.send(rt, bell);
     }
-    Ok((bells.clone()?, bells))
+    Ok(bells)
 }
 
 fn work_both<R: Threads + Wait + Clock + Sync>(
     rt: &R,
     alloc: Global,
     answer: &mut Answer,
-) -> Result<(), AllocError> {
+) -> Got<()> {
     let keys = fixed_keys()?;
-    let bells = stopped(rt, alloc)?;
+    let bells = rung(rt, alloc, Bell::Stop, 2)?;
+    let bells = (bells.clone()?, bells);
     let (office, first, second, third) = open_three(alloc)?;
     let mut desk = SeatCalls::new(rt, &office, third);
     answer.keep(add_two(&mut desk, alloc, CARD));
@@ -204,21 +181,9 @@ fn work_both<R: Threads + Wait + Clock + Sync>(
     Ok(())
 }
 
-/// The end of a channel with one bell that can't ring again.
-fn rung_once<R: Wait>(rt: &R, alloc: Global) -> Result<Receiver<Bell>, AllocError> {
-    let (ring, bells) = crossbeam_channel::unbounded(alloc)?;
-    let _ = ring.send(rt, Bell::Work);
-    Ok(bells)
-}
-
-fn work_alone<R: Wait + Clock>(
-    rt: &R,
-    alloc: Global,
-    lines: &str,
-    answer: &mut Answer,
-) -> Result<(), AllocError> {
+fn work_alone<R: Wait + Clock>(rt: &R, alloc: Global, lines: &str, answer: &mut Answer) -> Got<()> {
     let keys = fixed_keys()?;
-    let bells = rung_once(rt, alloc)?;
+    let bells = rung(rt, alloc, Bell::Work, 1)?;
     let (office, first, _, third) = open_three(alloc)?;
     let mut desk = SeatCalls::new(rt, &office, third);
     answer.keep(add_two(&mut desk, alloc, lines));
@@ -231,11 +196,7 @@ fn work_alone<R: Wait + Clock>(
     Ok(())
 }
 
-fn work_much<R: Wait + Clock>(
-    rt: &R,
-    alloc: Global,
-    answer: &mut Answer,
-) -> Result<(), AllocError> {
+fn work_much<R: Wait + Clock>(rt: &R, alloc: Global, answer: &mut Answer) -> Got<()> {
     let mut lines = String::new(alloc);
     for _ in 0..MANY {
         lines.push_str("*\n")?;

@@ -6,7 +6,7 @@
 
 use deck_files::Moment;
 use desk_core::Call;
-use desk_tests::{ask, push_told};
+use desk_tests::push_asked;
 use journal::{
     Ending, JournalFault, Next, Place, Record, ReplayFault, Replayed, compacted_text, next_record,
     record_text, replay,
@@ -92,7 +92,7 @@ fn push_desk(answer: &mut Answer, replayed: &mut Replayed) -> Result<(), AllocEr
     answer.debug(&replayed.ending);
     answer.push(", M: ");
     let call = Call::Cards(name_of("M")?);
-    push_told(answer, ask(&mut replayed.desk, call));
+    push_asked(&mut replayed.desk, call, answer);
     Ok(())
 }
 

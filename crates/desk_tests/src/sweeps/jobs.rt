@@ -37,9 +37,8 @@ pub fn told_in(reply: &Reply) -> Told {
     }
 }
 
-/// What the reply to a call shows.
-fn told_to(desk: &mut Desk, call: Call) -> Told {
-    let reply = ask(desk, call);
+/// The same of a reply that is then freed.
+pub fn told_of(reply: Reply) -> Told {
     let told = told_in(&reply);
     drop(reply);
     told
@@ -77,49 +76,28 @@ fn claim(scene: &mut Scene) -> Option<Job> {
     }
 }
 
-/// Whether a job was lost for want of memory.
-fn is_lost(made: &Made) -> bool {
-    matches!(
-        made,
-        Made::Lost {
-            fault: RecordFault::OutOfMemory,
-            ..
-        }
-    )
-}
-
 /// Has a desk publish its decks; where memory lacks for that the lease is given up. What the desk answered last, and
 /// whether memory lacked.
 fn publish(desk: &mut Desk, lease: u64) -> (Told, bool) {
-    let told = told_to(desk, Call::Publish(lease));
+    let told = told_of(ask(desk, Call::Publish(lease)));
     if told == LACKING {
-        (told_to(desk, Call::GiveUp(lease)), true)
+        (told_of(ask(desk, Call::GiveUp(lease))), true)
     } else {
         (told, false)
     }
 }
 
-/// Offers an object of a publication, if there is memory to share it.
-fn offer(desk: &mut Desk, lease: u64, publication: &SharedPublication, place: usize) {
-    if let Some(object) = publication.publication().objects().get(place) {
-        match object.share() {
-            Ok(object) => {
-                let offered = Call::OfferObject {
-                    lease,
-                    place,
-                    object,
-                };
-                drop(ask(desk, offered));
-            }
-            Err(_) => {}
-        }
-    }
-}
-
-/// Offers the objects of a publication, and has the desk publish its decks.
+/// Offers the objects of a publication, if there is memory to share them, and has the desk publish its decks.
 fn offer_all(desk: &mut Desk, lease: u64, publication: &SharedPublication) -> (Told, bool) {
-    for place in 0..publication.publication().objects().len() {
-        offer(desk, lease, publication, place);
+    for (place, object) in publication.publication().objects().iter().enumerate() {
+        if let Ok(object) = object.share() {
+            let offered = Call::OfferObject {
+                lease,
+                place,
+                object,
+            };
+            drop(ask(desk, offered));
+        }
     }
     publish(desk, lease)
 }
@@ -133,7 +111,7 @@ fn end_made(desk: &mut Desk, made: Made) -> (Told, bool) {
             drop(publication);
             ended
         }
-        other => (told_to(desk, other.into_call()), false),
+        other => (told_of(ask(desk, other.into_call())), false),
     }
 }
 
@@ -152,7 +130,7 @@ fn note_end(scene: &mut Scene, told: Told, before: &[u8], is_foreign: bool) {
 fn hand_in(scene: &mut Scene, made: Made, is_foreign: bool) -> bool {
     let before = scene.state();
     let (told, is_given_up) = if is_foreign {
-        (told_to(&mut scene.desk, made.into_call()), false)
+        (told_of(ask(&mut scene.desk, made.into_call())), false)
     } else {
         end_made(&mut scene.desk, made)
     };
@@ -161,17 +139,13 @@ fn hand_in(scene: &mut Scene, made: Made, is_foreign: bool) -> bool {
 }
 
 /// A job whose result is not one of its lease: it has another version.
-fn foreign(job: Job) -> Job {
-    match job {
-        Job::Deck(mut work) => {
-            work.version = work.version.saturating_add(1);
-            Job::Deck(work)
-        }
-        Job::Link(mut work) => {
-            work.version = work.version.saturating_add(1);
-            Job::Link(work)
-        }
-    }
+fn foreign(mut job: Job) -> Job {
+    let version = match &mut job {
+        Job::Deck(work) => &mut work.version,
+        Job::Link(work) => &mut work.version,
+    };
+    *version = version.saturating_add(1);
+    job
 }
 
 /// How the job of a claim is ended.
@@ -185,17 +159,12 @@ pub enum End {
     GivenUp,
 }
 
-/// What a job makes.
-fn run(scene: &Scene, job: Job) -> Made {
-    let mut meter = work_meter::begin();
-    job.run(scene.alloc, scene.keys, &mut meter)
-}
-
 /// What ends a job.
 fn made_of(scene: &Scene, job: Job, end: End) -> Made {
+    let mut meter = work_meter::begin();
     match end {
-        End::Delivered => run(scene, job),
-        End::Foreign => run(scene, foreign(job)),
+        End::Delivered => job.run(scene.alloc, scene.keys, &mut meter),
+        End::Foreign => foreign(job).run(scene.alloc, scene.keys, &mut meter),
         End::GivenUp => {
             let (lease, fault) = (job.lease(), RecordFault::Spent);
             drop(job);
@@ -207,7 +176,10 @@ fn made_of(scene: &Scene, job: Job, end: End) -> Made {
 /// Ends a job, unless it is lost for want of memory, or memory lacks to publish it: whether it is ended.
 fn end_once(scene: &mut Scene, job: Job, end: End) -> bool {
     let made = made_of(scene, job, end);
-    let is_lost = is_lost(&made);
+    let is_lost = match &made {
+        Made::Lost { fault, .. } => *fault == RecordFault::OutOfMemory,
+        _ => false,
+    };
     let is_foreign = end == End::Foreign && !is_lost;
     let is_given_up = hand_in(scene, made, is_foreign);
     !is_lost && !is_given_up
@@ -216,9 +188,8 @@ fn end_once(scene: &mut Scene, job: Job, end: End) -> bool {
 /// Claims a job and ends it, once more where memory lacks for it; whether there was one.
 fn end_next(scene: &mut Scene, end: End) -> bool {
     for _ in 0..2 {
-        let job = match claim(scene) {
-            Some(job) => job,
-            None => return false,
+        let Some(job) = claim(scene) else {
+            return false;
         };
         if end_once(scene, job, end) {
             scene.journal.made("Job::run", true);
