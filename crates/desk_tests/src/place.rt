@@ -14,10 +14,10 @@ use crate::memory_shelf::MemoryShelf;
 use deck_files::Shelf;
 use desk_core::Desk;
 use session_line::{Calls, Outcome, Rights, serve_one};
-use std::alloc::{AllocError, Global};
+use std::alloc::Global;
 use std::hash::RandomState;
 use std::io::{Read, Write};
-use test_parts::{Answer, Failing, cut_number, fixed_keys, name_of};
+use test_parts::{Answer, Failing, Got, cut_number, fixed_keys, name_of};
 use text_ports::Counted;
 
 /// How many commands a session has at most.
@@ -27,8 +27,7 @@ const MOST_COMMANDS: usize = 20;
 #[derive(Drop)]
 pub struct Place {
     alloc: Global,
-    keys: RandomState,
-    desk: Desk,
+    pub(crate) desk: Desk,
     shelf: MemoryShelf,
     jobs: Jobs,
     pub file: Vec<u8>,
@@ -39,7 +38,6 @@ impl Place {
     pub fn new(alloc: Global, keys: RandomState) -> Place {
         Place {
             alloc,
-            keys,
             desk: Desk::new(alloc, keys),
             shelf: MemoryShelf::new(alloc),
             jobs: Jobs::new(alloc, keys),
@@ -55,49 +53,42 @@ impl Place {
     /// Makes a step of this word, if it is one of a place, and answers whether it is.
     pub fn make(&mut self, word: &str, rest: &str, answer: &mut Answer) -> bool {
         match word {
-            "say" => self.say(rest, answer),
-            "asking" => self.ask(rest, answer),
+            "say" | "asking" | "breaking" => self.say(word, rest, answer),
             "cut" => self.serve(rest, Failing::never(1), answer),
-            "failing" => self.fail(rest, answer),
-            "breaking" => self.serve_by_breaking(rest, answer),
+            "failing" => {
+                let (failing, lines) = Failing::cut(rest);
+                self.serve(lines, failing, answer);
+            }
             "turns" => self.take_turns(rest, answer),
             "bytes" => self.begin(rest, answer),
             "times" => self.append(rest, answer),
-            "shelf" => self.put(rest, answer),
+            "shelf" => answer.keep(put_file(self.alloc, &mut self.shelf, rest, &self.file)),
             "file" => self.show(rest, answer),
             _ => return self.jobs.make(&mut self.desk, word, rest, answer),
         }
         true
     }
 
-    /// Says a command, whose last line ends here.
-    pub fn say(&mut self, lines: &str, answer: &mut Answer) {
-        match format!(in self.alloc; "{lines}\n") {
-            Ok(lines) => self.serve(lines.as_str(), Failing::never(1), answer),
-            Err(error) => answer.keep(Err(error)),
+    /// Says a command, whose last line ends here: of a session that may ask alone, on a shelf whose writer breaks, or
+    /// of another.
+    fn say(&mut self, word: &str, lines: &str, answer: &mut Answer) {
+        let Some(lines) = answer.kept(format!(in self.alloc; "{lines}\n")) else {
+            return;
+        };
+        match word {
+            "asking" => self.ask(lines.as_str(), answer),
+            "breaking" => self.break_off(lines.as_str(), answer),
+            _ => self.serve(lines.as_str(), Failing::never(1), answer),
         }
     }
 
-    /// Says a command of a session that may ask alone.
+    /// Serves one command of a session that may ask alone.
     fn ask(&mut self, lines: &str, answer: &mut Answer) {
+        let input = &mut Counted::new(lines.as_bytes());
         let mut output = Counted::new(Vec::new(self.alloc));
-        match format!(in self.alloc; "{lines}\n") {
-            Ok(lines) => {
-                let mut input = Counted::new(lines.as_bytes());
-                let (desk, shelf) = (&mut self.desk, &mut self.shelf);
-                serve_one(
-                    self.alloc,
-                    self.keys,
-                    Rights::Reads,
-                    &mut input,
-                    &mut output,
-                    desk,
-                    shelf,
-                );
-                answer.bytes(&output.into_inner());
-            }
-            Err(error) => answer.keep(Err(error)),
-        }
+        let (desk, shelf) = (&mut self.desk, &mut self.shelf);
+        serve(self.alloc, Rights::Reads, input, &mut output, desk, shelf);
+        answer.bytes(&output.into_inner());
     }
 
     /// Serves one command.
@@ -105,25 +96,12 @@ impl Place {
         serve_ports(&mut self.desk, &mut self.shelf, lines, failing, answer);
     }
 
-    /// Serves one command by ports that fail.
-    fn fail(&mut self, text: &str, answer: &mut Answer) {
-        let (failing, lines) = Failing::cut(text);
-        self.serve(lines, failing, answer);
-    }
-
     /// Serves one command by a shelf whose writer breaks.
-    fn serve_by_breaking(&mut self, text: &str, answer: &mut Answer) {
-        let (most, line) = cut_number(text);
-        let alloc = self.alloc;
-        let most = most as usize;
+    fn break_off(&mut self, text: &str, answer: &mut Answer) {
+        let (most, lines) = cut_number(text);
+        let (alloc, most) = (self.alloc, most as usize);
         let mut shelf = BreakingShelf { alloc, most };
-        match format!(in alloc; "{line}\n") {
-            Ok(lines) => {
-                let failing = Failing::never(1);
-                serve_ports(&mut self.desk, &mut shelf, lines.as_str(), failing, answer);
-            }
-            Err(error) => answer.keep(Err(error)),
-        }
+        serve_ports(&mut self.desk, &mut shelf, lines, Failing::never(1), answer);
     }
 
     /// Serves four commands of a session, another session to its end, and then the first to its own.
@@ -138,7 +116,7 @@ impl Place {
     }
 
     /// Serves commands of a session up to its end, so many at most, by such a writer.
-    fn serve_many<R: Read>(
+    pub fn serve_many<R: Read>(
         &mut self,
         input: &mut Counted<R>,
         failing: Failing,
@@ -147,7 +125,7 @@ impl Place {
     ) {
         let mut output = failing.writer(self.alloc);
         let (desk, shelf) = (&mut self.desk, &mut self.shelf);
-        let last = serve_up_to(self.alloc, input, &mut output, desk, shelf, most);
+        let (last, _) = serve_up_to(self.alloc, input, &mut output, desk, shelf, most);
         answer.bytes(output.into_inner().taken());
         push_outcome(answer, last);
     }
@@ -166,14 +144,12 @@ impl Place {
         }
     }
 
-    /// Puts the file on the shelf.
-    fn put(&mut self, of: &str, answer: &mut Answer) {
-        answer.keep(put_file(self.alloc, &mut self.shelf, of, &self.file));
-    }
-
     /// Shows the file of a deck.
     fn show(&self, of: &str, answer: &mut Answer) {
-        match file_of(&self.shelf, of) {
+        let Some(name) = answer.kept(name_of(of)) else {
+            return;
+        };
+        match self.shelf.file(&name) {
             Some(file) => answer.bytes(file),
             None => answer.line("none"),
         }
@@ -181,37 +157,27 @@ impl Place {
 }
 
 /// Puts a file on a shelf.
-pub fn put_file(
-    alloc: Global,
-    shelf: &mut MemoryShelf,
-    of: &str,
-    file: &[u8],
-) -> Result<(), AllocError> {
+pub fn put_file(alloc: Global, shelf: &mut MemoryShelf, of: &str, file: &[u8]) -> Got<()> {
     shelf.put(&name_of(of)?, file.to_vec(alloc)?)
-}
-
-/// The file of a deck.
-fn file_of<'a>(shelf: &'a MemoryShelf, of: &str) -> Option<&'a [u8]> {
-    let name = name_of(of).ok()?;
-    shelf.file(&name)
 }
 
 /// Serves one command, with the keys of tests. What it makes of all is looked at and no contract of it, and so who
 /// calls has no facts of it.
 pub fn serve<R: Read, W: Write, C: Calls, S: Shelf>(
     alloc: Global,
+    rights: Rights,
     input: &mut Counted<R>,
     output: &mut Counted<W>,
     desk: &mut C,
     shelf: &mut S,
 ) -> Outcome {
     match fixed_keys() {
-        Ok(keys) => serve_one(alloc, keys, Rights::Edits, input, output, desk, shelf),
+        Ok(keys) => serve_one(alloc, keys, rights, input, output, desk, shelf),
         Err(_) => Outcome::ReadFault,
     }
 }
 
-/// Serves commands of a session up to its end, so many at most: how the last one ended.
+/// Serves commands of a session up to its end, so many at most: how the last one ended, and how many were before it.
 pub fn serve_up_to<R: Read, W: Write, C: Calls, S: Shelf>(
     alloc: Global,
     input: &mut Counted<R>,
@@ -219,11 +185,12 @@ pub fn serve_up_to<R: Read, W: Write, C: Calls, S: Shelf>(
     desk: &mut C,
     shelf: &mut S,
     most: usize,
-) -> Outcome {
-    let mut last = Outcome::Served;
-    for _ in 0..most {
-        if last == Outcome::Served {
-            last = serve(alloc, input, output, desk, shelf);
+) -> (Outcome, usize) {
+    let mut last = (Outcome::Served, 0);
+    for number in 0..most {
+        if last.0 == Outcome::Served {
+            last.0 = serve(alloc, Rights::Edits, input, output, desk, shelf);
+            last.1 = number;
         }
     }
     last
@@ -239,8 +206,9 @@ pub fn serve_ports<C: Calls, S: Shelf>(
     answer: &mut Answer,
 ) {
     let mut input = Counted::new(failing.reader(lines.as_bytes()));
-    let mut output = failing.writer(answer.alloc);
-    let outcome = serve(answer.alloc, &mut input, &mut output, desk, shelf);
+    let alloc = answer.alloc;
+    let mut output = failing.writer(alloc);
+    let outcome = serve(alloc, Rights::Edits, &mut input, &mut output, desk, shelf);
     let faults = (input.faults(), output.faults());
     answer.bytes(output.into_inner().taken());
     push_outcome(answer, outcome);

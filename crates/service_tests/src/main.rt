@@ -67,7 +67,7 @@ where
         || sockets::make(rt, rt.alloc(), word, rest, answer)
         || hosting::make(rt, rt.alloc(), word, rest, answer);
     if !is_made {
-        place.say(step, answer);
+        place.make("say", step, answer);
     }
 }
 

@@ -3,10 +3,7 @@
 
 use crate::sweeps::jobs::{End, do_jobs};
 use crate::sweeps::scene::Scene;
-use std::alloc::AllocError;
-
-/// In how many turns a desk of the three decks is settled at most.
-const TURNS: u32 = 8;
+use test_parts::Got;
 
 /// How many jobs a desk of the three decks has at most.
 const JOBS: usize = 8;
@@ -99,10 +96,10 @@ NO NoDeck
 ";
 
 /// Every call of a desk by which people change it and look at it.
-pub fn calls(scene: &mut Scene) -> Result<(), AllocError> {
+pub fn calls(scene: &mut Scene) -> Got<()> {
     scene.load_decks();
     scene.say_all(CHANGES);
-    scene.settle_as_asm(TURNS)?;
+    scene.settle_as_asm()?;
     scene.say_all(SHOWN);
     Ok(())
 }
@@ -115,28 +112,18 @@ OK 5
 ";
 
 /// Jobs of decks and of the link, begun with cards and with records, each ended in these ways.
-fn jobs(scene: &mut Scene, ends: &[End]) -> Result<(), AllocError> {
+pub fn jobs(scene: &mut Scene, ends: &[End]) -> Got<()> {
     scene.load_decks();
     do_jobs(scene, ends, JOBS);
     scene.say_all(EDITS);
     do_jobs(scene, ends, JOBS);
-    scene.settle_as_asm(TURNS)
-}
-
-/// Jobs whose results are delivered.
-pub fn delivered(scene: &mut Scene) -> Result<(), AllocError> {
-    jobs(scene, &[End::Delivered])
-}
-
-/// Jobs that end with a foreign result, then without one, and then with theirs.
-pub fn foreign(scene: &mut Scene) -> Result<(), AllocError> {
-    jobs(scene, &[End::Foreign, End::GivenUp, End::Delivered])
+    scene.settle_as_asm()
 }
 
 /// A desk that is settled, edited and settled again.
-pub fn settled(scene: &mut Scene) -> Result<(), AllocError> {
+pub fn settled(scene: &mut Scene) -> Got<()> {
     scene.load_decks();
-    scene.settle_as_asm(TURNS)?;
+    scene.settle_as_asm()?;
     scene.say_all(EDITS);
-    scene.settle_as_asm(TURNS)
+    scene.settle_as_asm()
 }

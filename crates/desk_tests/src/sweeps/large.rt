@@ -3,13 +3,11 @@
 
 use crate::sweeps::jobs::{End, do_jobs};
 use crate::sweeps::scene::Scene;
-use std::alloc::{AllocError, Global};
+use std::alloc::Global;
+use test_parts::Got;
 
 /// How many decks a desk has at most.
 const DECK_COUNT: u64 = 64;
-
-/// In how many turns they are settled at most.
-const TURNS: u32 = 200;
 
 /// Edits of the first deck, which leave it with one card more.
 const LINES: &str = "INS 5           SA4    =77\nREP 5           SA4    =78,X\nINS 6 *A\nDEL 6\n";
@@ -18,7 +16,7 @@ const LINES: &str = "INS 5           SA4    =77\nREP 5           SA4    =78,X\nI
 const TIMES: usize = 25;
 
 /// The batch of a hundred edits.
-fn batch(alloc: Global) -> Result<Vec<u8>, AllocError> {
+fn batch(alloc: Global) -> Got<Vec<u8>> {
     let mut lines = Vec::from_slice(alloc, b"BATCH MAIN 1 100\n")?;
     for _ in 0..TIMES {
         lines.extend_from_slice(LINES.as_bytes())?;
@@ -27,17 +25,17 @@ fn batch(alloc: Global) -> Result<Vec<u8>, AllocError> {
 }
 
 /// A job of a hundred edits on a record.
-pub fn edits(scene: &mut Scene) -> Result<(), AllocError> {
+pub fn edits(scene: &mut Scene) -> Got<()> {
     scene.load_decks();
-    scene.settle_as_asm(TURNS)?;
+    scene.settle_as_asm()?;
     let lines = batch(scene.alloc)?;
     scene.say("BATCH", &lines, b"OK 4\n");
     do_jobs(scene, &[End::Delivered], 2);
-    scene.settle_as_asm(TURNS)
+    scene.settle_as_asm()
 }
 
 /// Puts a deck of a few cards whose name has a number, as one of these versions.
-fn put_numbered(scene: &mut Scene, number: u64) -> Result<(), AllocError> {
+fn put_numbered(scene: &mut Scene, number: u64) -> Got<()> {
     let lines = format!(in scene.alloc;
         "PUT D{number} 0 3\n          IDENT  D{number}\nLAB       SA1    =7\n          END\n"
     )?;
@@ -70,7 +68,7 @@ END
 ";
 
 /// Asks how the desk stands before its decks are assembled.
-fn ask_status(scene: &mut Scene) -> Result<(), AllocError> {
+fn ask_status(scene: &mut Scene) -> Got<()> {
     let mut reply = Vec::from_slice(scene.alloc, b"OK 64 65\nPUBLISHED NONE\n")?;
     for before in 0..DECK_COUNT {
         let number = before.saturating_add(1);
@@ -82,14 +80,14 @@ fn ask_status(scene: &mut Scene) -> Result<(), AllocError> {
 }
 
 /// A desk of 64 decks that is claimed from, by a job of a deck and by that of their link, and shown.
-pub fn decks(scene: &mut Scene) -> Result<(), AllocError> {
+pub fn decks(scene: &mut Scene) -> Got<()> {
     for before in 0..DECK_COUNT {
         put_numbered(scene, before.saturating_add(1))?;
     }
     ask_status(scene)?;
-    scene.settle_as_asm(TURNS)?;
+    scene.settle_as_asm()?;
     scene.say_all(FULL);
     do_jobs(scene, &[End::Delivered], 2);
     scene.say_all(SHOWN);
-    scene.settle_as_asm(TURNS)
+    scene.settle_as_asm()
 }

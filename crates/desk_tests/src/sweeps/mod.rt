@@ -25,46 +25,20 @@ mod records;
 mod replies;
 mod sessions;
 
+use crate::sweeps::jobs::End;
 use crate::sweeps::notes::Journal;
 use crate::sweeps::scene::Scene;
 pub use replies::text_of;
-use std::alloc::{AllocError, AllocGlobal};
+use std::alloc::AllocGlobal;
 use std::fs::File;
 use std::io;
 use std::rt::Files;
 use std::sync::Wait;
-use test_parts::fixed_keys;
+use test_parts::{Got, fixed_keys};
 
-/// All scenarios, the small ones in front.
-const SCENARIOS: [&str; 18] = [
-    "records",
-    "texts",
-    "runs",
-    "ports",
-    "calls",
-    "jobs",
-    "foreign",
-    "settle",
-    "replies",
-    "session",
-    "session_ports",
-    "office",
-    "folder",
-    "many_edits",
-    "many_decks",
-    "long_run",
-    "long_ports",
-    "long_parts",
-];
-
-/// How many of them are gone through where none is named, too.
-const SMALL: usize = 13;
-
-/// The status where a check failed.
-const FAILED_STATUS: u8 = 1;
-
-/// The status where nothing can be said.
-const NOTHING_STATUS: u8 = 2;
+/// The scenarios that are gone through where none is named: all but the large ones.
+const SMALL: &str =
+    "records texts runs ports calls jobs foreign settle replies session session_ports office folder";
 
 /// How what was gone through ended.
 #[derive(Clone, Copy)]
@@ -82,8 +56,8 @@ impl Ended {
     pub fn status(self) -> u8 {
         match self {
             Ended::AsWanted => 0,
-            Ended::Failed => FAILED_STATUS,
-            Ended::Lacking | Ended::Unknown => NOTHING_STATUS,
+            Ended::Failed => 1,
+            Ended::Lacking | Ended::Unknown => 2,
         }
     }
 
@@ -96,28 +70,21 @@ impl Ended {
     }
 }
 
-/// Goes through a scenario of records, of decks and of ports.
-fn go_through_lower(name: &str, scene: &mut Scene) -> Result<(), AllocError> {
+/// Goes through a scenario, if there is one of this name.
+fn go_through<R: AllocGlobal + Files<File = File> + Clone + Drop + Wait>(
+    rt: &R,
+    name: &str,
+    scene: &mut Scene,
+) -> Got<()> {
     match name {
         "records" => records::records(scene),
         "texts" => records::texts(scene),
         "runs" => ports::runs(scene),
         "ports" => ports::ports(scene),
         "calls" => desks::calls(scene),
-        "jobs" => desks::delivered(scene),
-        "foreign" => desks::foreign(scene),
+        "jobs" => desks::jobs(scene, &[End::Delivered]),
+        "foreign" => desks::jobs(scene, &[End::Foreign, End::GivenUp, End::Delivered]),
         "settle" => desks::settled(scene),
-        _ => Ok(()),
-    }
-}
-
-/// Goes through any scenario.
-fn go_through<R: AllocGlobal + Files<File = File> + Clone + Drop + Wait>(
-    rt: &R,
-    name: &str,
-    scene: &mut Scene,
-) -> Result<(), AllocError> {
-    match name {
         "replies" => replies::replies(scene),
         "session" => sessions::session(scene),
         "session_ports" => sessions::failing(scene),
@@ -128,24 +95,20 @@ fn go_through<R: AllocGlobal + Files<File = File> + Clone + Drop + Wait>(
         "long_run" => long::run(scene),
         "long_ports" => long::ports(scene),
         "long_parts" => long::parts(scene),
-        _ => go_through_lower(name, scene),
+        _ => Ok(()),
     }
 }
 
-/// The journal of a scenario.
+/// The journal of a scenario, with no calls where there is none of this name.
 fn journal_of<R: AllocGlobal + Files<File = File> + Clone + Drop + Wait>(
     rt: &R,
     name: &str,
-) -> Journal {
-    let Ok(keys) = fixed_keys() else {
-        let mut journal = Journal::new(rt.alloc());
-        journal.keep(Err(AllocError));
-        return journal;
-    };
+) -> Got<Journal> {
+    let keys = fixed_keys()?;
     let mut scene = Scene::new(rt.alloc(), keys);
     let done = go_through(rt, name, &mut scene);
     scene.journal.keep(done);
-    scene.into_journal()
+    Ok(scene.into_journal())
 }
 
 /// Shows on standard error what was refused and what failed, each on a line.
@@ -167,6 +130,9 @@ fn tell<R: Print + Eprint>(rt: &R, name: &str, journal: &Journal) -> io::Result<
         eprintln!(rt; "{name}: begun again")?;
         return Ok(Ended::Lacking);
     }
+    if journal.calls == 0 {
+        return Ok(Ended::Unknown);
+    }
     let (found, ended) = if journal.has_failed {
         ("NOT ALL AS WANTED", Ended::Failed)
     } else {
@@ -181,7 +147,7 @@ fn run_once<R: AllocGlobal + Files<File = File> + Clone + Drop + Wait + Print + 
     rt: &R,
     name: &str,
 ) -> io::Result<Ended> {
-    let journal = journal_of(rt, name);
+    let journal = journal_of(rt, name)?;
     tell_notes(rt, name, &journal)?;
     tell(rt, name, &journal)
 }
@@ -202,11 +168,12 @@ pub fn run_chosen<R: AllocGlobal + Files<File = File> + Clone + Drop + Wait + Pr
     rt: &R,
     word: &str,
 ) -> io::Result<Ended> {
+    if !word.is_empty() {
+        return run_one(rt, word);
+    }
     let mut ended = Ended::Unknown;
-    for (place, name) in SCENARIOS.iter().enumerate() {
-        if word == *name || (word.is_empty() && place < SMALL) {
-            ended = run_one(rt, name)?.behind(ended);
-        }
+    for name in SMALL.split_whitespace() {
+        ended = run_one(rt, name)?.behind(ended);
     }
     Ok(ended)
 }

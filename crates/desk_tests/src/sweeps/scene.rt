@@ -6,12 +6,11 @@ use crate::place::{put_file, serve};
 use crate::settling::{Settled, settle};
 use crate::sweeps::decks::DECKS;
 use crate::sweeps::notes::{Called, Journal, called};
-use deck_files::Shelf;
 use desk_core::Desk;
-use session_line::Calls;
+use session_line::Rights;
 use std::alloc::{AllocError, Global};
 use std::hash::RandomState;
-use test_parts::{asm_answer, name_of, plain_text};
+use test_parts::{Got, asm_answer, cut, cut_line, name_of, plain_text};
 use text_ports::Counted;
 
 /// How many bytes most replies have at most.
@@ -21,58 +20,27 @@ const ROOM: usize = 4000;
 const REFUSED: &[u8] = b"NO ";
 
 /// The reply of a command that found no memory.
-const LACKING: &[u8] = b"NO OutOfMemory\n";
+pub const LACKING: &str = "NO OutOfMemory\n";
 
 /// What stands in front of each command in a table of them, which is written as a transcript: `|` ends a line of the
 /// command, and the reply is the lines below.
 pub const COMMAND: &str = "> ";
 
 /// The lines of a command.
-pub fn lines_of(alloc: Global, command: &str) -> Result<String, AllocError> {
+pub fn lines_of(alloc: Global, command: &str) -> Got<String> {
     let mut lines = plain_text(alloc, command)?;
     lines.push_str("\n")?;
     Ok(lines)
 }
 
-/// The reply to a command. The error is that there is no memory to write it to.
-fn replied<C: Calls, S: Shelf>(
-    alloc: Global,
-    desk: &mut C,
-    shelf: &mut S,
-    lines: &[u8],
-) -> Result<Vec<u8>, AllocError> {
-    let mut output = Counted::new(Vec::with_capacity(alloc, ROOM)?);
-    let mut input = Counted::new(lines);
-    serve(alloc, &mut input, &mut output, desk, shelf);
-    if output.faults() > 0 {
-        return Err(AllocError);
-    }
-    Ok(output.into_inner())
-}
-
-/// What stands behind the first line of a text.
-fn behind_line(text: &str) -> &str {
-    match text.split_once('\n') {
-        Some((_, rest)) => rest,
-        None => text,
-    }
-}
-
-/// The name in front of the row of a status.
-fn name_in(row: &str) -> &str {
-    match row.split_once(' ') {
-        Some((name, _)) => name,
-        None => row,
-    }
-}
-
-/// Settles a desk in so many turns: whether all of its version is published then.
-fn is_settled(alloc: Global, keys: RandomState, desk: &mut Desk, turns: u32) -> bool {
+/// Settles a desk, in two turns for each deck and two for their link at most: whether all of its version is published
+/// then.
+fn is_settled(alloc: Global, keys: RandomState, desk: &mut Desk) -> bool {
+    let decks = u32::try_from(desk.decks().len()).unwrap_or(0);
+    let turns = decks.saturating_mul(2).saturating_add(2);
     let mut meter = work_meter::begin();
-    match settle(alloc, keys, desk, &mut meter, turns) {
-        Settled::Idle { .. } => true,
-        _ => false,
-    }
+    let ended = settle(alloc, keys, desk, &mut meter, turns);
+    matches!(ended, Settled::Idle { .. })
 }
 
 /// A desk and a shelf, with the notes of a scenario.
@@ -98,14 +66,7 @@ impl Scene {
 
     /// The notes alone.
     pub fn into_journal(self) -> Journal {
-        let Scene {
-            journal,
-            desk,
-            shelf,
-            ..
-        } = self;
-        drop(desk);
-        drop(shelf);
+        let Scene { journal, .. } = self;
         journal
     }
 
@@ -116,23 +77,25 @@ impl Scene {
     }
 
     /// What was found, or nothing where the scenario's own memory was refused.
-    fn own(&mut self, found: Result<Vec<u8>, AllocError>) -> Vec<u8> {
-        match found {
-            Ok(found) => found,
-            Err(_) => {
-                self.journal.is_lacking = true;
-                Vec::new(self.alloc)
-            }
-        }
+    fn own(&mut self, found: Got<Vec<u8>>) -> Vec<u8> {
+        self.journal.is_lacking |= found.is_err();
+        found.unwrap_or(Vec::new(self.alloc))
     }
 
-    /// The reply to a command.
-    fn replied(&mut self, lines: &[u8]) -> Result<Vec<u8>, AllocError> {
-        replied(self.alloc, &mut self.desk, &mut self.shelf, lines)
+    /// The reply to a command. The error is that there is no memory to write it to.
+    fn replied(&mut self, lines: &[u8]) -> Got<Vec<u8>> {
+        let mut output = Counted::new(Vec::with_capacity(self.alloc, ROOM)?);
+        let input = &mut Counted::new(lines);
+        let (desk, shelf) = (&mut self.desk, &mut self.shelf);
+        serve(self.alloc, Rights::Edits, input, &mut output, desk, shelf);
+        if output.faults() > 0 {
+            return Err(AllocError);
+        }
+        Ok(output.into_inner())
     }
 
     /// The reply to a question of the scenario's own. Where it is refused, there is no memory for it.
-    fn told(&mut self, lines: &[u8]) -> Result<Vec<u8>, AllocError> {
+    fn told(&mut self, lines: &[u8]) -> Got<Vec<u8>> {
         let reply = self.replied(lines)?;
         if reply.starts_with(REFUSED) {
             return Err(AllocError);
@@ -142,17 +105,12 @@ impl Scene {
 
     /// Puts the cards of a deck behind those of others, with its name and its version unless a file is
     /// wanted.
-    fn push_deck(
-        &mut self,
-        texts: &mut Vec<u8>,
-        row: &str,
-        is_file: bool,
-    ) -> Result<(), AllocError> {
-        let question = format!(in self.alloc; "CARDS {}\n", name_in(row))?;
+    fn push_deck(&mut self, texts: &mut Vec<u8>, row: &str, is_file: bool) -> Got<()> {
+        let question = format!(in self.alloc; "CARDS {}\n", cut(row).0)?;
         let reply = self.told(question.as_bytes())?;
         let mut text = str::from_utf8(&reply).unwrap_or("");
         if is_file {
-            text = behind_line(text);
+            text = cut_line(text).1;
         } else {
             texts.extend_from_slice(question.as_bytes())?;
         }
@@ -160,18 +118,18 @@ impl Scene {
     }
 
     /// The texts of all decks.
-    fn texts(&mut self, is_file: bool) -> Result<Vec<u8>, AllocError> {
+    fn texts(&mut self, is_file: bool) -> Got<Vec<u8>> {
         let status = self.told(b"STATUS\n")?;
         let status = str::from_utf8(&status).unwrap_or("");
         let mut texts = Vec::new(self.alloc);
-        for row in behind_line(behind_line(status)).lines() {
+        for row in cut_line(cut_line(status).1).1.lines() {
             self.push_deck(&mut texts, row, is_file)?;
         }
         Ok(texts)
     }
 
     /// The names, the versions and the cards of all decks, and the file of M.
-    fn state_with_file(&mut self) -> Result<Vec<u8>, AllocError> {
+    fn state_with_file(&mut self) -> Got<Vec<u8>> {
         let mut state = self.texts(false)?;
         if let Some(file) = self.shelf.file(&name_of("M")?) {
             state.extend_from_slice(file)?;
@@ -200,7 +158,7 @@ impl Scene {
     pub fn say(&mut self, call: Called, lines: &[u8], wanted: &[u8]) {
         let before = self.state();
         let mut reply = self.reply(call, lines, &before);
-        if reply.as_slice() == LACKING {
+        if reply.as_slice() == LACKING.as_bytes() {
             self.journal.refused(call, true);
             reply = self.reply(call, lines, &before);
         }
@@ -238,10 +196,10 @@ impl Scene {
         self.say("LOAD", b"LOAD MAIN\n", b"OK 1\n");
     }
 
-    /// Settles the desk in so many turns: whether all of it is published then. Cards and versions are as
+    /// Settles the desk: whether all of it is published then. Cards and versions are as
     /// before, whether it is or not.
-    fn settle_once(&mut self, turns: u32, before: &[u8]) -> bool {
-        let is_settled = is_settled(self.alloc, self.keys, &mut self.desk, turns);
+    fn settle_once(&mut self, before: &[u8]) -> bool {
+        let is_settled = is_settled(self.alloc, self.keys, &mut self.desk);
         let is_kept = self.state().as_slice() == before;
         self.journal.kept("settle", is_kept);
         if !is_settled {
@@ -250,35 +208,35 @@ impl Scene {
         is_settled
     }
 
-    /// Settles the desk in so many turns, once more where that finds no memory.
-    fn settle(&mut self, turns: u32) {
+    /// Settles the desk, once more where that finds no memory.
+    fn settle(&mut self) {
         let before = self.state();
-        let is_settled = self.settle_once(turns, &before) || self.settle_once(turns, &before);
+        let is_settled = self.settle_once(&before) || self.settle_once(&before);
         self.journal.made("settle", is_settled);
     }
 
     /// Puts what a command shows of the publication behind another text.
-    fn push_shown(&mut self, text: &mut Vec<u8>, lines: &[u8]) -> Result<(), AllocError> {
+    fn push_shown(&mut self, text: &mut Vec<u8>, lines: &[u8]) -> Got<()> {
         let mut reply = self.replied(lines)?;
-        if reply.as_slice() == LACKING {
+        if reply.as_slice() == LACKING.as_bytes() {
             self.journal.refused("LIST, IMAGE, MAP or ERRORS", true);
             reply = self.replied(lines)?;
         }
         let reply = str::from_utf8(&reply).unwrap_or("");
-        text.extend_from_slice(behind_line(reply).as_bytes())
+        text.extend_from_slice(cut_line(reply).1.as_bytes())
     }
 
     /// Listing, map and image that the desk has published, one behind the other.
-    fn shown(&mut self) -> Result<Vec<u8>, AllocError> {
+    fn shown(&mut self) -> Got<Vec<u8>> {
         let mut text = Vec::new(self.alloc);
         self.push_shown(&mut text, b"LIST\n")?;
         self.push_shown(&mut text, b"IMAGE\n")?;
         Ok(text)
     }
 
-    /// Settles the desk in so many turns, and finds that it shows what `asm_run` writes for its decks.
-    pub fn settle_as_asm(&mut self, turns: u32) -> Result<(), AllocError> {
-        self.settle(turns);
+    /// Settles the desk, and finds that it shows what `asm_run` writes for its decks.
+    pub fn settle_as_asm(&mut self) -> Got<()> {
+        self.settle();
         let input = self.texts(true)?;
         let answer = asm_answer(self.alloc, &input);
         let wanted = self.journal.got("asm_run", answer)?;

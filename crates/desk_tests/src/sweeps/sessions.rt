@@ -1,12 +1,12 @@
 //! Scenarios of sessions: lines that are served where there is no memory, and where each read and each
 //! write fails in turn.
 
-use crate::place::serve;
+use crate::place::serve_up_to;
 use crate::sweeps::pieces::{Came, Tries, fail_all, held};
-use crate::sweeps::scene::{COMMAND, Scene, lines_of};
+use crate::sweeps::scene::{COMMAND, LACKING, Scene, lines_of};
 use session_line::Outcome;
-use std::alloc::{AllocError, Global};
-use test_parts::{Failing, FaultyReader, FaultyWriter, fixed_keys};
+use std::alloc::Global;
+use test_parts::{Failing, Got, fixed_keys};
 use text_ports::Counted;
 
 /// The file that the session loads.
@@ -15,12 +15,6 @@ const FILE: &str = "          IDENT  N
 GO        SA1    =7
           END
 ";
-
-/// In how many turns the desk of the session is settled at most.
-const TURNS: u32 = 8;
-
-/// The reply of a command that found no memory.
-const LACKING: &str = "NO OutOfMemory\n";
 
 /// Commands with their lines, and their replies.
 const COMMANDS: &str = "> ADD M
@@ -90,39 +84,29 @@ BYE
 ";
 
 /// A session whose lines find memory or not.
-pub fn session(scene: &mut Scene) -> Result<(), AllocError> {
+pub fn session(scene: &mut Scene) -> Got<()> {
     scene.put("N", FILE);
     scene.say_all(COMMANDS);
-    scene.settle_as_asm(TURNS)
-}
-
-/// Puts the lines of a command, or its reply, behind others.
-fn push_text(
-    texts: &mut Vec<u8>,
-    alloc: Global,
-    command: &str,
-    reply: &str,
-    is_reply: bool,
-) -> Result<(), AllocError> {
-    if is_reply {
-        return texts.extend_from_slice(reply.as_bytes());
-    }
-    texts.extend_from_slice(lines_of(alloc, command)?.as_bytes())
+    scene.settle_as_asm()
 }
 
 /// The lines of all commands, or all replies.
-fn all(alloc: Global, is_replies: bool) -> Result<Vec<u8>, AllocError> {
+fn all(alloc: Global, is_replies: bool) -> Got<Vec<u8>> {
     let mut texts = Vec::new(alloc);
     for step in COMMANDS.split(COMMAND) {
         if let Some((command, reply)) = step.split_once("\n") {
-            push_text(&mut texts, alloc, command, reply, is_replies)?;
+            if is_replies {
+                texts.extend_from_slice(reply.as_bytes())?;
+            } else {
+                texts.extend_from_slice(lines_of(alloc, command)?.as_bytes())?;
+            }
         }
     }
     Ok(texts)
 }
 
 /// What there is behind each command, and in front of them all.
-fn states(scene: &mut Scene) -> Result<Vec<Vec<u8>>, AllocError> {
+fn states(scene: &mut Scene) -> Got<Vec<Vec<u8>>> {
     scene.put("N", FILE);
     let mut states = Vec::new(scene.alloc);
     states.push(scene.state())?;
@@ -135,34 +119,6 @@ fn states(scene: &mut Scene) -> Result<Vec<Vec<u8>>, AllocError> {
     Ok(states)
 }
 
-/// Serves a session of so many commands at most up to its end: how it ended, and how many were executed.
-fn serve_all(
-    place: &mut Scene,
-    input: &mut Counted<FaultyReader<'_>>,
-    output: &mut Counted<FaultyWriter>,
-    most: usize,
-) -> (Outcome, usize) {
-    let mut outcome = Outcome::Served;
-    let mut executed = 0;
-    for number in 0..most {
-        executed = number;
-        outcome = serve(
-            place.alloc,
-            input,
-            output,
-            &mut place.desk,
-            &mut place.shelf,
-        );
-        if outcome != Outcome::Served {
-            break;
-        }
-    }
-    if let Outcome::WriteFault { .. } = outcome {
-        executed = executed.saturating_add(1);
-    }
-    (outcome, executed)
-}
-
 /// What a session is held against: its lines, its replies, and what there is behind each command.
 #[derive(Drop)]
 struct Dialogue {
@@ -171,31 +127,16 @@ struct Dialogue {
     states: Vec<Vec<u8>>,
 }
 
-/// What stands behind the last line feed.
-fn cut_line(text: &str) -> &str {
-    match text.rsplit_once('\n') {
-        Some((_, cut)) => cut,
-        None => text,
-    }
-}
-
 impl Dialogue {
-    /// Whether all is as before the last of so many commands.
-    fn is_before(&self, state: &[u8], executed: usize) -> bool {
-        match self.states.get(executed.saturating_sub(1)) {
-            Some(before) => before.as_slice() == state,
-            None => false,
-        }
-    }
-
     /// Whether the reply that there is no memory began to go out, and the writer failed in it.
     fn is_cut(&self, text: &str, state: &[u8], outcome: Outcome, executed: usize) -> bool {
-        match outcome {
-            Outcome::WriteFault { .. } => {
-                LACKING.starts_with(cut_line(text)) && self.is_before(state, executed)
-            }
-            _ => false,
-        }
+        let last = text.rsplit_once('\n').unwrap_or(("", text)).1;
+        let is_fault = matches!(outcome, Outcome::WriteFault { .. });
+        let is_before = match self.states.get(executed.saturating_sub(1)) {
+            Some(before) => before.as_slice() == state,
+            None => false,
+        };
+        is_fault && LACKING.starts_with(last) && is_before
     }
 
     /// What came of a session that ended so behind so many commands: what went out, and what there is.
@@ -219,21 +160,23 @@ impl Dialogue {
             Came::Failed
         }
     }
-}
 
-impl Dialogue {
     /// What came of a session of all lines in a new place, by ports that fail.
     fn came_in(&self, place: &mut Scene, failing: Failing) -> Came {
         let mut input = Counted::new(failing.reader(&self.lines));
         let mut output = failing.writer(place.alloc);
-        let (outcome, executed) = serve_all(place, &mut input, &mut output, self.states.len());
+        let (alloc, most) = (place.alloc, self.states.len());
+        let (desk, shelf) = (&mut place.desk, &mut place.shelf);
+        let (outcome, number) = serve_up_to(alloc, &mut input, &mut output, desk, shelf, most);
+        let is_fault = matches!(outcome, Outcome::WriteFault { .. });
+        let executed = number.saturating_add(usize::from(is_fault));
         let state = place.state();
         self.came(output.into_inner().taken(), &state, outcome, executed)
     }
 }
 
 impl Tries for Dialogue {
-    fn try_once(&self, alloc: Global, failing: Failing) -> Result<Came, AllocError> {
+    fn try_once(&self, alloc: Global, failing: Failing) -> Got<Came> {
         let keys = fixed_keys()?;
         let mut place = Scene::new(alloc, keys);
         place.put("N", FILE);
@@ -245,7 +188,7 @@ impl Tries for Dialogue {
 }
 
 /// A session in which each read and each write fails in turn, in pieces.
-pub fn failing(scene: &mut Scene) -> Result<(), AllocError> {
+pub fn failing(scene: &mut Scene) -> Got<()> {
     let dialogue = Dialogue {
         lines: all(scene.alloc, false)?,
         replies: all(scene.alloc, true)?,
