@@ -1,8 +1,7 @@
 //! The decks of the scenarios.
 
 use cards::Card;
-use deck_linker::Publication;
-use std::alloc::AllocError;
+use test_parts::Got;
 
 /// A deck: its name, and its lines.
 #[derive(Clone, Copy)]
@@ -56,7 +55,7 @@ LIMIT     EQU    12
 ];
 
 /// Puts cards as lines behind others.
-pub fn push_lines(lines: &mut Vec<u8>, cards: &[Card]) -> Result<(), AllocError> {
+pub fn push_lines(lines: &mut Vec<u8>, cards: &[Card]) -> Got<()> {
     for card in cards {
         lines.extend_from_slice(card.as_slice())?;
         lines.extend_from_slice(b"\n")?;
@@ -66,21 +65,9 @@ pub fn push_lines(lines: &mut Vec<u8>, cards: &[Card]) -> Result<(), AllocError>
 
 /// Whether both are the same cards.
 pub fn are_same(cards: &[Card], others: &[Card]) -> bool {
-    if cards.len() != others.len() {
-        return false;
-    }
+    let mut are_same = cards.len() == others.len();
     for (card, other) in cards.iter().zip(others.iter()) {
-        if card.as_slice() != other.as_slice() {
-            return false;
-        }
+        are_same &= card.as_slice() == other.as_slice();
     }
-    true
-}
-
-/// Whether a text is listing and image of a publication, one behind the other.
-pub fn is_answer(text: &[u8], publication: &Publication) -> bool {
-    match text.strip_prefix(publication.listing()) {
-        Some(rest) => rest == publication.image(),
-        None => false,
-    }
+    are_same
 }

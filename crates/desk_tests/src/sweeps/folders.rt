@@ -3,14 +3,12 @@
 use crate::sweeps::decks::{DECKS, DeckText, are_same};
 use crate::sweeps::scene::Scene;
 use cards::{Card, DeckName, MOST_CARDS};
-use deck_files::{
-    FileRow, FolderShelf, KnownFiles, SaveOver, Shelf, ShelfLoadFault, ShelfSaveFault,
-};
-use std::alloc::{AllocError, AllocGlobal, Global};
+use deck_files::{FolderShelf, KnownFiles, SaveOver, Shelf, ShelfLoadFault, ShelfSaveFault};
+use std::alloc::{AllocGlobal, Global};
 use std::fs::File;
 use std::rt::Files;
 use std::sync::Wait;
-use test_parts::{cards_of, fixed_keys, name_of};
+use test_parts::{Got, cards_of, fixed_keys, name_of};
 
 /// A deck with its cards, and the version that is saved.
 #[derive(Drop)]
@@ -22,10 +20,8 @@ struct Saved {
 
 /// Whether the shelf gives these cards, if it gives any.
 fn gives_once<S: Shelf>(shelf: &mut S, name: &DeckName, cards: &[Card]) -> Option<bool> {
-    match shelf.load(name) {
-        Ok(found) => Some(are_same(&found, cards)),
-        Err(_) => None,
-    }
+    let found = shelf.load(name).ok()?;
+    Some(are_same(&found, cards))
 }
 
 /// Whether the shelf gives these cards; once more where it finds no memory or a read fails.
@@ -38,21 +34,8 @@ fn gives<S: Shelf>(scene: &mut Scene, shelf: &mut S, name: &DeckName, cards: &[C
     given == Some(true)
 }
 
-/// Whether the shelf gives what it gave before: these cards, or no file where there are none.
-fn gives_still<S: Shelf>(
-    scene: &mut Scene,
-    shelf: &mut S,
-    name: &DeckName,
-    before: &[Card],
-) -> bool {
-    if before.is_empty() {
-        return matches!(shelf.load(name), Err(ShelfLoadFault::CannotOpen));
-    }
-    gives(scene, shelf, name, before)
-}
-
-/// Whether the shelf gives what may be there after a save that failed: what it gave before, or, unless
-/// a write failed, what was saved, since the last thing that a save waits for is the folder.
+/// Whether the shelf gives what may be there after a save that failed: what it gave before, no file where there were
+/// no cards, or, unless a write failed, what was saved, since the last thing that a save waits for is the folder.
 fn gives_either<S: Shelf>(
     scene: &mut Scene,
     shelf: &mut S,
@@ -60,11 +43,13 @@ fn gives_either<S: Shelf>(
     before: &[Card],
     fault: ShelfSaveFault,
 ) -> bool {
-    if gives_still(scene, shelf, &saved.name, before) {
-        return true;
-    }
+    let is_before = if before.is_empty() {
+        matches!(shelf.load(&saved.name), Err(ShelfLoadFault::CannotOpen))
+    } else {
+        gives(scene, shelf, &saved.name, before)
+    };
     let is_write_fault = matches!(fault, ShelfSaveFault::WriteFault { .. });
-    !is_write_fault && gives(scene, shelf, &saved.name, &saved.cards)
+    is_before || (!is_write_fault && gives(scene, shelf, &saved.name, &saved.cards))
 }
 
 /// Saves a deck. Where that fails, the shelf gives the whole old file or the whole new one.
@@ -91,7 +76,7 @@ fn save<S: Shelf>(scene: &mut Scene, shelf: &mut S, saved: &Saved, before: &[Car
 }
 
 /// A deck of this name with the cards of another.
-fn saved_of(alloc: Global, of: &DeckText, version: u64) -> Result<Saved, AllocError> {
+fn saved_of(alloc: Global, of: &DeckText, version: u64) -> Got<Saved> {
     Ok(Saved {
         name: name_of("SWEPT")?,
         cards: cards_of(alloc, of.lines)?,
@@ -100,7 +85,7 @@ fn saved_of(alloc: Global, of: &DeckText, version: u64) -> Result<Saved, AllocEr
 }
 
 /// Saves three versions of a deck, one over the other.
-fn save_all<S: Shelf>(scene: &mut Scene, shelf: &mut S) -> Result<(), AllocError> {
+fn save_all<S: Shelf>(scene: &mut Scene, shelf: &mut S) -> Got<()> {
     let mut before = Vec::new(scene.alloc);
     for (number, deck) in DECKS.iter().enumerate() {
         let saved = saved_of(scene.alloc, deck, number as u64)?;
@@ -110,42 +95,32 @@ fn save_all<S: Shelf>(scene: &mut Scene, shelf: &mut S) -> Result<(), AllocError
     Ok(())
 }
 
-/// Whether rows show that a deck has so many cards; none where its file was not read.
-fn tells(rows: &[FileRow], deck: &[u8], cards: usize) -> Option<bool> {
-    for row in rows {
-        if row.name.as_slice() == deck {
+/// Whether the shelf shows that the deck has so many cards; none where it shows nothing of it, or its file was not read.
+fn tells<S: Shelf>(shelf: &mut S, cards: usize) -> Option<bool> {
+    let rows = shelf.list().ok()?;
+    for row in &rows {
+        if row.name.as_slice() == b"SWEPT".as_slice() {
             return Some(row.cards? == cards);
         }
     }
     Some(false)
 }
 
-/// Whether the shelf shows that a deck has so many cards; none where it shows nothing of it.
-fn tells_once<S: Shelf>(shelf: &mut S, deck: &[u8], cards: usize) -> Option<bool> {
-    match shelf.list() {
-        Ok(rows) => tells(&rows, deck, cards),
-        Err(_) => None,
-    }
-}
-
 /// Lists the files of the shelf, once more where there is no memory or a read fails, and finds the last version
 /// of the deck.
-fn list<S: Shelf>(scene: &mut Scene, shelf: &mut S) -> Result<(), AllocError> {
-    let cards = match DECKS.last() {
-        Some(deck) => cards_of(scene.alloc, deck.lines)?.len(),
-        None => 0,
-    };
-    let mut told = tells_once(shelf, b"SWEPT", cards);
+fn list<S: Shelf>(scene: &mut Scene, shelf: &mut S) -> Got<()> {
+    let cards = cards_of(scene.alloc, DECKS[2].lines)?.len();
+    let mut told = tells(shelf, cards);
     if told.is_none() {
         scene.journal.refused("Shelf::list", true);
-        told = tells_once(shelf, b"SWEPT", cards);
+        told = tells(shelf, cards);
     }
     scene.journal.made("Shelf::list", told == Some(true));
     Ok(())
 }
 
 /// Saves decks, and lists their files.
-fn save_and_list<S: Shelf>(scene: &mut Scene, shelf: &mut S) -> Result<(), AllocError> {
+fn save_and_list<S: Shelf>(scene: &mut Scene, shelf: &mut S) -> Got<()> {
     save_all(scene, shelf)?;
     list(scene, shelf)
 }
@@ -155,7 +130,7 @@ fn save_and_list<S: Shelf>(scene: &mut Scene, shelf: &mut S) -> Result<(), Alloc
 pub fn folder<R: AllocGlobal + Files<File = File> + Clone + Drop + Wait>(
     rt: &R,
     scene: &mut Scene,
-) -> Result<(), AllocError> {
+) -> Got<()> {
     let known = KnownFiles::new(scene.alloc, fixed_keys()?);
     let mut shelf = FolderShelf::new(rt, scene.alloc, "", 0, &known);
     let done = save_and_list(scene, &mut shelf);

@@ -8,9 +8,9 @@ use crate::sweeps::scene::Scene;
 use asm_main::{AsmFault, Built, Chosen, asm_build, write_chosen};
 use deck_linker::{Publication, link};
 use deck_objects::SharedObject;
-use std::alloc::{AllocError, Global};
+use std::alloc::Global;
 use std::io::BufRead;
-use test_parts::{Failing, fixed_keys, object_of};
+use test_parts::{Failing, Got, fixed_keys, object_of};
 use text_ports::Counted;
 
 /// How the decks begin: they enter names for each other, one that no deck enters is missing, and both
@@ -57,7 +57,7 @@ const END: &str = "          END
 ";
 
 /// Puts the lines of a deck behind others.
-fn push_deck(lines: &mut Vec<u8>, deck: &DeckText) -> Result<(), AllocError> {
+fn push_deck(lines: &mut Vec<u8>, deck: &DeckText) -> Got<()> {
     lines.extend_from_slice(deck.lines.as_bytes())?;
     for _ in 0..TIMES {
         lines.extend_from_slice(WORDS.as_bytes())?;
@@ -66,7 +66,7 @@ fn push_deck(lines: &mut Vec<u8>, deck: &DeckText) -> Result<(), AllocError> {
 }
 
 /// The lines of both decks.
-fn input_of(alloc: Global) -> Result<Vec<u8>, AllocError> {
+fn input_of(alloc: Global) -> Got<Vec<u8>> {
     let mut lines = Vec::new(alloc);
     for deck in &HEADS {
         push_deck(&mut lines, deck)?;
@@ -74,43 +74,38 @@ fn input_of(alloc: Global) -> Result<Vec<u8>, AllocError> {
     Ok(lines)
 }
 
-/// The object of a deck.
-fn object_at(alloc: Global, deck: &DeckText) -> Result<SharedObject, AllocError> {
-    let mut lines = Vec::new(alloc);
-    push_deck(&mut lines, deck)?;
-    object_of(alloc, deck.name, str::from_utf8(&lines).unwrap_or(""))
-}
-
 /// The objects of both decks.
-fn objects_of(alloc: Global) -> Result<Vec<SharedObject>, AllocError> {
+fn objects_of(alloc: Global) -> Got<Vec<SharedObject>> {
     let mut objects = Vec::new(alloc);
     for deck in &HEADS {
-        objects.push(object_at(alloc, deck)?)?;
+        let mut lines = Vec::new(alloc);
+        push_deck(&mut lines, deck)?;
+        let lines = str::from_utf8(&lines).unwrap_or("");
+        objects.push(object_of(alloc, deck.name, lines)?)?;
     }
     Ok(objects)
 }
 
 /// The publication of both decks, whose texts are made whole.
-fn published(alloc: Global) -> Result<Publication, AllocError> {
-    let keys = fixed_keys()?;
-    link(alloc, keys, objects_of(alloc)?, 0)
+fn published(alloc: Global) -> Got<Publication> {
+    link(alloc, fixed_keys()?, objects_of(alloc)?, 0)
 }
 
 /// What is held against what goes out.
-fn whole_of(scene: &mut Scene) -> Result<Publication, AllocError> {
+fn whole_of(scene: &mut Scene) -> Got<Publication> {
     let published = published(scene.alloc);
     scene.journal.got("link", published)
 }
 
 /// The output of a run with these texts.
-fn output_of(alloc: Global, whole: &Publication) -> Result<Vec<u8>, AllocError> {
+fn output_of(alloc: Global, whole: &Publication) -> Got<Vec<u8>> {
     let mut output = Vec::from_slice(alloc, whole.listing())?;
     output.extend_from_slice(whole.image())?;
     Ok(output)
 }
 
 /// What a run of these lines is held against.
-fn run_of<'i>(scene: &mut Scene, input: &'i [u8]) -> Result<AsmRun<'i>, AllocError> {
+fn run_of<'i>(scene: &mut Scene, input: &'i [u8]) -> Got<AsmRun<'i>> {
     let whole = whole_of(scene)?;
     let output = output_of(scene.alloc, &whole);
     drop(whole);
@@ -121,37 +116,27 @@ fn run_of<'i>(scene: &mut Scene, input: &'i [u8]) -> Result<AsmRun<'i>, AllocErr
 }
 
 /// A run in which no port fails.
-pub fn run(scene: &mut Scene) -> Result<(), AllocError> {
+pub fn run(scene: &mut Scene) -> Got<()> {
     let input = input_of(scene.alloc)?;
     let run = run_of(scene, &input)?;
     try_whole(scene, "asm_run", &run)
 }
 
 /// Each write of a run, in pieces of a megabyte.
-pub fn ports(scene: &mut Scene) -> Result<(), AllocError> {
+pub fn ports(scene: &mut Scene) -> Got<()> {
     let input = input_of(scene.alloc)?;
     let run = run_of(scene, &input)?;
     fail_each(scene, "asm_run", &run, MEGABYTE, false)
 }
 
-/// The listings, which go to an output of their own, and so do the map and the image.
-const LISTING: Chosen = Chosen {
-    listing: true,
-    map: false,
-    image: false,
-};
-
-const MAP: Chosen = Chosen {
-    listing: false,
-    map: true,
-    image: false,
-};
-
-const IMAGE: Chosen = Chosen {
-    listing: false,
-    map: false,
-    image: true,
-};
+/// One of the texts, which goes to an output of its own.
+fn choice_of(text: &str) -> Chosen {
+    Chosen {
+        listing: text == "listing",
+        map: text == "map",
+        image: text == "image",
+    }
+}
 
 /// The texts of these lines, each to an output of its own.
 #[derive(Drop)]
@@ -166,15 +151,9 @@ fn build_of<R: BufRead>(alloc: Global, input: &mut Counted<R>) -> Result<Built, 
 }
 
 /// Writes one of the texts to an output of its own.
-fn write_part(
-    alloc: Global,
-    failing: Failing,
-    built: &mut Built,
-    chosen: Chosen,
-    text: &[u8],
-) -> Came {
+fn write_part(alloc: Global, failing: Failing, built: &mut Built, part: &str, text: &[u8]) -> Came {
     let mut output = failing.writer(alloc);
-    let outcome = write_chosen(&mut output, built, chosen);
+    let outcome = write_chosen(&mut output, built, choice_of(part));
     let faults = output.faults();
     let writer = output.into_inner();
     let taken = writer.taken();
@@ -184,28 +163,29 @@ fn write_part(
     }
 }
 
-/// What came of two tries: what is reported of the first that did not come to its end.
-fn both(first: Came, second: Came) -> Came {
-    match first {
-        Came::Whole => second,
-        Came::Failed | Came::Lacking | Came::Wrong => first,
-    }
-}
-
 impl<'p> Outputs<'p> {
     /// Writes all texts, the first of them behind the others once more: a fault of one output leaves
-    /// the others what they are.
+    /// the others what they are. What is reported is that of the first that did not come to its end.
     fn write(&self, alloc: Global, failing: Failing, built: &mut Built) -> Came {
-        let image = write_part(alloc, failing, built, IMAGE, self.whole.image());
-        let listing = write_part(alloc, failing, built, LISTING, self.whole.listings());
-        let map = write_part(alloc, failing, built, MAP, self.whole.map());
-        let again = write_part(alloc, failing, built, IMAGE, self.whole.image());
-        both(both(image, listing), both(map, again))
+        let parts = [
+            ("image", self.whole.image()),
+            ("listing", self.whole.listings()),
+            ("map", self.whole.map()),
+            ("image", self.whole.image()),
+        ];
+        let mut came = Came::Whole;
+        for (part, text) in &parts {
+            let other = write_part(alloc, failing, built, *part, *text);
+            if came == Came::Whole {
+                came = other;
+            }
+        }
+        came
     }
 }
 
 impl<'p> Tries for Outputs<'p> {
-    fn try_once(&self, alloc: Global, failing: Failing) -> Result<Came, AllocError> {
+    fn try_once(&self, alloc: Global, failing: Failing) -> Got<Came> {
         match build_of(alloc, &mut Counted::new(self.input)) {
             Ok(mut built) => {
                 let came = self.write(alloc, failing, &mut built);
@@ -219,7 +199,7 @@ impl<'p> Tries for Outputs<'p> {
 }
 
 /// Each write of the texts that go to outputs of their own, in pieces of a megabyte.
-pub fn parts(scene: &mut Scene) -> Result<(), AllocError> {
+pub fn parts(scene: &mut Scene) -> Got<()> {
     let input = input_of(scene.alloc)?;
     let whole = whole_of(scene)?;
     let outputs = Outputs {

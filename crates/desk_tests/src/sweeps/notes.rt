@@ -2,7 +2,7 @@
 //! that failed, and whether its own memory was refused.
 
 use std::alloc::{AllocError, Global};
-use test_parts::plain_text;
+use test_parts::{Got, plain_text};
 
 /// What is called, as it is shown.
 pub type Called = &'static str;
@@ -70,28 +70,24 @@ impl Journal {
         if self.is_lacking {
             return;
         }
-        if !holds {
-            self.has_failed = true;
-        }
+        self.has_failed |= !holds;
         let _ = self.note(call, holds);
     }
 
     /// Puts a note behind the others, unless there is no memory for it.
-    fn note(&mut self, call: Called, holds: bool) -> Result<(), AllocError> {
+    fn note(&mut self, call: Called, holds: bool) -> Got<()> {
         let call = plain_text(self.alloc, call)?;
         self.notes.push(Note { call, holds })?;
         Ok(())
     }
 
     /// Notes whether the scenario's own memory was refused.
-    pub fn keep(&mut self, done: Result<(), AllocError>) {
-        if done.is_err() {
-            self.is_lacking = true;
-        }
+    pub fn keep(&mut self, done: Got<()>) {
+        self.is_lacking |= done.is_err();
     }
 
     /// What was found, if the scenario's own memory was not refused.
-    pub fn own<T: Drop>(&self, found: T) -> Result<T, AllocError> {
+    pub fn own<T: Drop>(&self, found: T) -> Got<T> {
         if self.is_lacking {
             return Err(AllocError);
         }
@@ -99,20 +95,12 @@ impl Journal {
     }
 
     /// What a call gave that changes nothing. Where it found no memory, the scenario is begun again.
-    pub fn got<T: Drop>(
-        &mut self,
-        call: Called,
-        made: Result<T, AllocError>,
-    ) -> Result<T, AllocError> {
-        match made {
-            Ok(made) => {
-                self.made(call, true);
-                Ok(made)
-            }
-            Err(fault) => {
-                self.refused(call, true);
-                Err(fault)
-            }
+    pub fn got<T: Drop>(&mut self, call: Called, made: Got<T>) -> Got<T> {
+        if made.is_ok() {
+            self.made(call, true);
+        } else {
+            self.refused(call, true);
         }
+        made
     }
 }

@@ -2,8 +2,8 @@
 
 use crate::sweeps::notes::Called;
 use crate::sweeps::scene::Scene;
-use std::alloc::{AllocError, Global};
-use test_parts::Failing;
+use std::alloc::Global;
+use test_parts::{Failing, Got};
 
 /// How many calls of a port are failed at most.
 const MOST: u64 = 5000;
@@ -38,7 +38,7 @@ pub fn written(failing: Failing, holds: bool) -> Came {
 /// What is tried.
 pub trait Tries {
     /// Tries once, with ports that fail so.
-    fn try_once(&self, alloc: Global, failing: Failing) -> Result<Came, AllocError>;
+    fn try_once(&self, alloc: Global, failing: Failing) -> Got<Came>;
 }
 
 /// Tries once more where there is no memory.
@@ -47,7 +47,7 @@ pub fn try_twice<T: Tries>(
     call: Called,
     tried: &T,
     failing: Failing,
-) -> Result<Came, AllocError> {
+) -> Got<Came> {
     let came = tried.try_once(scene.alloc, failing)?;
     if came != Came::Lacking {
         return Ok(came);
@@ -63,7 +63,7 @@ pub fn fail_each<T: Tries>(
     tried: &T,
     piece: usize,
     is_read: bool,
-) -> Result<(), AllocError> {
+) -> Got<()> {
     let mut came = Came::Failed;
     for before in 0..MOST {
         let at = before.saturating_add(1);
@@ -78,12 +78,7 @@ pub fn fail_each<T: Tries>(
 }
 
 /// Fails each read, each write or both in turn, in pieces of one byte and of seven.
-pub fn fail_all<T: Tries>(
-    scene: &mut Scene,
-    call: Called,
-    tried: &T,
-    ports: &[bool],
-) -> Result<(), AllocError> {
+pub fn fail_all<T: Tries>(scene: &mut Scene, call: Called, tried: &T, ports: &[bool]) -> Got<()> {
     for is_read in ports {
         fail_each(scene, call, tried, 1, *is_read)?;
         fail_each(scene, call, tried, 7, *is_read)?;

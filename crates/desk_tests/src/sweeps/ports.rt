@@ -10,7 +10,7 @@ use cards::{Card, MOST_CARDS};
 use deck_files::{LoadFault, load, save};
 use std::alloc::{AllocError, Global};
 use std::io::BufReader;
-use test_parts::{Failing, asm_answer, assembled, cards_of};
+use test_parts::{Failing, Got, asm_answer, assembled, cards_of};
 use text_ports::Counted;
 
 /// A deck with few bytes of output.
@@ -35,12 +35,11 @@ pub struct AsmRun<'i> {
 impl<'i> Tries for AsmRun<'i> {
     /// Before all is read nothing is written; after a fault of the writer exactly the bytes that are
     /// shown went out.
-    fn try_once(&self, alloc: Global, failing: Failing) -> Result<Came, AllocError> {
-        let Ok(reader) = BufReader::new(alloc, failing.reader(self.input)) else {
-            return Err(AllocError);
-        };
+    fn try_once(&self, alloc: Global, failing: Failing) -> Got<Came> {
+        let reader = BufReader::new(alloc, failing.reader(self.input)).map_err(|_| AllocError)?;
+        let mut input = Counted::new(reader);
         let mut output = failing.writer(alloc);
-        let outcome = assembled(alloc, &mut Counted::new(reader), &mut output);
+        let outcome = assembled(alloc, &mut input, &mut output);
         let faults = output.faults();
         let writer = output.into_inner();
         let taken = writer.taken();
@@ -65,7 +64,7 @@ struct Loaded {
 }
 
 impl Tries for Loaded {
-    fn try_once(&self, alloc: Global, failing: Failing) -> Result<Came, AllocError> {
+    fn try_once(&self, alloc: Global, failing: Failing) -> Got<Came> {
         let mut reader = Counted::new(failing.reader(self.file.as_bytes()));
         let outcome = load(alloc, &mut reader);
         let faults = reader.faults();
@@ -86,7 +85,7 @@ struct Saved {
 }
 
 impl Tries for Saved {
-    fn try_once(&self, alloc: Global, failing: Failing) -> Result<Came, AllocError> {
+    fn try_once(&self, alloc: Global, failing: Failing) -> Got<Came> {
         if self.cards.len() > MOST_CARDS {
             return Ok(Came::Wrong);
         }
@@ -104,69 +103,50 @@ impl Tries for Saved {
 }
 
 /// What a run, a load and a save of these lines are held against.
-fn all_of(
-    scene: &mut Scene,
-    lines: &'static str,
-) -> Result<(AsmRun<'static>, Loaded, Saved), AllocError> {
+fn all_of(scene: &mut Scene, lines: &'static str) -> Got<(AsmRun<'static>, Loaded, Saved)> {
     let answer = asm_answer(scene.alloc, lines.as_bytes());
     let output = scene.journal.got("asm_run", answer)?;
     let cards = cards_of(scene.alloc, lines)?;
-    let count = cards.len();
-    Ok((
-        AsmRun {
-            input: lines.as_bytes(),
-            output,
-        },
-        Loaded { file: lines, count },
-        Saved { file: lines, cards },
-    ))
+    let (input, file, count) = (lines.as_bytes(), lines, cards.len());
+    let (run, loaded) = (AsmRun { input, output }, Loaded { file, count });
+    Ok((run, loaded, Saved { file, cards }))
 }
 
 /// Each read and each write of these, in pieces.
-fn fail_ports(
-    scene: &mut Scene,
-    run: &AsmRun<'_>,
-    loaded: &Loaded,
-    saved: &Saved,
-) -> Result<(), AllocError> {
+fn fail_ports(scene: &mut Scene, run: &AsmRun<'_>, loaded: &Loaded, saved: &Saved) -> Got<()> {
     fail_all(scene, "asm_run", run, &[true, false])?;
     fail_all(scene, "load", loaded, &[true])?;
     fail_all(scene, "save", saved, &[false])
 }
 
 /// Each read and each write of a run, and of its cards as a file, in pieces.
-pub fn ports(scene: &mut Scene) -> Result<(), AllocError> {
+pub fn ports(scene: &mut Scene) -> Got<()> {
     let (run, loaded, saved) = all_of(scene, SMALL)?;
     fail_ports(scene, &run, &loaded, &saved)
 }
 
 /// Tries where no port fails.
-pub fn try_whole<T: Tries>(scene: &mut Scene, call: Called, tried: &T) -> Result<(), AllocError> {
+pub fn try_whole<T: Tries>(scene: &mut Scene, call: Called, tried: &T) -> Got<()> {
     let came = try_twice(scene, call, tried, Failing::never(80))?;
     scene.journal.made(call, came == Came::Whole);
     Ok(())
 }
 
 /// These, where no port fails.
-fn try_ports(
-    scene: &mut Scene,
-    run: &AsmRun<'_>,
-    loaded: &Loaded,
-    saved: &Saved,
-) -> Result<(), AllocError> {
+fn try_ports(scene: &mut Scene, run: &AsmRun<'_>, loaded: &Loaded, saved: &Saved) -> Got<()> {
     try_whole(scene, "asm_run", run)?;
     try_whole(scene, "load", loaded)?;
     try_whole(scene, "save", saved)
 }
 
 /// A run, a load and a save of a deck in which no port fails.
-fn run_deck(scene: &mut Scene, lines: &'static str) -> Result<(), AllocError> {
+fn run_deck(scene: &mut Scene, lines: &'static str) -> Got<()> {
     let (run, loaded, saved) = all_of(scene, lines)?;
     try_ports(scene, &run, &loaded, &saved)
 }
 
 /// Runs, loads and saves of each deck in which no port fails.
-pub fn runs(scene: &mut Scene) -> Result<(), AllocError> {
+pub fn runs(scene: &mut Scene) -> Got<()> {
     for deck in &DECKS {
         run_deck(scene, deck.lines)?;
     }

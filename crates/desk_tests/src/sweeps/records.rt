@@ -1,7 +1,7 @@
 //! Scenarios of records and of texts: a record that is edited is spent for want of memory, and its
 //! cards are as they were; texts and links are made of them.
 
-use crate::sweeps::decks::{DECKS, DeckText, are_same, is_answer, push_lines};
+use crate::sweeps::decks::{DECKS, DeckText, are_same, push_lines};
 use crate::sweeps::notes::Called;
 use crate::sweeps::scene::Scene;
 use cards::{Card, Edit, copied_cards};
@@ -13,7 +13,7 @@ use session_commands::read_batch_line;
 use std::alloc::{AllocError, Global};
 use std::hash::RandomState;
 use std::mem;
-use test_parts::{asm_answer, cards_of, name_of, new_record};
+use test_parts::{Got, asm_answer, cards_of, name_of, new_record};
 use text_ports::Text;
 
 /// Edits of a deck, and the fault of each where there is memory.
@@ -26,11 +26,8 @@ const EDITS: [(&str, Option<RecordFault>); 5] = [
 ];
 
 /// The edit of a line.
-fn edit_of(line: &str) -> Result<Edit, AllocError> {
-    match read_batch_line(line.as_bytes()) {
-        Ok(edit) => Ok(edit),
-        Err(_) => Err(AllocError),
-    }
+fn edit_of(line: &str) -> Got<Edit> {
+    read_batch_line(line.as_bytes()).map_err(|_| AllocError)
 }
 
 /// Edits a record, and answers its fault, if there is one.
@@ -61,12 +58,7 @@ fn is_spent_with(
 }
 
 /// Puts a new record of these cards in the place of one that is spent by an edit, as it is to be.
-fn renew(
-    scene: &mut Scene,
-    kept: &mut Kept,
-    before: &[Card],
-    edit: &Edit,
-) -> Result<(), AllocError> {
+fn renew(scene: &mut Scene, kept: &mut Kept, before: &[Card], edit: &Edit) -> Got<()> {
     let holds = is_spent_with(scene.alloc, scene.keys, kept, before, edit);
     scene.journal.refused("edit", holds);
     let cards = copied_cards(scene.alloc, before)?;
@@ -77,11 +69,7 @@ fn renew(
 
 /// Edits a record, and answers its fault, if there is one. Where there is no memory, the record is
 /// spent, and a new one takes its place.
-fn edit_once(
-    scene: &mut Scene,
-    kept: &mut Kept,
-    edit: &Edit,
-) -> Result<Option<RecordFault>, AllocError> {
+fn edit_once(scene: &mut Scene, kept: &mut Kept, edit: &Edit) -> Got<Option<RecordFault>> {
     let before = copied_cards(scene.alloc, kept.cards())?;
     let fault = fault_of_edit(scene.alloc, scene.keys, kept, edit);
     if fault == Some(RecordFault::OutOfMemory) {
@@ -93,12 +81,7 @@ fn edit_once(
 }
 
 /// Edits a record, once more where that finds no memory.
-fn edit(
-    scene: &mut Scene,
-    kept: &mut Kept,
-    line: &str,
-    wanted: Option<RecordFault>,
-) -> Result<(), AllocError> {
+fn edit(scene: &mut Scene, kept: &mut Kept, line: &str, wanted: Option<RecordFault>) -> Got<()> {
     let edit = edit_of(line)?;
     let mut fault = edit_once(scene, kept, &edit)?;
     if fault == Some(RecordFault::OutOfMemory) {
@@ -109,7 +92,7 @@ fn edit(
 }
 
 /// The record of a deck.
-fn record(scene: &mut Scene, deck: &DeckText) -> Result<Kept, AllocError> {
+fn record(scene: &mut Scene, deck: &DeckText) -> Got<Kept> {
     let name = name_of(deck.name)?;
     let cards = cards_of(scene.alloc, deck.lines)?;
     let kept = new_record(scene.alloc, name, cards);
@@ -117,7 +100,7 @@ fn record(scene: &mut Scene, deck: &DeckText) -> Result<Kept, AllocError> {
 }
 
 /// The object of a record, once more where that finds no memory: it is not spent by it.
-fn finish(scene: &mut Scene, kept: &Kept) -> Result<SharedObject, AllocError> {
+fn finish(scene: &mut Scene, kept: &Kept) -> Got<SharedObject> {
     for _ in 0..2 {
         match kept.finish() {
             Ok(object) => {
@@ -133,31 +116,17 @@ fn finish(scene: &mut Scene, kept: &Kept) -> Result<SharedObject, AllocError> {
     Err(AllocError)
 }
 
-/// Makes all edits of a record.
-fn edit_all(scene: &mut Scene, kept: &mut Kept) -> Result<(), AllocError> {
+/// The object of a record after all edits, and its cards behind those of the decks before.
+fn finish_edited(scene: &mut Scene, kept: &mut Kept, input: &mut Vec<u8>) -> Got<SharedObject> {
     for (line, fault) in &EDITS {
         edit(scene, kept, *line, *fault)?;
     }
-    Ok(())
-}
-
-/// The object of a record after all edits, and its cards behind those of the decks before.
-fn finish_edited(
-    scene: &mut Scene,
-    kept: &mut Kept,
-    input: &mut Vec<u8>,
-) -> Result<SharedObject, AllocError> {
-    edit_all(scene, kept)?;
     push_lines(input, kept.cards())?;
     finish(scene, kept)
 }
 
 /// The object of a deck after all edits, and its cards behind those of the decks before.
-fn edited(
-    scene: &mut Scene,
-    deck: &DeckText,
-    input: &mut Vec<u8>,
-) -> Result<SharedObject, AllocError> {
+fn edited(scene: &mut Scene, deck: &DeckText, input: &mut Vec<u8>) -> Got<SharedObject> {
     let mut kept = record(scene, deck)?;
     let object = finish_edited(scene, &mut kept, input);
     drop(kept);
@@ -165,15 +134,16 @@ fn edited(
 }
 
 /// What was made of objects holds what `asm_run` writes for these decks.
-fn compare(scene: &mut Scene, found: &Publication, input: &[u8]) -> Result<(), AllocError> {
+fn compare(scene: &mut Scene, found: &Publication, input: &[u8]) -> Got<()> {
     let answer = asm_answer(scene.alloc, input);
     let wanted = scene.journal.got("asm_run", answer)?;
-    scene.journal.made("link", is_answer(&wanted, found));
+    let image = wanted.as_slice().strip_prefix(found.listing());
+    scene.journal.made("link", image == Some(found.image()));
     Ok(())
 }
 
 /// The object of each deck after all edits, and the cards of all.
-fn all_edited(scene: &mut Scene, input: &mut Vec<u8>) -> Result<Vec<SharedObject>, AllocError> {
+fn all_edited(scene: &mut Scene, input: &mut Vec<u8>) -> Got<Vec<SharedObject>> {
     let mut objects = Vec::new(scene.alloc);
     for deck in &DECKS {
         objects.push(edited(scene, deck, input)?)?;
@@ -183,7 +153,7 @@ fn all_edited(scene: &mut Scene, input: &mut Vec<u8>) -> Result<Vec<SharedObject
 
 /// A record of each deck, edited and linked with the others: the bytes of `asm_run` for the edited
 /// cards.
-pub fn records(scene: &mut Scene) -> Result<(), AllocError> {
+pub fn records(scene: &mut Scene) -> Got<()> {
     let mut input = Vec::new(scene.alloc);
     let objects = all_edited(scene, &mut input)?;
     let found = link(scene.alloc, scene.keys, objects, 7);
@@ -197,7 +167,7 @@ pub fn records(scene: &mut Scene) -> Result<(), AllocError> {
 const BASE: u64 = 64;
 
 /// A text of an object: its listing, or its image where it stands alone.
-fn text_of(scene: &mut Scene, call: Called, object: &SharedObject) -> Result<Text, AllocError> {
+fn text_of(scene: &mut Scene, call: Called, object: &SharedObject) -> Got<Text> {
     let text = if call == "image" {
         image(scene.alloc, object.object(), BASE)
     } else {
@@ -207,7 +177,7 @@ fn text_of(scene: &mut Scene, call: Called, object: &SharedObject) -> Result<Tex
 }
 
 /// A text of an object, which is the same a second time.
-fn text_twice(scene: &mut Scene, call: Called, object: &SharedObject) -> Result<(), AllocError> {
+fn text_twice(scene: &mut Scene, call: Called, object: &SharedObject) -> Got<()> {
     let first = text_of(scene, call, object)?;
     let second = text_of(scene, call, object)?;
     let is_same = first.as_slice() == second.as_slice();
@@ -216,7 +186,7 @@ fn text_twice(scene: &mut Scene, call: Called, object: &SharedObject) -> Result<
 }
 
 /// The object of a deck.
-fn object(scene: &mut Scene, deck: &DeckText) -> Result<SharedObject, AllocError> {
+fn object(scene: &mut Scene, deck: &DeckText) -> Got<SharedObject> {
     let kept = record(scene, deck)?;
     let object = finish(scene, &kept);
     drop(kept);
@@ -224,13 +194,13 @@ fn object(scene: &mut Scene, deck: &DeckText) -> Result<SharedObject, AllocError
 }
 
 /// The texts of an object alone.
-fn texts_of(scene: &mut Scene, object: &SharedObject) -> Result<(), AllocError> {
+fn texts_of(scene: &mut Scene, object: &SharedObject) -> Got<()> {
     text_twice(scene, "listing", object)?;
     text_twice(scene, "image", object)
 }
 
 /// The texts of each deck alone.
-pub fn texts(scene: &mut Scene) -> Result<(), AllocError> {
+pub fn texts(scene: &mut Scene) -> Got<()> {
     for deck in &DECKS {
         let object = object(scene, deck)?;
         let made = texts_of(scene, &object);

@@ -10,28 +10,26 @@ use desk_core::{Row, State};
 use session_commands::Refusal;
 use session_line::{Connected, Reply, Rights, reply_text, write_reply};
 use std::alloc::{AllocError, Global};
-use test_parts::{cards_of, name_of};
+use test_parts::{Got, cards_of, name_of};
 use text_ports::Counted;
 
 /// How many bytes a reply has at most.
 const ROOM: usize = 2000;
 
 /// The replies whose texts have a length of their own.
-fn few() -> [Reply<'static>; 5] {
-    [
-        Reply::Done { version: 3 },
-        Reply::Bye,
-        Reply::Text {
-            version: 12,
-            text: b"MAP\nEND\n",
-        },
-        Reply::Refused(Refusal::OldVersion { current: 17 }),
-        Reply::Refused(Refusal::BadLine {
-            line: 4,
-            fault: CardFault::BadCharacter { column: 9 },
-        }),
-    ]
-}
+const FEW: [Reply<'static>; 5] = [
+    Reply::Done { version: 3 },
+    Reply::Bye,
+    Reply::Text {
+        version: 12,
+        text: b"MAP\nEND\n",
+    },
+    Reply::Refused(Refusal::OldVersion { current: 17 }),
+    Reply::Refused(Refusal::BadLine {
+        line: 4,
+        fault: CardFault::BadCharacter { column: 9 },
+    }),
+];
 
 /// Whether a reply has no more cards and no more decks than it may have.
 fn is_within(reply: &Reply<'_>) -> bool
@@ -54,19 +52,17 @@ fn is_within(reply: &Reply<'_>) -> bool
 }
 
 /// A reply as it is written.
-fn written(alloc: Global, reply: &Reply<'_>) -> Result<Vec<u8>, AllocError> {
+fn written(alloc: Global, reply: &Reply<'_>) -> Got<Vec<u8>> {
     if !is_within(reply) {
         return Err(AllocError);
     }
     let mut output = Counted::new(Vec::with_capacity(alloc, ROOM)?);
-    match write_reply(&mut output, reply) {
-        Ok(()) => Ok(output.into_inner()),
-        Err(_) => Err(AllocError),
-    }
+    write_reply(&mut output, reply).map_err(|_| AllocError)?;
+    Ok(output.into_inner())
 }
 
 /// A reply as a text.
-pub fn text_of(alloc: Global, reply: &Reply<'_>) -> Result<Vec<u8>, AllocError> {
+pub fn text_of(alloc: Global, reply: &Reply<'_>) -> Got<Vec<u8>> {
     if !is_within(reply) {
         return Err(AllocError);
     }
@@ -74,7 +70,7 @@ pub fn text_of(alloc: Global, reply: &Reply<'_>) -> Result<Vec<u8>, AllocError> 
 }
 
 /// A reply as a text and as it is written, which are the same.
-fn compare(scene: &mut Scene, reply: &Reply<'_>) -> Result<(), AllocError> {
+fn compare(scene: &mut Scene, reply: &Reply<'_>) -> Got<()> {
     let text = text_of(scene.alloc, reply);
     let text = scene.journal.got("reply_text", text)?;
     let other = written(scene.alloc, reply);
@@ -84,7 +80,7 @@ fn compare(scene: &mut Scene, reply: &Reply<'_>) -> Result<(), AllocError> {
 }
 
 /// A row of a status.
-fn row_of(name: &str, cards: usize, state: State) -> Result<Row, AllocError> {
+fn row_of(name: &str, cards: usize, state: State) -> Got<Row> {
     Ok(Row {
         name: name_of(name)?,
         version: 5,
@@ -95,7 +91,7 @@ fn row_of(name: &str, cards: usize, state: State) -> Result<Row, AllocError> {
 }
 
 /// The replies that show cards.
-fn compare_cards(scene: &mut Scene) -> Result<(), AllocError> {
+fn compare_cards(scene: &mut Scene) -> Got<()> {
     let cards = cards_of(scene.alloc, DECKS[0].lines)?;
     let many = Reply::Cards {
         version: 5,
@@ -111,7 +107,7 @@ fn compare_cards(scene: &mut Scene) -> Result<(), AllocError> {
 }
 
 /// The reply that shows how decks stand.
-fn compare_status(scene: &mut Scene) -> Result<(), AllocError> {
+fn compare_status(scene: &mut Scene) -> Got<()> {
     let rows = [
         row_of("MAIN", 12, State::Behind)?,
         row_of("N", 20_000, State::Out)?,
@@ -125,7 +121,7 @@ fn compare_status(scene: &mut Scene) -> Result<(), AllocError> {
 }
 
 /// The reply that shows who is connected.
-fn compare_sessions(scene: &mut Scene) -> Result<(), AllocError> {
+fn compare_sessions(scene: &mut Scene) -> Got<()> {
     let sessions = [
         Connected {
             number: 0,
@@ -146,8 +142,8 @@ fn compare_sessions(scene: &mut Scene) -> Result<(), AllocError> {
 }
 
 /// Each sort of reply.
-pub fn replies(scene: &mut Scene) -> Result<(), AllocError> {
-    for reply in &few() {
+pub fn replies(scene: &mut Scene) -> Got<()> {
+    for reply in &FEW {
         compare(scene, reply)?;
     }
     compare_cards(scene)?;
