@@ -1,22 +1,14 @@
 //! What `bench/` measures beside the whole program, and what a word says: `turns`, which prints a table of turns of an
-//! office beside a lock (bench/turns); a layer of the language, a hundred times: `parse`, `value`, `find`, `words`,
-//! `names`, `cards`, `sizes` or `codes` (bench/language); `records` and a file with a deck, records that are edited
-//! (bench/records); `full_desk`, the longest turns of a full desk (bench/serve --turns).
+//! office beside a lock (bench/turns); `records` and a file with a deck, records that are edited (bench/records);
+//! `full_desk`, the longest turns of a full desk (bench/serve --turns).
 //!
-//! With no word a small run of layers and turns prints the same each time. The status is 2 where something can't be
-//! measured.
+//! With no word a small run of turns prints the same each time. The status is 2 where something can't be measured.
 #![tactic(auto)]
 
 mod counting;
-mod expressions;
 mod full_desk;
 mod holding;
-mod instructions;
-mod layers;
-mod names;
-mod packing;
 mod records;
-mod statements;
 mod turns;
 
 use std::alloc::AllocGlobal;
@@ -30,15 +22,6 @@ use std::{env, io};
 /// The status where something can't be measured.
 const NOTHING_STATUS: u8 = 2;
 
-/// A small run of each layer and of turns.
-fn try_out<R>(rt: &R) -> io::Result<()>
-where
-    R: AllocGlobal + Threads + Wait + Sync + Clock + Print,
-{
-    layers::try_out(rt)?;
-    turns::try_out(rt)
-}
-
 /// Measures the records of the deck in a file, or what a word alone names.
 fn measure<R>(rt: &R, word: &str, file: Option<&String>) -> io::Result<()>
 where
@@ -48,7 +31,7 @@ where
         Some(path) => records::measure(rt, path.as_str()),
         None if word == "turns" => turns::measure(rt),
         None if word == "full_desk" => full_desk::measure(rt),
-        None => layers::measure(rt, word),
+        None => Err(io::Error::other("no such measurement")),
     }
 }
 
@@ -71,7 +54,7 @@ where
     let words: Vec<String> = env::args(rt)?.collect(rt.alloc())?;
     match words.get(1) {
         Some(word) => measure(rt, word.as_str(), words.get(2)),
-        None => try_out(rt),
+        None => turns::try_out(rt),
     }
 }
 
