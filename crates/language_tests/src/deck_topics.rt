@@ -1,42 +1,22 @@
 //! Whole decks: how they are sized and coded, and the records of decks that are edited.
 
-use crate::edit_topics::edits_of;
+use crate::card_topics::{edits_of, push_cards, repeated_cards};
 use crate::expression_topics::form;
 use crate::item_topics::item;
 use crate::outputs::Answer;
-use crate::statement_topics::{bases_shown, meter};
-use cards::{Card, Edit};
+use crate::statement_topics::{bases_shown, lengths_shown, meter, position_shown, words};
 use deck_assembler::{Piece, SizedDeck, object_parts};
 use deck_objects::{CodedLine, Line, LineFields, ObjectParts};
-use edit_core::{Kept, RecordFault};
-use std::alloc::{AllocError, Global};
-use test_parts::{counted_record, cut, name_of, new_record, size};
+use edit_core::Kept;
+use std::alloc::AllocError;
+use test_parts::{counted_record, cut, name_of, new_record, number};
 use work_meter::Meter;
 
-/// Whether this is one of the topics here; what is found of the text is then in the answer.
-pub fn answer(answer: &mut Answer, topic: &str, text: &str) -> Result<bool, AllocError> {
-    match topic {
-        "sized_decks" | "symbols_of_decks" | "lines_of_decks" | "parts_of_decks" => {
-            deck(answer, topic, text)?;
-        }
-        "records" => record(answer, text)?,
-        "record_edits" => record_edits(answer, text, b"          DATA   1")?,
-        "record_kinds" => record_edits(answer, text, b"          ABS")?,
-        _ => return Ok(false),
-    }
-    Ok(true)
-}
-
 /// What a topic shows of the deck of these lines.
-fn deck(answer: &mut Answer, topic: &str, text: &str) -> Result<(), AllocError> {
+pub fn deck(answer: &mut Answer, topic: &str, text: &str) -> Result<(), AllocError> {
     let cards = repeated_cards(answer.alloc, text)?;
-    deck_of(answer, topic, &cards)
-}
-
-/// What a topic shows of the deck of these cards.
-fn deck_of(answer: &mut Answer, topic: &str, cards: &[Card]) -> Result<(), AllocError> {
     let mut done = work_meter::begin();
-    let deck = SizedDeck::new(answer.alloc, answer.keys, cards, &mut done)?;
+    let deck = SizedDeck::new(answer.alloc, answer.keys, &cards, &mut done)?;
     match topic {
         "sized_decks" => {
             sized(answer, &deck);
@@ -45,31 +25,8 @@ fn deck_of(answer: &mut Answer, topic: &str, cards: &[Card]) -> Result<(), Alloc
         "symbols_of_decks" => values(answer, &deck),
         _ if cards.len() > 20_000 => answer.word("too many"),
         _ => {
-            let parts = object_parts(answer.alloc, answer.keys, cards, &deck, &mut done)?;
+            let parts = object_parts(answer.alloc, answer.keys, &cards, &deck, &mut done)?;
             object(answer, topic, &parts, &done);
-        }
-    }
-    Ok(())
-}
-
-/// The cards of lines; a line such as `#3 CARD` stands for three cards.
-pub fn repeated_cards(alloc: Global, text: &str) -> Result<Vec<Card>, AllocError> {
-    let mut cards = Vec::new(alloc);
-    for line in text.lines() {
-        let (times, line) = match line.strip_prefix("#") {
-            Some(counted) => cut(counted),
-            None => ("1", line),
-        };
-        push_cards(&mut cards, size(times), line)?;
-    }
-    Ok(cards)
-}
-
-/// So many cards of this line more, none where it is no card.
-fn push_cards(cards: &mut Vec<Card>, times: usize, line: &str) -> Result<(), AllocError> {
-    for _ in 0..times {
-        if let Ok(card) = Card::read(line.as_bytes()) {
-            cards.push(card)?;
         }
     }
     Ok(())
@@ -79,18 +36,17 @@ fn push_cards(cards: &mut Vec<Card>, times: usize, line: &str) -> Result<(), All
 /// of each and where it ends, if it has a place.
 fn piece(answer: &mut Answer, piece: &Piece) {
     answer.word("; piece");
-    answer.decimal(piece.statements().len() as u64);
-    answer.decimal(u64::from(piece.state().block().position().end()));
-    answer.either(piece.state().block().position().asks(), "asks", "-");
+    answer.number(&piece.statements().len());
+    position_shown(answer, piece.state().block().position());
     answer.debug(&piece.state().number_base());
     if piece.statements().len() > 10 {
         return;
     }
     for statement in piece.statements() {
-        answer.decimal(u64::from(statement.cards));
+        answer.number(&statement.cards);
         if statement.sizing.is_placed() {
             answer.word("to");
-            answer.decimal(u64::from(statement.sizing.end()));
+            answer.number(&statement.sizing.end());
         }
     }
 }
@@ -103,17 +59,12 @@ fn sized(answer: &mut Answer, deck: &SizedDeck) {
     }
     answer.word("; behind");
     for count in deck.behind() {
-        answer.decimal(u64::from(*count));
+        answer.number(count);
     }
     answer.word("; literals");
-    for word in deck.literals().words() {
-        answer.octal(*word);
-    }
+    words(answer, deck.literals().words());
     answer.word("; blocks");
-    for (name, words) in deck.lengths().blocks().iter() {
-        answer.bare(name.name().as_slice());
-        answer.decimal(u64::from(*words));
-    }
+    lengths_shown(answer, deck.lengths());
     answer.word(";");
 }
 
@@ -121,26 +72,23 @@ fn sized(answer: &mut Answer, deck: &SizedDeck) {
 fn values(answer: &mut Answer, deck: &SizedDeck) {
     for name in ["N", "A", "B", "BUFFER", "SUB"] {
         answer.word(name);
-        match deck.symbols().value(name.as_bytes()) {
-            Some(value) => form(answer, &value),
-            None => answer.word("none"),
-        }
+        answer.or_none(&deck.symbols().value(name.as_bytes()), form);
     }
 }
 
 fn coded_line(answer: &mut Answer, line: &CodedLine) {
     answer.debug(&line.operation);
-    answer.decimal(u64::from(line.block));
-    answer.decimal(u64::from(line.place));
-    answer.decimal(u64::from(line.end));
+    answer.number(&line.block);
+    answer.number(&line.place);
+    answer.number(&line.end);
     answer.either(line.begins_run, "run", "-");
     match line.fields {
         LineFields::Absent => answer.word("absent"),
-        LineFields::Known(bits) => answer.octal(bits),
+        LineFields::Known(bits) => answer.octal(&bits),
         LineFields::Listed { first, count } => {
             answer.word("listed");
-            answer.decimal(u64::from(first));
-            answer.decimal(u64::from(count))
+            answer.number(&first);
+            answer.number(&count)
         }
         LineFields::Zeros => answer.word("zeros"),
     }
@@ -149,12 +97,9 @@ fn coded_line(answer: &mut Answer, line: &CodedLine) {
 /// How many cards a line has, its letters, and what it stores.
 fn line(answer: &mut Answer, line: &Line) {
     answer.word(";");
-    answer.decimal(u64::from(line.cards));
+    answer.number(&line.cards);
     answer.quoted(line.letters.text().as_slice());
-    match &line.coded {
-        Some(coded) => coded_line(answer, coded),
-        None => answer.word("none"),
-    }
+    answer.or_none(&line.coded, coded_line)
 }
 
 /// The lines of a deck's object and what was done, or its fields and names.
@@ -186,55 +131,37 @@ fn names(answer: &mut Answer, parts: &ObjectParts) {
         answer.bare(name.as_slice());
     }
     answer.word("literals");
-    for word in &parts.literals {
-        answer.octal(*word);
-    }
+    words(answer, &parts.literals);
     bases_shown(answer, &parts.bases)
 }
 
-/// A record: its name, its cards, how many statements its pieces have, what was done, and how many
-/// lines its object has.
-fn record_shown(answer: &mut Answer, kept: &Kept, done: &Meter) {
-    answer.bare(kept.name().as_slice());
-    answer.decimal(kept.cards().len() as u64);
-    answer.debug(&kept.pieces());
-    answer.either(kept.is_spent(), "spent", "-");
-    meter(answer, done);
-    finished(answer, kept, false);
-}
-
-/// The record of the deck of these lines.
-fn record(answer: &mut Answer, text: &str) -> Result<(), AllocError> {
+/// The record of the deck of these lines: its name, its cards, how many statements its pieces have, what was done,
+/// and how many lines its object has.
+pub fn record(answer: &mut Answer, text: &str) -> Result<(), AllocError> {
     let name = name_of("M")?;
     let cards = repeated_cards(answer.alloc, text)?;
     let mut done = work_meter::begin();
     let kept = counted_record(answer.alloc, name, cards, &mut done)?;
-    record_shown(answer, &kept, &done);
+    answer.bare(kept.name().as_slice());
+    answer.number(&kept.cards().len());
+    answer.debug(&kept.pieces());
+    answer.either(kept.is_spent(), "spent", "-");
+    meter(answer, &done);
+    finished(answer, &kept, false);
     Ok(())
 }
 
 /// How many cards the object of a record has, or how many lines.
 fn finished(answer: &mut Answer, kept: &Kept, is_of_cards: bool) {
     match kept.finish() {
-        Ok(object) if is_of_cards => answer.decimal(object.object().cards().len() as u64),
-        Ok(object) => answer.decimal(object.object().parts().lines.len() as u64),
+        Ok(object) if is_of_cards => answer.number(&object.object().cards().len()),
+        Ok(object) => answer.number(&object.object().parts().lines.len()),
         Err(_) => answer.word("no object"),
     }
 }
 
-/// Makes an edit.
-fn edited(
-    answer: &mut Answer,
-    kept: &mut Kept,
-    edit: &Edit,
-    done: &mut Meter,
-) -> Result<(), AllocError> {
-    match kept.edit(answer.alloc, answer.keys, edit, done) {
-        Ok(()) => answer.word("made"),
-        Err(RecordFault::OutOfMemory) => return Err(AllocError),
-        Err(fault) => answer.debug(&fault),
-    }
-    Ok(())
+fn made(answer: &mut Answer, _edit: &()) {
+    answer.word("made")
 }
 
 /// Makes the edits of these words, and shows what was done and how many cards and pieces there are then.
@@ -246,11 +173,12 @@ fn make_edits(
 ) -> Result<(), AllocError> {
     let mut done = work_meter::begin();
     for edit in &edits_of(answer.alloc, words, card)? {
-        edited(answer, kept, edit, &mut done)?;
+        let outcome = kept.edit(answer.alloc, answer.keys, edit, &mut done);
+        answer.or_fault(&outcome, made);
     }
     meter(answer, &done);
-    answer.decimal(kept.cards().len() as u64);
-    answer.decimal(kept.pieces().len() as u64);
+    answer.number(&kept.cards().len());
+    answer.number(&kept.pieces().len());
     answer.debug(&kept.pieces().first());
     finished(answer, kept, true);
     Ok(())
@@ -258,16 +186,10 @@ fn make_edits(
 
 /// Edits of the record of a deck of comment cards: how many cards, and the edits, such as `R20`, the
 /// card at place 20 goes, and `I20`, this card comes in at place 20.
-fn record_edits(answer: &mut Answer, text: &str, card: &[u8]) -> Result<(), AllocError> {
+pub fn record_edits(answer: &mut Answer, text: &str, card: &[u8]) -> Result<(), AllocError> {
     let (count, words) = cut(text);
-    let name = name_of("M")?;
-    let mut kept = new_record(answer.alloc, name, comment_cards(answer.alloc, count)?)?;
+    let mut cards = Vec::new(answer.alloc);
+    push_cards(&mut cards, number(count).min(20_000), "*A")?;
+    let mut kept = new_record(answer.alloc, name_of("M")?, cards)?;
     make_edits(answer, &mut kept, words, card)
-}
-
-/// So many comment cards.
-fn comment_cards(alloc: Global, count: &str) -> Result<Vec<Card>, AllocError> {
-    let mut cards = Vec::new(alloc);
-    push_cards(&mut cards, size(count).min(20_000), "*A")?;
-    Ok(cards)
 }

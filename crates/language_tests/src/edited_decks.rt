@@ -1,13 +1,13 @@
 //! Decks that are edited: behind each edit a record has its name and the cards that the edit makes outside of it,
 //! and gives the listing and the image of a new deck of these.
 
-use crate::deck_topics::repeated_cards;
+use crate::card_topics::{counted, repeated_cards};
 use crate::outputs::Answer;
-use crate::statement_topics::{Counts, put_counts};
+use crate::statement_topics::counts;
 use cards::{Card, Edit, copied_cards, edited_copy, first_fault};
 use deck_linker::{Publication, link};
 use deck_objects::SharedObject;
-use edit_core::{Kept, RecordFault};
+use edit_core::Kept;
 use std::alloc::{AllocError, Global};
 use std::slice;
 use test_parts::{cut, fixed_keys, name_of, new_object, new_record, number};
@@ -16,28 +16,19 @@ use work_meter::Meter;
 /// The name of each deck.
 const NAME: &str = "M";
 
-/// Whether this is a topic here; what is found of the text is then in the answer.
-pub fn answer(answer: &mut Answer, topic: &str, text: &str) -> Result<bool, AllocError> {
-    let is_counted = topic == "counted_edits";
-    if !is_counted && topic != "edited_decks" {
-        return Ok(false);
-    }
+/// Makes the edits behind a line `EDITS` in the record of the deck in front of it.
+pub fn edited_deck(answer: &mut Answer, topic: &str, text: &str) -> Result<(), AllocError> {
     let (deck, edits) = text.split_once("EDITS\n").unwrap_or((text, ""));
-    edited_deck(answer, deck, edits, is_counted)?;
-    Ok(true)
-}
-
-/// Makes the edits of these lines in the record of a deck.
-fn edited_deck(
-    answer: &mut Answer,
-    deck: &str,
-    edits: &str,
-    is_counted: bool,
-) -> Result<(), AllocError> {
     let name = name_of(NAME)?;
     let mut cards = repeated_cards(answer.alloc, deck)?;
     let mut kept = new_record(answer.alloc, name, copied_cards(answer.alloc, &cards)?)?;
-    edited(answer, &mut kept, &mut cards, edits, is_counted)
+    edited(
+        answer,
+        &mut kept,
+        &mut cards,
+        edits,
+        topic == "counted_edits",
+    )
 }
 
 /// Makes the edits of these lines, one after the other, in the record and of the cards, and looks after each.
@@ -48,19 +39,18 @@ fn edited(
     edits: &str,
     is_counted: bool,
 ) -> Result<(), AllocError> {
-    let mut are_same = true;
     for line in edits.lines() {
         match edits_of_line(answer.alloc, kept, cards, line)? {
-            Some(most) if is_counted => put_counts(answer, most),
+            Some((sized, coded)) if is_counted => counts(answer, sized, coded),
             Some(_) => {}
-            None => are_same = false,
-        }
-        if !are_same {
-            answer.word(line);
-            break;
+            None => {
+                answer.word(line);
+                answer.word("differs");
+                return Ok(());
+            }
         }
     }
-    answer.either(are_same, "same", "differs");
+    answer.word("same");
     Ok(())
 }
 
@@ -71,25 +61,19 @@ fn edits_of_line(
     kept: &mut Kept,
     cards: &mut Vec<Card>,
     line: &str,
-) -> Result<Option<Counts>, AllocError> {
-    let (times, line) = match line.strip_prefix("#") {
-        Some(counted) => cut(counted),
-        None => ("1", line),
-    };
+) -> Result<Option<(u64, u64)>, AllocError> {
+    let (times, line) = counted(line);
     let Some(edit) = edit_of(line) else {
         return Ok(None);
     };
-    let mut most = Counts { sized: 0, coded: 0 };
-    for _ in 0..number(times) {
+    let mut most = (0, 0);
+    for _ in 0..times {
         let mut done = work_meter::begin();
         *cards = edited_cards(alloc, cards.as_slice(), &edit)?;
         if !is_edited(alloc, kept, cards.as_slice(), &edit, &mut done)? {
             return Ok(None);
         }
-        most = Counts {
-            sized: most.sized.max(done.sized()),
-            coded: most.coded.max(done.coded()),
-        };
+        most = (done.sized().max(most.0), done.coded().max(most.1));
     }
     Ok(Some(most))
 }
@@ -127,10 +111,8 @@ fn is_edited(
     edit: &Edit,
     done: &mut Meter,
 ) -> Result<bool, AllocError> {
-    match kept.edit(alloc, fixed_keys()?, edit, done) {
-        Err(RecordFault::OutOfMemory) => Err(AllocError),
-        _ => Ok(has_cards(kept, cards) && is_as_new(alloc, kept, cards)?),
-    }
+    let _ = kept.edit(alloc, fixed_keys()?, edit, done);
+    Ok(has_cards(kept, cards) && is_as_new(alloc, kept, cards)?)
 }
 
 /// Whether a record has its name and these cards.
@@ -146,19 +128,14 @@ fn has_cards(kept: &Kept, cards: &[Card]) -> bool {
     true
 }
 
-/// The link of a new object of these cards.
-fn published_anew(alloc: Global, cards: &[Card]) -> Result<Publication, AllocError> {
-    let name = name_of(NAME)?;
-    published(alloc, new_object(alloc, name, copied_cards(alloc, cards)?)?)
-}
-
 /// Whether listing and image of a record's object are those of a new object of these cards.
 fn is_as_new(alloc: Global, kept: &Kept, cards: &[Card]) -> Result<bool, AllocError> {
     let Ok(object) = kept.finish() else {
         return Ok(false);
     };
     let found = published(alloc, object)?;
-    let new = published_anew(alloc, cards)?;
+    let new = new_object(alloc, name_of(NAME)?, copied_cards(alloc, cards)?)?;
+    let new = published(alloc, new)?;
     Ok(found.listing() == new.listing() && found.image() == new.image())
 }
 

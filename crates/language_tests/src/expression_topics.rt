@@ -1,15 +1,12 @@
 //! Expressions: their elements, sums, literals and values.
 
-use crate::outputs::Answer;
+use crate::outputs::{Answer, MOST};
 use definitions::{ItemText, NumberBase};
 use expr_forms::{
     Element, Expr, Form, Link, Literal, Number, Operator, Part, RegisterKind, Relocation,
     SumRegisters, one_value, value,
 };
 use test_parts::KnownNames;
-
-/// How many links, symbols or literals are looked at, at most.
-const MOST: usize = 12;
 
 /// Whether this is one of the topics here; what is found of the text is then in the answer.
 pub fn answer(answer: &mut Answer, topic: &str, text: &str) -> bool {
@@ -40,11 +37,25 @@ fn of_expression(answer: &mut Answer, topic: &str, expression: &Expr<'_>) -> boo
         "undefined_values" => valued(answer, expression, None),
         "elements" => elements(answer, expression),
         "sums" => sum(answer, expression),
-        "signs" => answer.debug(&expression.copied().sign()),
-        "signs_beside" => sign_beside(answer, expression),
-        "whole_items" => whole_item(answer, expression),
-        "literals" => literals(answer, expression),
-        "symbols" => symbols(answer, expression),
+        "signs" => sign(answer, expression),
+        "signs_beside" => answer.or_none(&expression.take_apart().others, sign),
+        "whole_items" => answer.or_none(&expression.whole_item(), item),
+        "literals" => {
+            let mut literals = expression.literals();
+            for _ in 0..MOST {
+                if let Some(found) = literals.next() {
+                    literal(answer, &found);
+                }
+            }
+        }
+        "symbols" => {
+            let mut symbols = expression.symbols();
+            for _ in 0..MOST {
+                if let Some(found) = symbols.next() {
+                    symbol(answer, &found);
+                }
+            }
+        }
         _ => return false,
     }
     true
@@ -60,23 +71,19 @@ fn letter_or(answer: &mut Answer, found: Result<Expr<'_>, definitions::Letter>, 
 
 /// The number of a form, and what is added to it or subtracted.
 pub fn form(answer: &mut Answer, form: &Form) {
-    answer.signed(form.number());
+    answer.number(&form.number());
     let (sign, relocation) = match form.part() {
         None => return,
         Some(Part::Added(relocation)) => ("+", relocation),
         Some(Part::Subtracted(relocation)) => ("-", relocation),
     };
+    let (word, name) = match relocation {
+        Relocation::Block(name) => ("block", name),
+        Relocation::External(name) => ("external", name),
+    };
     answer.word(sign);
-    match relocation {
-        Relocation::Block(name) => {
-            answer.word("block");
-            answer.bare(name.as_slice())
-        }
-        Relocation::External(name) => {
-            answer.word("external");
-            answer.bare(name.as_slice())
-        }
-    }
+    answer.word(word);
+    answer.bare(name.as_slice())
 }
 
 /// The value of an expression, where each symbol has this one; each literal stands at 100, and the
@@ -88,15 +95,12 @@ fn valued(answer: &mut Answer, expression: &Expr<'_>, symbol: Option<Form>) {
         location: Form::absolute(10),
         origin: Form::absolute(20),
     };
-    match value(expression, &names) {
-        Ok(found) => form(answer, &found),
-        Err(letter) => answer.debug(&letter),
-    }
+    answer.or_fault(&value(expression, &names), form)
 }
 
 pub fn number(answer: &mut Answer, number: &Number) {
     match number {
-        Number::Value(size) => answer.decimal(size.value),
+        Number::Value(size) => answer.number(&size.value),
         Number::TooGreat => answer.word("too great"),
     }
 }
@@ -163,41 +167,13 @@ fn sum(answer: &mut Answer, expression: &Expr<'_>) {
         SumRegisters::Text(text) => answer.quoted(text.as_slice()),
         SumRegisters::TooMany => answer.word("too many"),
     }
-    match &sum.others {
-        Some(others) => elements(answer, others),
-        None => answer.word("none"),
-    }
+    answer.or_none(&sum.others, elements)
 }
 
-/// The sign of what is left of a sum without its registers.
-fn sign_beside(answer: &mut Answer, expression: &Expr<'_>) {
-    match &expression.take_apart().others {
-        Some(others) => answer.debug(&others.sign()),
-        None => answer.word("none"),
-    }
+fn sign(answer: &mut Answer, expression: &Expr<'_>) {
+    answer.debug(&expression.copied().sign())
 }
 
-fn whole_item(answer: &mut Answer, expression: &Expr<'_>) {
-    match expression.whole_item() {
-        Some(text) => item(answer, &text),
-        None => answer.word("none"),
-    }
-}
-
-fn literals(answer: &mut Answer, expression: &Expr<'_>) {
-    let mut literals = expression.literals();
-    for _ in 0..MOST {
-        if let Some(found) = literals.next() {
-            literal(answer, &found);
-        }
-    }
-}
-
-fn symbols(answer: &mut Answer, expression: &Expr<'_>) {
-    let mut symbols = expression.symbols();
-    for _ in 0..MOST {
-        if let Some(name) = symbols.next() {
-            answer.bare(name);
-        }
-    }
+pub fn symbol(answer: &mut Answer, name: &&[u8]) {
+    answer.bare(name)
 }

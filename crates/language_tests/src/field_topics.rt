@@ -1,32 +1,30 @@
 //! Variable fields that are no instruction's: how a person reads them.
 
-use crate::expression_topics::{item, number};
-use crate::outputs::Answer;
-use definitions::{DeckKind, Letter, NumberBase};
+use crate::expression_topics::{item, number, symbol};
+use crate::outputs::{Answer, MOST};
+use definitions::{DeckKind, NumberBase};
 use expr_forms::{
-    BitFields, ConWords, DataWords, Datum, DisText, Expr, LinkedNames, Operand, Subfields,
-    UseField, dis_text, is_symbol, number_base, operand, use_field,
+    BitField, BitFields, ConWords, DataWords, Datum, DisText, Expr, Link, LinkedNames, Operand,
+    Subfields, UseField, dis_text, is_symbol, number_base, operand, use_field,
 };
 use test_parts::cut;
 
-/// How many subfields are looked at, at most.
-const MOST: usize = 8;
-
 /// Whether this is one of the topics here; what is found of the text is then in the answer.
 pub fn answer(answer: &mut Answer, topic: &str, text: &str) -> bool {
-    let bytes = text.as_bytes();
+    let (bytes, decimal, octal) = (text.as_bytes(), NumberBase::Decimal, NumberBase::Octal);
     if bytes.len() > 711 {
         return false;
     }
     match topic {
         "subfields" => subfields(answer, Subfields::new(bytes).copied()),
-        "operands" => operands(answer, operand(bytes, NumberBase::Decimal)),
-        "data" => data(answer, DataWords::read(bytes, NumberBase::Decimal)),
-        "octal_data" => data(answer, DataWords::read(bytes, NumberBase::Octal)),
-        "con" => con(answer, ConWords::read(bytes, false, NumberBase::Decimal)),
-        "con_literals" => con(answer, ConWords::read(bytes, true, NumberBase::Decimal)),
-        "vfd" => bit_fields(answer, BitFields::read(bytes, true, NumberBase::Decimal)),
-        "dis" | "octal_dis_periph" => dis(answer, topic, bytes),
+        "operands" => answer.or_fault(&operand(bytes, decimal), operands),
+        "data" => answer.or_fault(&DataWords::read(bytes, decimal), data),
+        "octal_data" => answer.or_fault(&DataWords::read(bytes, octal), data),
+        "con" => answer.or_fault(&ConWords::read(bytes, false, decimal), con),
+        "con_literals" => answer.or_fault(&ConWords::read(bytes, true, decimal), con),
+        "vfd" => answer.or_fault(&BitFields::read(bytes, true, decimal), bit_fields),
+        "dis" => answer.or_fault(&dis_text(bytes, decimal, DeckKind::Rel), dis),
+        "octal_dis_periph" => answer.or_fault(&dis_text(bytes, octal, DeckKind::Periph), dis),
         "entries" => entries(answer, LinkedNames::new(bytes).copied()),
         "uses" => block_used(answer, text),
         "bases" => answer.debug(&number_base(bytes)),
@@ -36,28 +34,31 @@ pub fn answer(answer: &mut Answer, topic: &str, text: &str) -> bool {
     true
 }
 
+fn subfield(answer: &mut Answer, text: &&[u8]) {
+    answer.quoted(text)
+}
+
 fn subfields(answer: &mut Answer, mut subfields: Subfields<'_>) {
     for _ in 0..MOST {
-        if let Some(text) = subfields.next() {
-            answer.quoted(text);
+        if let Some(found) = subfields.next() {
+            subfield(answer, &found);
         }
     }
 }
 
 /// The texts of an operand's subfields.
-fn operands(answer: &mut Answer, found: Result<Operand<'_>, Letter>) {
-    match &found {
-        Ok(Operand::One(first)) => answer.quoted(first.text),
-        Ok(Operand::Two(first, second)) => {
+fn operands(answer: &mut Answer, found: &Operand<'_>) {
+    match found {
+        Operand::One(first) => answer.quoted(first.text),
+        Operand::Two(first, second) => {
             answer.quoted(first.text);
             answer.quoted(second.text)
         }
-        Ok(Operand::Three(first, second, third)) => {
+        Operand::Three(first, second, third) => {
             answer.quoted(first.text);
             answer.quoted(second.text);
             answer.quoted(third.text)
         }
-        Err(letter) => answer.debug(letter),
     }
 }
 
@@ -73,76 +74,57 @@ fn datum(answer: &mut Answer, datum: &Datum<'_>) {
     }
 }
 
+fn operator(answer: &mut Answer, link: &Link<'_>) {
+    answer.debug(&link.operator)
+}
+
 /// The operators of an expression.
 fn operators(answer: &mut Answer, expression: &Expr<'_>) {
     let mut links = expression.links();
     answer.word("links");
     for _ in 0..MOST {
-        if let Some(link) = links.next() {
-            answer.debug(&link.operator);
+        if let Some(found) = links.next() {
+            operator(answer, &found);
         }
     }
 }
 
-fn data(answer: &mut Answer, words: Result<DataWords<'_>, Letter>) {
-    match words {
-        Ok(words) => {
-            let mut words = words.copied();
-            for _ in 0..MOST {
-                if let Some(found) = words.next() {
-                    datum(answer, &found);
-                }
-            }
+fn data(answer: &mut Answer, words: &DataWords<'_>) {
+    let mut words = words.copied();
+    for _ in 0..MOST {
+        if let Some(found) = words.next() {
+            datum(answer, &found);
         }
-        Err(letter) => answer.debug(&letter),
     }
 }
 
-fn con(answer: &mut Answer, words: Result<ConWords<'_>, Letter>) {
-    match words {
-        Ok(words) => {
-            let mut words = words.copied();
-            for _ in 0..MOST {
-                if let Some(found) = words.next() {
-                    datum(answer, &found);
-                }
-            }
+fn con(answer: &mut Answer, words: &ConWords<'_>) {
+    let mut words = words.copied();
+    for _ in 0..MOST {
+        if let Some(found) = words.next() {
+            datum(answer, &found);
         }
-        Err(letter) => answer.debug(&letter),
     }
 }
 
-/// The width of each field, and whether it has a value.
-fn bit_fields(answer: &mut Answer, fields: Result<BitFields<'_>, Letter>) {
-    match fields {
-        Ok(fields) => {
-            let mut fields = fields.copied();
-            for _ in 0..MOST {
-                if let Some(field) = fields.next() {
-                    answer.decimal(u64::from(field.width));
-                    answer.either(field.value.is_some(), "value", "-");
-                }
-            }
+/// The width of a field, and whether it has a value.
+fn bit_field(answer: &mut Answer, field: &BitField<'_>) {
+    answer.number(&field.width);
+    answer.either(field.value.is_some(), "value", "-");
+}
+
+fn bit_fields(answer: &mut Answer, fields: &BitFields<'_>) {
+    let mut fields = fields.copied();
+    for _ in 0..MOST {
+        if let Some(found) = fields.next() {
+            bit_field(answer, &found);
         }
-        Err(letter) => answer.debug(&letter),
     }
 }
 
 /// How many words a text has, and its characters.
-fn dis(answer: &mut Answer, topic: &str, field: &[u8]) {
-    let found = if topic == "dis" {
-        dis_text(field, NumberBase::Decimal, DeckKind::Rel)
-    } else {
-        dis_text(field, NumberBase::Octal, DeckKind::Periph)
-    };
-    match found {
-        Ok(text) => dis_characters(answer, &text),
-        Err(letter) => answer.debug(&letter),
-    }
-}
-
-fn dis_characters(answer: &mut Answer, text: &DisText<'_>) {
-    answer.decimal(text.words() as u64);
+fn dis(answer: &mut Answer, text: &DisText<'_>) {
+    answer.number(&text.words());
     let mut characters = [b' '; 40];
     let len = text.len().min(characters.len());
     for (index, place) in characters.iter_mut().enumerate() {
@@ -153,13 +135,15 @@ fn dis_characters(answer: &mut Answer, text: &DisText<'_>) {
     answer.quoted(characters.split_at(len).0)
 }
 
+fn entry(answer: &mut Answer, name: &Option<&[u8]>) {
+    answer.or_none(name, symbol)
+}
+
 /// The names of an ENTRY or EXT, and `none` for each subfield that is no name.
 fn entries(answer: &mut Answer, mut names: LinkedNames<'_>) {
     for _ in 0..MOST {
-        match names.next() {
-            Some(Some(name)) => answer.bare(name),
-            Some(None) => answer.word("none"),
-            None => return,
+        if let Some(found) = names.next() {
+            entry(answer, &found);
         }
     }
 }
@@ -167,15 +151,19 @@ fn entries(answer: &mut Answer, mut names: LinkedNames<'_>) {
 /// What a USE with this field does in a deck of a kind.
 fn block_used(answer: &mut Answer, text: &str) {
     let (kind, field) = cut(text);
-    let kind = match kind {
-        "ABS" => DeckKind::Abs,
-        "PERIPH" => DeckKind::Periph,
-        _ => DeckKind::Rel,
-    };
-    match use_field(field.as_bytes(), kind) {
+    match use_field(field.as_bytes(), kind_of(kind)) {
         UseField::UseName(name) => answer.quoted(name.as_slice()),
         UseField::UseBefore => answer.word("before"),
         UseField::Refused => answer.word("refused"),
         UseField::Bad => answer.word("bad"),
+    }
+}
+
+/// The kind of a deck by its word.
+pub fn kind_of(word: &str) -> DeckKind {
+    match word {
+        "ABS" => DeckKind::Abs,
+        "PERIPH" => DeckKind::Periph,
+        _ => DeckKind::Rel,
     }
 }

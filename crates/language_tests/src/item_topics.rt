@@ -1,41 +1,111 @@
-//! Fields that expressions and numbers give, worked in bits.
+//! Items and values as the manual's words, the bits of instructions, and fields that expressions and numbers give.
+ghost use Rattle.std.specs.Prelude.{◌≤◌};
 
-use crate::coding_topics::{expression, shape_of};
 use crate::expression_topics::form;
+use crate::field_topics::kind_of;
 use crate::outputs::Answer;
-use definitions::DeckKind;
-use expr_forms::{Form, Magnitude, Name, Number, Part, Relocation, Sign};
+use definitions::{DeckKind, Letter, NumberBase};
+use expr_forms::{
+    CountedItem, Expr, Field, Form, Magnitude, Name, Number, Part, Relocation, Shape, Sign,
+    characters_number, coded_in, counted_item_in, counted_item_word, item_literal, item_number,
+};
 use statement_coder::{
     Content, InstructionItems, Item, bit_field_item, count_item, displacement_item,
     expression_item, instruction_items, number_item, shift_item, value_item, zeros_to_word,
 };
 use test_parts::{KnownNames, OneBlock, cut, small};
 
-/// Whether this is one of the topics here; what is found of the text is then in the answer.
-pub fn answer(answer: &mut Answer, topic: &str, text: &str) -> bool {
-    match topic {
-        "item_fields" => return item_field(answer, text),
-        "negative_numbers" => negative(answer, text),
-        "zeros" => zeros(answer, text),
-        "instruction_fields" => instruction_field(answer, text),
-        _ => return false,
+/// What an item with this letter gives: in a field of 60 bits, as words, as a literal and as a number.
+pub fn counted_item(answer: &mut Answer, text: &str) {
+    let (letter, characters) = cut(text);
+    let letter = letter.as_bytes().first().copied().unwrap_or(b' ');
+    let Some(item) = CountedItem::read(letter, characters.as_bytes()) else {
+        return answer.word("no item");
+    };
+    match counted_item_in(60, &item) {
+        Some(bits) => answer.octal(&bits),
+        None => answer.word("too long"),
     }
-    true
+    answer.octal(&item_literal(&item));
+    answer.or_fault(&item_number(&item), Answer::octal);
+    words_of_item(answer, &item)
+}
+
+/// The words that an item fills.
+fn words_of_item(answer: &mut Answer, item: &CountedItem<'_>) {
+    let words = item.words_needed(DeckKind::Rel);
+    answer.word("words");
+    for index in 0..words {
+        answer.octal(&counted_item_word(item, DeckKind::Rel, index));
+    }
+}
+
+/// The width of a field: 1 to 60 bits.
+fn width_of(text: &str) -> u32
+    ensures { (1 ≤ result) × (result ≤ 60) }
+{
+    small(text).clamp(1, 60)
+}
+
+/// A value in a field of so many bits.
+pub fn coded(answer: &mut Answer, text: &str) {
+    let (width, value) = cut(text);
+    let value = i64::from_str_radix(value, 8).unwrap_or(0);
+    answer.or_none(&coded_in(width_of(width), value), Answer::octal)
+}
+
+pub fn characters(answer: &mut Answer, text: &str) {
+    if text.len() > 10 {
+        return answer.word("too long");
+    }
+    answer.octal(&characters_number(text.as_bytes()))
+}
+
+fn expression(text: &str) -> Result<Expr<'_>, Letter> {
+    let bytes = text.as_bytes();
+    if bytes.len() > 711 {
+        return Err(Letter::C);
+    }
+    Expr::parse(bytes, NumberBase::Decimal)
+}
+
+/// An instruction with digits and a field of a kind, which an expression gives.
+pub fn shape_of(text: &str) -> Option<Shape<'_>> {
+    let (kind, text) = cut(text);
+    let first = expression(text).ok()?;
+    let (digits, digit_count, field) = match kind {
+        "absent" => (0, 5, Field::Absent),
+        "address" => (0, 4, Field::Address(first)),
+        "short" => (0, 2, Field::Short(first)),
+        "mask" => (0o430, 3, Field::Count(first)),
+        "long" => (0o50, 2, Field::Long(first, None)),
+        "long,5" => (0o50, 2, Field::Long(first, expression("5").ok())),
+        _ => return None,
+    };
+    Some(Shape {
+        digits,
+        digit_count,
+        field,
+    })
+}
+
+/// The bits of an instruction.
+pub fn width(answer: &mut Answer, shape: &Shape<'_>) {
+    answer.number(&shape.width())
 }
 
 /// The width of a field and its bits, or the form that is left to the link, and its letter.
 pub fn item(answer: &mut Answer, item: &Item) {
-    answer.decimal(u64::from(item.width));
+    answer.number(&item.width);
     match &item.content {
-        Content::Known(bits) => answer.octal(*bits),
+        Content::Known(bits) => answer.octal(bits),
         Content::Linked(left) => {
             answer.word("linked");
             form(answer, left);
         }
     }
-    match &item.letter {
-        Some(letter) => answer.debug(letter),
-        None => {},
+    if let Some(letter) = &item.letter {
+        answer.debug(letter);
     }
 }
 
@@ -72,11 +142,11 @@ fn names_of_block() -> KnownNames {
 }
 
 /// The field of a kind, which an expression gives.
-fn item_field(answer: &mut Answer, text: &str) -> bool {
+pub fn item_field(answer: &mut Answer, text: &str) {
     let (kind, text) = cut(text);
     let names = names_of_block();
     let Ok(expression) = expression(text) else {
-        return false;
+        return answer.word("no such row");
     };
     let found = match kind {
         "count" => count_item(&names, &expression),
@@ -85,46 +155,32 @@ fn item_field(answer: &mut Answer, text: &str) -> bool {
         "rel60" => expression_item(DeckKind::Rel, &OneBlock, &names, 60, &expression),
         "rel17" => value_item(DeckKind::Rel, &OneBlock, 17, Ok(in_block(5))),
         "abs18" => bit_field_item(DeckKind::Abs, &OneBlock, &names, 18, &Some(expression)),
-        "rel18" => bit_field_item(DeckKind::Rel, &OneBlock, &names, 18, &Some(expression)),
-        _ => return false,
+        _ => bit_field_item(DeckKind::Rel, &OneBlock, &names, 18, &Some(expression)),
     };
-    item(answer, &found);
-    true
+    item(answer, &found)
 }
 
 /// A field of so many bits with minus 1.
-fn negative(answer: &mut Answer, width: &str) {
-    let width = small(width);
-    if width < 1 || width > 60 {
-        return answer.word("no such row");
-    }
+pub fn negative(answer: &mut Answer, width: &str) {
     let one = Number::Value(Magnitude { value: 1 });
-    item(answer, &number_item(width, Sign::Minus, one))
+    item(answer, &number_item(width_of(width), Sign::Minus, one))
 }
 
 /// The zeros behind so many bits of a deck of a kind.
-fn zeros(answer: &mut Answer, text: &str) {
+pub fn zeros(answer: &mut Answer, text: &str) {
     let (kind, bits) = cut(text);
-    let kind = if kind == "REL" {
-        DeckKind::Rel
-    } else {
-        DeckKind::Periph
-    };
-    item(answer, &zeros_to_word(kind, small(bits)))
+    item(answer, &zeros_to_word(kind_of(kind), small(bits)))
 }
 
-/// The fields of an instruction with a field of a kind.
-fn instruction_field(answer: &mut Answer, text: &str) {
-    let kind = if text.starts_with("mask") {
-        DeckKind::Rel
-    } else {
-        DeckKind::Periph
+/// The fields of an instruction with a field of a kind: of a REL deck where that is a mask.
+pub fn instruction_field(answer: &mut Answer, text: &str) {
+    let Some(shape) = shape_of(text) else {
+        return answer.word("no such row");
     };
-    match shape_of(text) {
-        Some(shape) => {
-            let items = instruction_items(kind, &OneBlock, &names_of_block(), &shape);
-            fields_of_instruction(answer, &items)
-        }
-        None => answer.word("no such row"),
-    }
+    let kind = match &shape.field {
+        Field::Count(_) => DeckKind::Rel,
+        _ => DeckKind::Periph,
+    };
+    let items = instruction_items(kind, &OneBlock, &names_of_block(), &shape);
+    fields_of_instruction(answer, &items)
 }

@@ -8,15 +8,9 @@
 //! something of the rows below.
 #![tactic(auto)]
 
-mod block_topics;
 mod card_topics;
-mod case_answer;
-mod case_files;
 mod cases;
-mod coding_topics;
-mod comparing;
 mod deck_topics;
-mod edit_topics;
 mod edited_decks;
 mod expression_topics;
 mod field_topics;
@@ -28,11 +22,12 @@ mod port_topics;
 mod score;
 mod statement_topics;
 mod tables;
+mod topics;
 
 use cases::run_cases;
 use outputs::Answer;
 use score::Score;
-use std::alloc::{AllocError, AllocGlobal};
+use std::alloc::AllocGlobal;
 use std::process::ExitCode;
 use std::rt::Files;
 use std::{fs, io};
@@ -42,52 +37,12 @@ use test_parts::fixed_keys;
 /// The status where a table or the list of the cases can't be read.
 const NOTHING_STATUS: u8 = 2;
 
-/// Answers what ports, cards, edits and operations make of a text, where the topic is one of theirs.
-fn lower_answer(answer: &mut Answer, topic: &str, text: &str) -> Result<bool, AllocError> {
-    Ok(
-        port_topics::answer(answer, topic, text)?
-            || card_topics::answer(answer, topic, text)?
-            || edit_topics::answer(answer, topic, text)?
-            || operation_topics::answer(answer, topic, text)?,
-    )
-}
-
-/// Answers what variable fields, items, blocks and places make of a text, where the topic is one of theirs.
-fn field_answer(answer: &mut Answer, topic: &str, text: &str) -> Result<bool, AllocError> {
-    Ok(
-        field_topics::answer(answer, topic, text)
-            || coding_topics::answer(answer, topic, text)
-            || block_topics::answer(answer, topic, text)?,
-    )
-}
-
-/// Answers what items, statements, decks, links and, for all other topics, expressions make of a text.
-fn upper_answer(answer: &mut Answer, topic: &str, text: &str) -> Result<bool, AllocError> {
-    Ok(
-        item_topics::answer(answer, topic, text)
-            || statement_topics::answer(answer, topic, text)?
-            || link_topics::answer(answer, topic, text)?
-            || deck_topics::answer(answer, topic, text)?
-            || edited_decks::answer(answer, topic, text)?
-            || expression_topics::answer(answer, topic, text),
-    )
-}
-
-/// Answers what the topic's layer makes of a text.
-fn find(answer: &mut Answer, topic: &str, text: &str) -> Result<(), AllocError> {
-    let is_known = lower_answer(answer, topic, text)?
-        || field_answer(answer, topic, text)?
-        || upper_answer(answer, topic, text)?;
-    if !is_known {
-        answer.word("no such topic");
-    }
-    Ok(())
-}
-
 /// Whether what is found for a row is as wanted; a line shows where it is not.
 fn is_met<R: AllocGlobal + Print>(rt: &R, topic: &str, row: &Row) -> io::Result<bool> {
     let mut answer = Answer::new(rt.alloc(), fixed_keys()?);
-    find(&mut answer, topic, row.text.as_str())?;
+    if !topics::answer(&mut answer, topic, row.text.as_str())? {
+        answer.word("no such topic");
+    }
     let found = answer.text()?;
     let is_met = found == row.wanted.as_str();
     if !is_met {
@@ -110,21 +65,19 @@ fn run_topic<R: AllocGlobal + Files + Print>(
     Ok(score)
 }
 
-/// Goes through all tables, and prints how many rows are as wanted.
-fn run_rows<R: AllocGlobal + Files + Print>(rt: &R) -> io::Result<Score> {
+/// Goes through all tables, and prints how many rows are as wanted: 0 where all are, else 1.
+fn run_rows<R: AllocGlobal + Files + Print>(rt: &R) -> io::Result<u8> {
     let mut score = Score::none();
     for topic in fs::read_to_string(rt, "topics")?.as_str().lines() {
         score = run_topic(rt, topic, score)?;
     }
-    score.tell(rt, "rows")?;
-    Ok(score)
+    score.tell(rt, "rows")
 }
 
 /// Goes through all tables and all cases: 0 where all are as wanted, else 1.
 fn run_all<R: AllocGlobal + Files + Print>(rt: &R) -> io::Result<u8> {
-    let of_rows = run_rows(rt)?.status();
-    let of_cases = run_cases(rt)?.status();
-    Ok(of_rows.max(of_cases))
+    let of_rows = run_rows(rt)?;
+    Ok(of_rows.max(run_cases(rt)?))
 }
 
 fn main(rt: HostRuntime) -> ExitCode {

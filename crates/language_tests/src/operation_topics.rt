@@ -2,40 +2,16 @@
 
 use crate::outputs::Answer;
 use definitions::{Letter, NumberBase};
-use expr_forms::{Field, Operand, Shape, operand};
+use expr_forms::{Field, Shape, operand};
 use operations::central::{
     Code, RegistersFound, central_rows, ignoring_rows, is_central, sum_rows,
 };
-use operations::{KindSearch, Letters, Operation, is_end, number_base_set, pseudo_instruction};
+use operations::{
+    KindSearch, Letters, Operation, central, is_end, number_base_set, peripheral,
+    pseudo_instruction,
+};
 use std::alloc::AllocError;
 use test_parts::{bytes_of, cut};
-
-/// Whether this is one of the topics here; what is found of the text is then in the answer.
-pub fn answer(answer: &mut Answer, topic: &str, text: &str) -> Result<bool, AllocError> {
-    match topic {
-        "operations" => operation(answer, text),
-        "classes" => classes(answer, text),
-        "deck_kinds" => deck_kind(answer, text),
-        "settings" => settings(answer, text),
-        "letters" => letters(answer, text),
-        "central_codes" => central_codes(answer, text),
-        "central_tables" => central_table(answer, text),
-        "central_digits" => central_digits(answer, text)?,
-        "central" | "peripheral" | "peripheral_codes" => instruction(answer, topic, text),
-        "central_ignoring" => shown(answer, operations::central::ignoring(text.as_bytes())),
-        "peripheral_ignoring" => shown(answer, operations::peripheral::ignoring(text.as_bytes())),
-        _ => return Ok(false),
-    }
-    Ok(true)
-}
-
-/// The pseudo instruction of a name.
-fn operation(answer: &mut Answer, name: &str) {
-    match pseudo_instruction(name.as_bytes()) {
-        Some(operation) => answer.debug(&operation),
-        None => answer.word("none"),
-    }
-}
 
 /// An operation by its name, where SA1 stands for each instruction, and no name for what is unknown.
 fn operation_named(name: &str) -> Operation {
@@ -47,7 +23,7 @@ fn operation_named(name: &str) -> Operation {
 }
 
 /// The classes of the operation with this name.
-fn classes(answer: &mut Answer, name: &str) {
+pub fn classes(answer: &mut Answer, name: &str) {
     let found = operation_named(name);
     answer.either(found.is_neutral(), "neutral", "-");
     answer.either(found.is_instruction(), "instruction", "-");
@@ -59,7 +35,7 @@ fn classes(answer: &mut Answer, name: &str) {
 }
 
 /// The kind of a deck whose statements have these operations.
-fn deck_kind(answer: &mut Answer, text: &str) {
+pub fn deck_kind(answer: &mut Answer, text: &str) {
     let mut search = KindSearch::new();
     for name in text.split_whitespace() {
         search.read(name.as_bytes());
@@ -69,7 +45,7 @@ fn deck_kind(answer: &mut Answer, text: &str) {
 }
 
 /// Whether an operation ends a deck, and the base that it sets with a variable field.
-fn settings(answer: &mut Answer, text: &str) {
+pub fn settings(answer: &mut Answer, text: &str) {
     let (name, variable) = cut(text);
     answer.either(is_end(name.as_bytes()), "end", "-");
     answer.debug(&number_base_set(name.as_bytes(), variable.as_bytes()))
@@ -84,7 +60,7 @@ fn letter_of(text: &str) -> Letter {
 }
 
 /// The text of the letters A, O or V: two of them together, and a third.
-fn letters(answer: &mut Answer, text: &str) {
+pub fn letters(answer: &mut Answer, text: &str) {
     let (first, rest) = cut(text);
     let (second, third) = cut(rest);
     let flags = Letters::of(letter_of(first)).with(letter_of(second));
@@ -100,20 +76,20 @@ fn code(answer: &mut Answer, code: &Code) {
 }
 
 /// The codes of an operation's rows, without those whose operand is a sum.
-fn central_codes(answer: &mut Answer, name: &str) {
+pub fn central_codes(answer: &mut Answer, name: &str) {
     let rows = central_rows(name.as_bytes());
-    answer.decimal(rows.len() as u64);
+    answer.number(&rows.len());
     for row in rows {
         code(answer, &row.form.code);
     }
 }
 
 /// How many rows ignore the operand, or have a sum, or whether there are rows.
-fn central_table(answer: &mut Answer, text: &str) {
+pub fn central_table(answer: &mut Answer, text: &str) {
     let (table, name) = cut(text);
     match table {
-        "ignoring" => answer.decimal(ignoring_rows(name.as_bytes()).len() as u64),
-        "sums" => answer.decimal(sum_rows(name.as_bytes()).len() as u64),
+        "ignoring" => answer.number(&ignoring_rows(name.as_bytes()).len()),
+        "sums" => answer.number(&sum_rows(name.as_bytes()).len()),
         _ => answer.debug(&is_central(name.as_bytes())),
     }
 }
@@ -127,17 +103,16 @@ fn code_of(characters: &[u8]) -> Option<Code> {
 }
 
 /// The digits of a code with i 6, j 1 and k 2.
-fn central_digits(answer: &mut Answer, text: &str) -> Result<(), AllocError> {
+fn digits(answer: &mut Answer, code: &Code) {
+    let digits = code.digits(RegistersFound { i: 6, j: 1, k: 2 });
+    answer.octal(&digits.number);
+    answer.number(&digits.count);
+}
+
+/// The digits of a code that is written with `\` and octal digits for its bytes.
+pub fn central_digits(answer: &mut Answer, text: &str) -> Result<(), AllocError> {
     let characters = bytes_of(answer.alloc, text)?;
-    let registers = RegistersFound { i: 6, j: 1, k: 2 };
-    match code_of(characters.as_slice()) {
-        Some(code) => {
-            let digits = code.digits(registers);
-            answer.octal(digits.number);
-            answer.decimal(digits.count as u64)
-        }
-        None => answer.word("no code"),
-    }
+    answer.or_none(&code_of(characters.as_slice()), digits);
     Ok(())
 }
 
@@ -158,42 +133,32 @@ fn field_word(field: &Field<'_>) -> &'static str {
 }
 
 /// The octal digits of an instruction, how many they are, its field, and its bits.
-fn shape(answer: &mut Answer, shape: &Shape<'_>) {
-    answer.octal(u64::from(shape.digits));
-    answer.decimal(u64::from(shape.digit_count));
+pub fn shape(answer: &mut Answer, shape: &Shape<'_>) {
+    answer.octal(&u64::from(shape.digits));
+    answer.number(&shape.digit_count);
     answer.word(field_word(&shape.field));
-    answer.decimal(u64::from(shape.width()))
+    answer.number(&shape.width())
 }
 
-fn shown(answer: &mut Answer, found: Option<Shape<'_>>) {
-    match found {
-        Some(found) => shape(answer, &found),
-        None => answer.word("none"),
-    }
-}
-
-fn search<'a>(topic: &str, name: &str, read: &Operand<'a>) -> Result<Shape<'a>, Letter> {
-    if topic == "central" {
-        operations::central::find(name.as_bytes(), read)
-    } else {
-        operations::peripheral::find(name.as_bytes(), read)
-    }
-}
-
-/// The instruction of an operation and a variable field, or the letter of what is wrong.
-fn instruction(answer: &mut Answer, topic: &str, text: &str) {
+/// The instruction of an operation and a variable field.
+fn search<'a>(topic: &str, text: &'a str) -> Result<Shape<'a>, Letter> {
     let (name, field) = cut(text);
     let field = field.as_bytes();
     if field.len() > 711 {
-        return answer.word("too long");
+        return Err(Letter::C);
     }
-    let found = match operand(field, NumberBase::Decimal) {
-        Ok(read) => search(topic, name, &read),
-        Err(letter) => Err(letter),
-    };
-    match found {
-        Ok(found) if topic == "peripheral_codes" => answer.octal(u64::from(found.digits)),
-        Ok(found) => shape(answer, &found),
-        Err(letter) => answer.debug(&letter),
+    let read = operand(field, NumberBase::Decimal)?;
+    match topic {
+        "central" => central::find(name.as_bytes(), &read),
+        _ => peripheral::find(name.as_bytes(), &read),
+    }
+}
+
+/// An instruction or its digits, or the letter of what is wrong.
+pub fn instruction(answer: &mut Answer, topic: &str, text: &str) {
+    let found = search(topic, text);
+    match &found {
+        Ok(found) if topic == "peripheral_codes" => answer.octal(&u64::from(found.digits)),
+        _ => answer.or_fault(&found, shape),
     }
 }

@@ -1,9 +1,12 @@
 //! Answers, which are put together from words.
 
 use std::alloc::{AllocError, Global};
-use std::fmt::Debug;
+use std::fmt::{Debug, Display};
 use std::hash::RandomState;
 use test_parts::Answer as Parts;
+
+/// How many of the parts of a text are looked at, at most.
+pub const MOST: usize = 12;
 
 /// Words with a blank between two of them.
 #[derive(Drop)]
@@ -38,6 +41,11 @@ impl Answer {
         self.parts.push(word);
     }
 
+    /// One of two words.
+    pub fn either(&mut self, is_first: bool, first: &str, second: &str) {
+        self.word(if is_first { first } else { second })
+    }
+
     /// Characters as they stand.
     pub fn bare(&mut self, characters: &[u8]) {
         self.space();
@@ -63,17 +71,13 @@ impl Answer {
         }
     }
 
-    pub fn decimal(&mut self, number: u64) {
+    /// A number as a person writes it.
+    pub fn number<T: Display>(&mut self, number: &T) {
         self.space();
-        self.parts.number("", number);
+        self.parts.shown(number);
     }
 
-    pub fn signed(&mut self, number: i64) {
-        self.space();
-        self.parts.shown(&number);
-    }
-
-    pub fn octal(&mut self, number: u64) {
+    pub fn octal(&mut self, number: &u64) {
         self.space();
         let digits = format!(in self.alloc; "{number:o}");
         self.parts.made(digits);
@@ -85,8 +89,27 @@ impl Answer {
         self.parts.debug(value);
     }
 
-    /// One of two words.
-    pub fn either(&mut self, is_first: bool, first: &str, second: &str) {
-        self.word(if is_first { first } else { second })
+    /// What is shown of a value, if there is one.
+    pub fn or_none<T, F: FnOnce(&mut Answer, &T)>(&mut self, found: &Option<T>, show: F)
+        requires { F.IsAlwaysCallable show }
+    {
+        match found {
+            Some(value) => show(self, value),
+            None => self.word("none"),
+        }
+    }
+
+    /// What is shown of a value, or the fault in its place.
+    pub fn or_fault<T, E: Debug, F: FnOnce(&mut Answer, &T)>(
+        &mut self,
+        found: &Result<T, E>,
+        show: F,
+    )
+        requires { F.IsAlwaysCallable show }
+    {
+        match found {
+            Ok(value) => show(self, value),
+            Err(fault) => self.debug(fault),
+        }
     }
 }

@@ -24,18 +24,14 @@ impl Score {
         }
     }
 
-    /// The status of the program: 0 where all are as wanted, else 1.
-    pub fn status(self) -> u8 {
-        u8::from(self.ran != self.as_wanted)
-    }
-
-    /// Prints on a line how many of these are as wanted.
-    pub fn tell<R: Print>(self, rt: &R, what: &str) -> io::Result<()> {
+    /// Prints on a line how many of these are as wanted: the status is 0 where all are, else 1.
+    pub fn tell<R: Print>(self, rt: &R, what: &str) -> io::Result<u8> {
         let Score { ran, as_wanted } = self;
         if ran == as_wanted {
-            println!(rt; "{what}: {ran} are as wanted")
-        } else {
-            println!(rt; "{what}: {as_wanted} of {ran} are as wanted")
+            println!(rt; "{what}: {ran} are as wanted")?;
+            return Ok(0);
         }
+        println!(rt; "{what}: {as_wanted} of {ran} are as wanted")?;
+        Ok(1)
     }
 }

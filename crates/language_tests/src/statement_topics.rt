@@ -1,4 +1,4 @@
-//! Single statements as a deck writes them: their sizes, their codes and their effects.
+//! Single statements as a deck writes them: their sizes, their codes and their effects; and lists of literals.
 ghost use Rattle.std.specs.Prelude.{◌≡◌};
 ghost use Rattle.definitions.specs.Laws.States.{names_of_blocks};
 ghost use Rattle.use_blocks.specs.Joins.BlockLengths.{block_names};
@@ -12,33 +12,59 @@ use expr_forms::{Form, Name};
 use statement_coder::{Coded, CodedItems, Defines, KeptSizing, Sizing, Statement, code, size};
 use std::alloc::{AllocError, Global};
 use std::hash::RandomState;
-use test_parts::{KnownNames, NoBases, cut, octal, small};
+use test_parts::{KnownNames, NoBases, card_of, cut, cut_line, number, octal, small};
 use use_blocks::{
-    Bases, BlockState, Counting, Effect, Lengths, Literals, LocationSetting, location, origin,
+    Bases, BlockState, Counting, Effect, Lengths, Literals, LocationSetting, Position,
+    blocks_are_bounded, blocks_are_few, location, origin,
 };
 use work_meter::Meter;
 
-/// Whether this is one of the topics here; what is found of the text is then in the answer.
-pub fn answer(answer: &mut Answer, topic: &str, text: &str) -> Result<bool, AllocError> {
-    match topic {
-        "sizes" | "codes" => one_card(answer, topic, text)?,
-        "effects" => effects(answer, text)?,
-        "states" => state(answer, text)?,
-        "block_bases" => bases(answer, text)?,
-        "counters" => counters(answer, text),
-        _ => return Ok(false),
+/// A list to which the words 1, 2 and so on up to the first number were added: how many it has, and the
+/// offset of the second number.
+pub fn many_literals(answer: &mut Answer, text: &str) -> Result<(), AllocError> {
+    let (last, word) = cut(text);
+    let mut literals = Literals::new(answer.alloc, answer.keys);
+    for word in 1..=number(last) {
+        literals.add(word)?;
     }
-    Ok(true)
+    answer.number(&literals.len());
+    answer.number(&literals.offset(number(word)));
+    Ok(())
+}
+
+/// A list to which octal numbers were added.
+fn literals_of(alloc: Global, keys: RandomState, text: &str) -> Result<Literals, AllocError> {
+    let mut literals = Literals::new(alloc, keys);
+    for word in text.split_whitespace() {
+        literals.add(octal(word))?;
+    }
+    Ok(literals)
+}
+
+pub fn words(answer: &mut Answer, words: &[u64]) {
+    for word in words {
+        answer.octal(word);
+    }
+}
+
+/// The words of a list of literals, each once, and the offsets of 7, 0 and 9.
+pub fn literals(answer: &mut Answer, text: &str) -> Result<(), AllocError> {
+    blocks_are_few();
+    blocks_are_bounded();
+    let literals = literals_of(answer.alloc, answer.keys, text)?;
+    answer.number(&literals.len());
+    words(answer, literals.words());
+    for word in [7, 0, 9] {
+        answer.word("at");
+        answer.number(&literals.offset(word));
+    }
+    Ok(())
 }
 
 /// Each symbol is 5, or none is defined; each literal stands at 1.
 fn names(value: &str) -> KnownNames {
     KnownNames {
-        value: if value == "5" {
-            Some(Form::absolute(5))
-        } else {
-            None
-        },
+        value: (value == "5").then_some(Form::absolute(5)),
         literal: Form::absolute(1),
         location: Form::absolute(0),
         origin: Form::absolute(0),
@@ -46,24 +72,14 @@ fn names(value: &str) -> KnownNames {
 }
 
 /// How many statements were sized and coded.
-#[derive(Clone, Copy)]
-pub struct Counts {
-    pub sized: u64,
-    pub coded: u64,
-}
-
-pub fn put_counts(answer: &mut Answer, counts: Counts) {
+pub fn counts(answer: &mut Answer, sized: u64, coded: u64) {
     answer.word("done");
-    answer.decimal(counts.sized);
-    answer.decimal(counts.coded)
+    answer.number(&sized);
+    answer.number(&coded)
 }
 
 pub fn meter(answer: &mut Answer, meter: &Meter) {
-    let counts = Counts {
-        sized: meter.sized(),
-        coded: meter.coded(),
-    };
-    put_counts(answer, counts)
+    counts(answer, meter.sized(), meter.coded())
 }
 
 fn defined(answer: &mut Answer, defines: &Defines) {
@@ -79,15 +95,9 @@ fn defined(answer: &mut Answer, defines: &Defines) {
 
 /// One card behind no other, in a REL deck: its sizing or its code; the first word is the value of
 /// each symbol.
-fn one_card(answer: &mut Answer, topic: &str, text: &str) -> Result<(), AllocError> {
+pub fn one_card(answer: &mut Answer, topic: &str, text: &str) -> Result<(), AllocError> {
     let (value, line) = cut(text);
-    match Card::read(line.as_bytes()) {
-        Ok(card) => one_statement(answer, topic == "codes", &names(value), &[card]),
-        Err(_) => {
-            answer.word("no card");
-            Ok(())
-        }
-    }
+    one_statement(answer, topic == "codes", &names(value), &[card_of(line)?])
 }
 
 /// The sizing of the statement of a card, or its code, and what was done.
@@ -97,20 +107,14 @@ fn one_statement(
     symbols: &KnownNames,
     cards: &[Card; 1],
 ) -> Result<(), AllocError> {
+    let (alloc, keys) = (answer.alloc, answer.keys);
     let mut room = StatementRoom::new();
     let statement = Statement::read(DeckKind::Rel, cards, &mut room);
-    let state = BlockState::new(answer.alloc)?;
+    let state = BlockState::new(alloc)?;
     let mut done = work_meter::begin();
-    let sizing = size(
-        answer.alloc,
-        answer.keys,
-        &statement,
-        &state,
-        symbols,
-        &mut done,
-    )?;
+    let sizing = size(alloc, keys, &statement, &state, symbols, &mut done)?;
     if is_coded {
-        let kept = KeptSizing::new(answer.alloc, statement.kind, true, sizing)?;
+        let kept = KeptSizing::new(alloc, statement.kind, true, sizing)?;
         coded(answer, &statement, &kept, symbols, &mut done)?;
     } else {
         sizing_shown(answer, &sizing);
@@ -122,8 +126,8 @@ fn one_statement(
 fn sizing_shown(answer: &mut Answer, sizing: &Sizing) {
     answer.either(sizing.is_placed, "placed", "-");
     answer.either(sizing.asks, "asks", "-");
-    answer.decimal(u64::from(sizing.place));
-    answer.decimal(u64::from(sizing.end));
+    answer.number(&sizing.place);
+    answer.number(&sizing.end);
     answer.quoted(sizing.letters.text().as_slice());
     defined(answer, &sizing.defines)
 }
@@ -153,7 +157,7 @@ fn coded_shown(answer: &mut Answer, coded: &Coded) {
         CodedItems::Instruction(items) => fields_of_instruction(answer, items),
         CodedItems::Listed(count) => {
             answer.word("listed");
-            answer.decimal(*count as u64)
+            answer.number(count)
         }
         CodedItems::Zeros => answer.word("zeros"),
     }
@@ -196,26 +200,36 @@ impl Blocks {
     }
 }
 
-/// The blocks behind all cards of a text.
-fn blocks_behind(alloc: Global, keys: RandomState, text: &str) -> Result<Blocks, AllocError> {
-    let mut blocks = Blocks::new(alloc, keys)?;
+/// The blocks behind all cards of a text; where that is asked for, with the effect of each card behind the others,
+/// and the block in use then.
+fn blocks_behind(answer: &mut Answer, text: &str, is_shown: bool) -> Result<Blocks, AllocError> {
+    let mut blocks = Blocks::new(answer.alloc, answer.keys)?;
     for line in text.lines() {
-        if let Ok(card) = Card::read(line.as_bytes()) {
-            let (after, _) = blocks.behind(alloc, keys, &[card])?;
-            blocks = after;
+        let cards = [card_of(line)?];
+        let (after, effect) = blocks.behind(answer.alloc, answer.keys, &cards)?;
+        blocks = after;
+        if is_shown {
+            effect_shown(answer, &effect);
+            answer.bare(blocks.state.block().name().as_slice());
+            answer.word(";");
         }
     }
     Ok(blocks)
 }
 
+/// Where a block ends, and whether it asks for upper.
+pub fn position_shown(answer: &mut Answer, position: Position) {
+    answer.number(&position.end());
+    answer.either(position.asks(), "asks", "-");
+}
+
 /// The state behind cards: each block with its place and whether it asks for upper, the base, and
 /// the counters of an ABS deck at place 6.
-fn state(answer: &mut Answer, text: &str) -> Result<(), AllocError> {
-    let state = blocks_behind(answer.alloc, answer.keys, text)?.state;
+pub fn state(answer: &mut Answer, text: &str) -> Result<(), AllocError> {
+    let state = blocks_behind(answer, text, false)?.state;
     for block in state.blocks() {
         answer.bare(block.name().as_slice());
-        answer.decimal(u64::from(block.position().end()));
-        answer.either(block.position().asks(), "asks", "-");
+        position_shown(answer, block.position());
         answer.either(block.counting().is_some(), "counts", "-");
     }
     answer.debug(&state.number_base());
@@ -227,13 +241,10 @@ fn state(answer: &mut Answer, text: &str) -> Result<(), AllocError> {
 }
 
 /// The rows of the blocks behind cards, with the literals that the first line has.
-fn bases(answer: &mut Answer, text: &str) -> Result<(), AllocError> {
-    let (words, cards) = text.split_once("\n").unwrap_or((text, ""));
-    let mut literals = Literals::new(answer.alloc, answer.keys);
-    for word in words.split_whitespace() {
-        literals.add(octal(word))?;
-    }
-    let lengths = blocks_behind(answer.alloc, answer.keys, cards)?.lengths;
+pub fn bases(answer: &mut Answer, text: &str) -> Result<(), AllocError> {
+    let (words, cards) = cut_line(text);
+    let literals = literals_of(answer.alloc, answer.keys, words)?;
+    let lengths = blocks_behind(answer, cards, false)?.lengths;
     bases_shown(answer, &Bases::new(answer.alloc, &lengths, &literals)?);
     Ok(())
 }
@@ -242,54 +253,48 @@ fn bases(answer: &mut Answer, text: &str) -> Result<(), AllocError> {
 pub fn bases_shown(answer: &mut Answer, bases: &Bases) {
     for row in bases.rows() {
         answer.bare(row.name().as_slice());
-        answer.decimal(row.base());
-        answer.decimal(u64::from(row.words()));
-        answer.decimal(u64::from(row.local_words()));
+        answer.number(&row.base());
+        answer.number(&row.words());
+        answer.number(&row.local_words());
         answer.word(";");
     }
     answer.word("B");
-    answer.decimal(bases.base(&Name::new(b"B")));
+    answer.number(&bases.base(&Name::new(b"B")));
     answer.word("X");
-    answer.decimal(bases.base(&Name::new(b"X")));
+    answer.number(&bases.base(&Name::new(b"X")));
     answer.word("words");
-    answer.decimal(bases.total_length())
+    answer.number(&bases.total_length())
 }
 
 /// The effect of each card behind the others, the block in use then, and the lengths behind all.
-fn effects(answer: &mut Answer, text: &str) -> Result<(), AllocError> {
-    let mut blocks = Blocks::new(answer.alloc, answer.keys)?;
-    for line in text.lines() {
-        if let Ok(card) = Card::read(line.as_bytes()) {
-            let (after, effect) = blocks.behind(answer.alloc, answer.keys, &[card])?;
-            blocks = after;
-            effect_shown(answer, &effect);
-            answer.bare(blocks.state.block().name().as_slice());
-            answer.word(";");
-        }
-    }
-    answer.decimal(blocks.state.blocks().len() as u64);
-    for (name, words) in blocks.lengths.blocks().iter() {
-        answer.bare(name.name().as_slice());
-        answer.decimal(u64::from(*words));
-    }
+pub fn effects(answer: &mut Answer, text: &str) -> Result<(), AllocError> {
+    let blocks = blocks_behind(answer, text, true)?;
+    answer.number(&blocks.state.blocks().len());
+    lengths_shown(answer, &blocks.lengths);
     Ok(())
 }
 
-fn effect_shown(answer: &mut Answer, effect: &Effect) {
-    if let Some(position) = effect.position {
-        answer.decimal(u64::from(position.end()));
-        answer.either(position.asks(), "asks", "-");
-    } else {
-        answer.word("nowhere");
+/// How many words each block has.
+pub fn lengths_shown(answer: &mut Answer, lengths: &Lengths) {
+    for (name, words) in lengths.blocks().iter() {
+        answer.bare(name.name().as_slice());
+        answer.number(words);
     }
-    answer.decimal(u64::from(effect.reached));
+}
+
+fn effect_shown(answer: &mut Answer, effect: &Effect) {
+    match effect.position {
+        Some(position) => position_shown(answer, position),
+        None => answer.word("nowhere"),
+    }
+    answer.number(&effect.reached);
     answer.debug(&effect.number_base);
     answer.either(effect.neutral, "neutral", "-");
     answer.either(effect.setting == LocationSetting::Unchanged, "-", "set")
 }
 
 /// The origin or the location counter at a place of a block; a LOC may have set 1000 octal at place 8.
-fn counters(answer: &mut Answer, text: &str) {
+pub fn counters(answer: &mut Answer, text: &str) {
     let (counter, rest) = cut(text);
     let (block, place) = cut(rest);
     if block.len() > 9 {
