@@ -1,6 +1,6 @@
 //! Expressions: their elements, sums, literals and values.
 
-use crate::outputs::{Answer, MOST};
+use crate::outputs::Answer;
 use definitions::{ItemText, NumberBase};
 use expr_forms::{
     Element, Expr, Form, Link, Literal, Number, Operator, Part, RegisterKind, Relocation,
@@ -42,19 +42,11 @@ fn of_expression(answer: &mut Answer, topic: &str, expression: &Expr<'_>) -> boo
         "whole_items" => answer.or_none(&expression.whole_item(), item),
         "literals" => {
             let mut literals = expression.literals();
-            for _ in 0..MOST {
-                if let Some(found) = literals.next() {
-                    literal(answer, &found);
-                }
-            }
+            answer.each(|| literals.next(), literal)
         }
         "symbols" => {
             let mut symbols = expression.symbols();
-            for _ in 0..MOST {
-                if let Some(found) = symbols.next() {
-                    symbol(answer, &found);
-                }
-            }
+            answer.each(|| symbols.next(), symbol)
         }
         _ => return false,
     }
@@ -153,11 +145,7 @@ fn link(answer: &mut Answer, link: &Link<'_>) {
 /// The elements of an expression, each behind its operator.
 fn elements(answer: &mut Answer, expression: &Expr<'_>) {
     let mut links = expression.links();
-    for _ in 0..MOST {
-        if let Some(found) = links.next() {
-            link(answer, &found);
-        }
-    }
+    answer.each(|| links.next(), link)
 }
 
 /// The registers of a sum, and the elements of what is left.

@@ -1,7 +1,7 @@
 //! Variable fields that are no instruction's: how a person reads them.
 
 use crate::expression_topics::{item, number, symbol};
-use crate::outputs::{Answer, MOST};
+use crate::outputs::Answer;
 use definitions::{DeckKind, NumberBase};
 use expr_forms::{
     BitField, BitFields, ConWords, DataWords, Datum, DisText, Expr, Link, LinkedNames, Operand,
@@ -39,11 +39,7 @@ fn subfield(answer: &mut Answer, text: &&[u8]) {
 }
 
 fn subfields(answer: &mut Answer, mut subfields: Subfields<'_>) {
-    for _ in 0..MOST {
-        if let Some(found) = subfields.next() {
-            subfield(answer, &found);
-        }
-    }
+    answer.each(|| subfields.next(), subfield)
 }
 
 /// The texts of an operand's subfields.
@@ -82,29 +78,17 @@ fn operator(answer: &mut Answer, link: &Link<'_>) {
 fn operators(answer: &mut Answer, expression: &Expr<'_>) {
     let mut links = expression.links();
     answer.word("links");
-    for _ in 0..MOST {
-        if let Some(found) = links.next() {
-            operator(answer, &found);
-        }
-    }
+    answer.each(|| links.next(), operator)
 }
 
 fn data(answer: &mut Answer, words: &DataWords<'_>) {
     let mut words = words.copied();
-    for _ in 0..MOST {
-        if let Some(found) = words.next() {
-            datum(answer, &found);
-        }
-    }
+    answer.each(|| words.next(), datum)
 }
 
 fn con(answer: &mut Answer, words: &ConWords<'_>) {
     let mut words = words.copied();
-    for _ in 0..MOST {
-        if let Some(found) = words.next() {
-            datum(answer, &found);
-        }
-    }
+    answer.each(|| words.next(), datum)
 }
 
 /// The width of a field, and whether it has a value.
@@ -115,11 +99,7 @@ fn bit_field(answer: &mut Answer, field: &BitField<'_>) {
 
 fn bit_fields(answer: &mut Answer, fields: &BitFields<'_>) {
     let mut fields = fields.copied();
-    for _ in 0..MOST {
-        if let Some(found) = fields.next() {
-            bit_field(answer, &found);
-        }
-    }
+    answer.each(|| fields.next(), bit_field)
 }
 
 /// How many words a text has, and its characters.
@@ -141,11 +121,7 @@ fn entry(answer: &mut Answer, name: &Option<&[u8]>) {
 
 /// The names of an ENTRY or EXT, and `none` for each subfield that is no name.
 fn entries(answer: &mut Answer, mut names: LinkedNames<'_>) {
-    for _ in 0..MOST {
-        if let Some(found) = names.next() {
-            entry(answer, &found);
-        }
-    }
+    answer.each(|| names.next(), entry)
 }
 
 /// What a USE with this field does in a deck of a kind.

@@ -6,7 +6,7 @@ use std::hash::RandomState;
 use test_parts::Answer as Parts;
 
 /// How many of the parts of a text are looked at, at most.
-pub const MOST: usize = 12;
+const MOST: usize = 12;
 
 /// Words with a blank between two of them.
 #[derive(Drop)]
@@ -110,6 +110,22 @@ impl Answer {
         match found {
             Ok(value) => show(self, value),
             Err(fault) => self.debug(fault),
+        }
+    }
+
+    /// What is shown of each part that is found, up to twelve.
+    pub fn each<T: Drop, N: FnMut() -> Option<T>, F: Fn(&mut Answer, &T)>(
+        &mut self,
+        mut next: N,
+        show: F,
+    )
+        requires asked { N.IsAlwaysCallable next }
+        requires shown { F.IsAlwaysCallable show }
+    {
+        for _ in 0..MOST {
+            if let Some(found) = next() {
+                show(self, &found);
+            }
         }
     }
 }
