@@ -6,10 +6,10 @@ use asm_main::{AsmFault, asm_status};
 use cards::DeckName;
 use clap::{Arg, ArgAction, ArgMatches, Command};
 use deck_cuts::Deck;
-use desk_core::{Desk, NewDeck, StoredDeck};
+use desk_core::{Change, Desk, NewDeck, StoredDeck};
 use journal::{
-    Change, Ending, Entry, JournalFault, Next, Place, Record, ReplayFault, Replayed, log_line,
-    next_record, record_text, replay,
+    Ending, Entry, JournalFault, Next, Place, Record, ReplayFault, Replayed, log_line, next_record,
+    record_text, replay,
 };
 use std::alloc::{AllocError, Global};
 use std::fs;
@@ -172,11 +172,11 @@ impl From<Broken> for LogFault {
 fn deck_changed(entry: &Entry) -> Option<&DeckName> {
     match entry {
         Entry::Begun => None,
-        Entry::Made(Change::Added(deck)) => Some(&deck.name),
-        Entry::Made(Change::Put { deck, .. }) => Some(&deck.name),
-        Entry::Made(Change::Dropped { name, .. }) => Some(name),
-        Entry::Made(Change::Edited { name, .. }) => Some(name),
-        Entry::Made(Change::Batch { name, .. }) => Some(name),
+        Entry::Made(Change::AddDeck(deck)) => Some(&deck.name),
+        Entry::Made(Change::PutDeck { deck, .. }) => Some(&deck.name),
+        Entry::Made(Change::DropDeck { name, .. }) => Some(name),
+        Entry::Made(Change::EditDeck { name, .. }) => Some(name),
+        Entry::Made(Change::Undo { name, .. }) => Some(name),
     }
 }
 

@@ -1,7 +1,7 @@
 -- What a seat has seen after its calls.
 use Rattle.std.{proofs.Common.{◌≡◌, ℕ, ◌+◌, ◌<◌, ◌==◌, ◌⊎◌, inl, inr, Bool, true, false, cond, List, [], ◌∷◌, ◌++◌, length, map, Some, None, refl, sym, ap, ◌∙◌, subst, append_assoc, append-nil, eq-eqb}, specs.Prelude.slice_get, proofs.lemmas.List.{map-append, flat_map_more}, proofs.lemmas.List.Elements.{All-nil, All-push, filter-append}}
 use Rattle.turn_office.specs.{declared.history.Entry.Entry, Histories.{Answers, entry, entries_by}}
-use Rattle.desk_core.specs.{declared.calls.Call.Call, declared.calls.Call.TheVariants.{Claim, OfferObject, Publish, GiveUp}, declared.replies.Reply.Reply, Desks.{Desk, Publication}, Steps.Steps, Runs.History}
+use Rattle.desk_core.specs.{declared.calls.Call.Call, declared.calls.Call.TheVariants.Do, declared.calls.Work.TheVariants.{Claim, OfferObject, Publish, GiveUp}, declared.replies.Reply.Reply, Desks.{Desk, Publication}, Steps.Steps, Runs.History}
 use Rattle.definitions.specs.DeckInput.{Deck}
 use Rattle.deck_workers.specs.{declared.jobs.Job.Job, declared.made.Made.Made, Jobs.{MayMake, is_result}, Rounds.{Working, job_in, call_of, published_in, entries_of}, WorkerRounds.{AtOnce, ByDesk, Unshared, IsWorkerRound, Offer, none_yet, offered_at, is_starved, offer_entry, asked_entries, up_entries, desk_entries, worker_entries, worker_entries_in}, Joins.Linking.{Offers, OffersOne, AsksToPublish, GivesUp, HasPublished, HasGivenUp, Delivers, in_one_call, by_desk, unshared}, Joins.Rests.{round_with_job, told_as, went_well}, Subscribers.{HearsAfter, unheard, heard}, Working.{Calls, MakesRound, Works}}
 use Rattle.deck_workers.specs.declared.made.Made.TheVariants as made
@@ -36,10 +36,10 @@ more-calls number before behind seen middle now earlier later = record {
 
 -- the calls of a round with a job
 pub worked : (number other : ℕ) (claimed answered : Reply) (result : Made) (call : Call) (seen middle now : History) → other ≡ number → call ≡ call_of result →
-    Calls number (entry number Claim claimed ∷ []) seen middle → Calls other (entry other call answered ∷ []) middle now → Calls number (entries_of number (Working claimed result answered)) seen now
+    Calls number (entry number (Do Claim) claimed ∷ []) seen middle → Calls other (entry other call answered ∷ []) middle now → Calls number (entries_of number (Working claimed result answered)) seen now
 worked number other claimed answered result call seen middle now same is earlier later =
     let ends = subst (λ (one : Call). Calls other (entry other one answered ∷ []) middle now) is later in
-    more-calls number (entry number Claim claimed ∷ []) (entry number (call_of result) answered ∷ []) seen middle now earlier
+    more-calls number (entry number (Do Claim) claimed ∷ []) (entry number (call_of result) answered ∷ []) seen middle now earlier
     (subst (λ (n : ℕ). Calls n (entry n (call_of result) answered ∷ []) middle now) same ends)
 
 -- nothing is offered
@@ -51,8 +51,8 @@ pub more-offered : (decks : List Deck) (most number other lease : ℕ) (object h
     Offers decks most number lease seen middle → OffersOne other lease most held middle now → Offers decks (most + 1) number lease seen now
 more-offered decks most number other lease object held seen middle now same at is before called =
     let offer : Offer = record { place = most; object = held; reply = called.0 } in
-    let later = subst (λ (n : ℕ). Calls n (entry n (OfferObject lease most held) called.0 ∷ []) middle now) same called.1 in
-    let joined = more-calls number (map (offer_entry number lease) before.offers) (entry number (OfferObject lease most held) called.0 ∷ []) seen middle now before.made later in
+    let later = subst (λ (n : ℕ). Calls n (entry n (Do (OfferObject lease most held)) called.0 ∷ []) middle now) same called.1 in
+    let joined = more-calls number (map (offer_entry number lease) before.offers) (entry number (Do (OfferObject lease most held)) called.0 ∷ []) seen middle now before.made later in
     record {
       offers = before.offers ++ offer ∷ [];
       of = offered_at before.offers offer (at ∙ ap Some (sym is)) before.of;
@@ -60,17 +60,17 @@ more-offered decks most number other lease object held seen middle now same at i
     }
 
 -- the desk answered, and not that it had no memory
-pub asks-once : (number lease : ℕ) (answered : Reply) (seen now : History) → is_starved answered ≡ false → Calls number (entry number (Publish lease) answered ∷ []) seen now → AsksToPublish number lease answered seen now
+pub asks-once : (number lease : ℕ) (answered : Reply) (seen now : History) → is_starved answered ≡ false → Calls number (entry number (Do (Publish lease)) answered ∷ []) seen now → AsksToPublish number lease answered seen now
 asks-once number lease answered seen now fed calls = record { given_up = None; ended = sym fed; made = calls }
 
 -- it had none, and the lease was given up
-pub asks-and-gives : (number other lease : ℕ) (answered cleared : Reply) (seen middle now : History) → other ≡ number → is_starved answered ≡ true → Calls number (entry number (Publish lease) answered ∷ []) seen middle →
-    Calls other (entry other (GiveUp lease) cleared ∷ []) middle now → AsksToPublish number lease answered seen now
+pub asks-and-gives : (number other lease : ℕ) (answered cleared : Reply) (seen middle now : History) → other ≡ number → is_starved answered ≡ true → Calls number (entry number (Do (Publish lease)) answered ∷ []) seen middle →
+    Calls other (entry other (Do (GiveUp lease)) cleared ∷ []) middle now → AsksToPublish number lease answered seen now
 asks-and-gives number other lease answered cleared seen middle now same starved asked given = record {
   given_up = Some cleared;
   ended = sym starved;
-  made = more-calls number (entry number (Publish lease) answered ∷ []) (entry number (GiveUp lease) cleared ∷ []) seen middle now asked
-      (subst (λ (n : ℕ). Calls n (entry n (GiveUp lease) cleared ∷ []) middle now) same given);
+  made = more-calls number (entry number (Do (Publish lease)) answered ∷ []) (entry number (Do (GiveUp lease)) cleared ∷ []) seen middle now asked
+      (subst (λ (n : ℕ). Calls n (entry n (Do (GiveUp lease)) cleared ∷ []) middle now) same given);
 }
 
 -- behind all offers the desk was to publish
@@ -108,7 +108,7 @@ delivered-by-desk number lease publication answered seen now (inr has) = unshare
 module _ {S : Type 0} (hears : S → ℕ → S → Type 0) where
   -- the round of a claim that gave a job, and of what was made of it; and what it is shown as
   pub worked-round : (number other : ℕ) (claimed answered : Reply) (given : Job) (result : Made) (seen middle now : History) (old new : S) → other ≡ number → job_in claimed ≡ Some given → MayMake given result →
-      Calls number (entry number Claim claimed ∷ []) seen middle → Delivers other answered middle now result → HearsAfter hears answered (published_in result) old new →
+      Calls number (entry number (Do Claim) claimed ∷ []) seen middle → Delivers other answered middle now result → HearsAfter hears answered (published_in result) old new →
       (makes : MakesRound hears number seen now old new) × (told_as makes.round ≡ round_with_job (went_well (is_result result) answered))
   worked-round number other claimed answered given result seen middle now old new same is may earlier (in_one_call delivered later) hear = (
     record {
@@ -123,7 +123,7 @@ module _ {S : Type 0} (hears : S → ℕ → S → Type 0) where
     record {
       round = ByDesk claimed lease publication has.offers answered has.given_up;
       is_round = record { given = given; claims = is; may_make = may; of = has.of; ended = has.ended };
-      made = more-calls number (entry number Claim claimed ∷ []) (desk_entries number lease has.offers (asked_entries number lease answered has.given_up)) seen middle now earlier
+      made = more-calls number (entry number (Do Claim) claimed ∷ []) (desk_entries number lease has.offers (asked_entries number lease answered has.given_up)) seen middle now earlier
           (subst (λ (n : ℕ). Calls n (desk_entries n lease has.offers (asked_entries n lease answered has.given_up)) middle now) same has.made);
       heard = hear;
     },
@@ -133,7 +133,7 @@ module _ {S : Type 0} (hears : S → ℕ → S → Type 0) where
     record {
       round = Unshared claimed lease publication has.offers has.cleared;
       is_round = record { given = given; claims = is; may_make = may; most = has.most; fewer = has.fewer; of = has.of };
-      made = more-calls number (entry number Claim claimed ∷ []) (desk_entries number lease has.offers (up_entries number lease (Some has.cleared))) seen middle now earlier
+      made = more-calls number (entry number (Do Claim) claimed ∷ []) (desk_entries number lease has.offers (up_entries number lease (Some has.cleared))) seen middle now earlier
           (subst (λ (n : ℕ). Calls n (desk_entries n lease has.offers (up_entries n lease (Some has.cleared))) middle now) same has.made);
       heard = subst (λ (reply : Reply). HearsAfter hears reply (Some publication.version) old new) has.told hear;
     },

@@ -1,7 +1,7 @@
 -- What one who works for a desk asks of it (ours): rounds of a claim each, with one call that ends what the claim gave.
 use Rattle.std.specs.{Prelude.{◌≡◌, ℕ, List, [], ◌∷◌, Option, Some, None}, List.flat_map}
 use Rattle.turn_office.specs.Histories.{entry}
-use Rattle.deck_workers.specs.{Joins.Language.{Call, Claim, DeliverDeck, DeliverLink, GiveUp, Reply, DeckJob, LinkJob}, declared.jobs.Job.Job, declared.made.Made.Made, Jobs.MayMake}
+use Rattle.deck_workers.specs.{Joins.Language.{Claim, DeliverDeck, DeliverLink, GiveUp, Call, Do, Reply, DeckJob, LinkJob}, declared.jobs.Job.Job, declared.made.Made.Made, Jobs.MayMake}
 use Rattle.desk_core.specs.Runs.{History}
 use Rattle.deck_workers.specs.declared.jobs.Job.TheVariants as job
 use Rattle.deck_workers.specs.declared.made.Made.TheVariants as made
@@ -14,9 +14,9 @@ job_in _ = None
 
 -- the call that ends a job: its result is delivered, or its lease is given up
 abbrev pub call_of : Made → Call
-call_of (made.Deck done) = DeliverDeck done
-call_of (made.Link lease publication) = DeliverLink lease publication
-call_of (made.Lost lease fault) = GiveUp lease
+call_of (made.Deck done) = Do (DeliverDeck done)
+call_of (made.Link lease publication) = Do (DeliverLink lease publication)
+call_of (made.Lost lease fault) = Do (GiveUp lease)
 
 -- the version of the publication that was made, if one was
 abbrev pub published_in : Made → Option ℕ
@@ -41,8 +41,8 @@ last_reply (Working claimed result answered) = answered
 
 -- the entries of a round, by a seat
 abbrev pub entries_of : ℕ → Round → History
-entries_of number (Resting claimed) = entry number Claim claimed ∷ []
-entries_of number (Working claimed result answered) = entry number Claim claimed ∷ entry number (call_of result) answered ∷ []
+entries_of number (Resting claimed) = entry number (Do Claim) claimed ∷ []
+entries_of number (Working claimed result answered) = entry number (Do Claim) claimed ∷ entry number (call_of result) answered ∷ []
 
 -- the entries of rounds, one behind the other
 abbrev pub entries_in : ℕ → List Round → History

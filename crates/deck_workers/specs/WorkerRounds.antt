@@ -2,7 +2,7 @@
 use Rattle.std.specs.{Prelude.{◌≡◌, ℕ, ◌+◌, ◌<◌, Bool, true, false, List, [], ◌∷◌, ◌++◌, length, map, slice_get, is_some, Option, Some, None}, List.flat_map}
 use Rattle.turn_office.specs.{declared.history.Entry.Entry, Histories.entry}
 use Rattle.desk_core.specs.{Desks.Publication, Runs.History}
-use Rattle.deck_workers.specs.{Joins.Language.{Deck, Call, Claim, OfferObject, Publish, GiveUp, Reply, Refused}, declared.jobs.Job.Job, Jobs.MayMake, Rounds.{Round, IsRound, job_in, entries_of}}
+use Rattle.deck_workers.specs.{Joins.Language.{Deck, Claim, OfferObject, Publish, GiveUp, Call, Do, Reply, Refused}, declared.jobs.Job.Job, Jobs.MayMake, Rounds.{Round, IsRound, job_in, entries_of}}
 use Rattle.desk_core.specs.declared.replies.Refusal.TheVariants as refusal
 use Rattle.deck_workers.specs.declared.made.Made.TheVariants as made
 
@@ -54,15 +54,15 @@ IsWorkerRound (Unshared claimed lease publication offers freed) = IsUnshared cla
 -- the call that gives a lease up, where there is one, with its reply
 abbrev pub up_entries : ℕ → ℕ → Option Reply → History
 up_entries number lease None = []
-up_entries number lease (Some reply) = entry number (GiveUp lease) reply ∷ []
+up_entries number lease (Some reply) = entry number (Do (GiveUp lease)) reply ∷ []
 
 -- the call that offers an object, with its reply
 abbrev pub offer_entry : ℕ → ℕ → Offer → Entry Call Reply
-offer_entry number lease offer = entry number (OfferObject lease offer.place offer.object) offer.reply
+offer_entry number lease offer = entry number (Do (OfferObject lease offer.place offer.object)) offer.reply
 
 -- the call by which the desk publishes, and that which gives the lease up, where there is one, with their replies
 abbrev pub asked_entries : ℕ → ℕ → Reply → Option Reply → History
-asked_entries number lease answered given_up = entry number (Publish lease) answered ∷ up_entries number lease given_up
+asked_entries number lease answered given_up = entry number (Do (Publish lease)) answered ∷ up_entries number lease given_up
 
 -- the calls that offer objects, and those behind them, with their replies
 abbrev pub desk_entries : ℕ → ℕ → List Offer → History → History
@@ -71,8 +71,8 @@ desk_entries number lease offers behind = map (offer_entry number lease) offers 
 -- the entries of a round, by a seat
 abbrev pub worker_entries : ℕ → WorkerRound → History
 worker_entries number (AtOnce round) = entries_of number round
-worker_entries number (ByDesk claimed lease publication offers answered given_up) = entry number Claim claimed ∷ desk_entries number lease offers (asked_entries number lease answered given_up)
-worker_entries number (Unshared claimed lease publication offers freed) = entry number Claim claimed ∷ desk_entries number lease offers (up_entries number lease (Some freed))
+worker_entries number (ByDesk claimed lease publication offers answered given_up) = entry number (Do Claim) claimed ∷ desk_entries number lease offers (asked_entries number lease answered given_up)
+worker_entries number (Unshared claimed lease publication offers freed) = entry number (Do Claim) claimed ∷ desk_entries number lease offers (up_entries number lease (Some freed))
 
 -- the entries of rounds, one behind the other
 abbrev pub worker_entries_in : ℕ → List WorkerRound → History

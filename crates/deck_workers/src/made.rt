@@ -4,7 +4,7 @@ ghost use Rattle.deck_workers.specs.Jobs.{is_result};
 ghost use Rattle.deck_workers.specs.Rounds.{call_of, published_in};
 
 use deck_listing::ListedObject;
-use desk_core::{Call, Done, SharedPublication};
+use desk_core::{Call, Done, SharedPublication, Work};
 use edit_core::RecordFault;
 
 /// What is made of a job.
@@ -59,9 +59,11 @@ impl Made {
         ensures { result ≡ call_of self }
     {
         match self {
-            Made::Deck(done) => Call::DeliverDeck(done),
-            Made::Link { lease, publication } => Call::DeliverLink { lease, publication },
-            Made::Lost { lease, .. } => Call::GiveUp(lease),
+            Made::Deck(done) => Call::Do(Work::DeliverDeck(done)),
+            Made::Link { lease, publication } => {
+                Call::Do(Work::DeliverLink { lease, publication })
+            }
+            Made::Lost { lease, .. } => Call::Do(Work::GiveUp(lease)),
         }
     }
 }

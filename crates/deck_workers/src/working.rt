@@ -15,7 +15,7 @@ use crate::subscribers::{Subscriber, tell_after};
 use crate::{Job, Made, Runs, job_in};
 use crossbeam_channel::Receiver;
 use deck_listing::ListedObject;
-use desk_core::{Call, DeckCards, Desk, Refusal, Reply, SharedPublication};
+use desk_core::{Call, DeckCards, Desk, Refusal, Reply, SharedPublication, Work};
 use std::alloc::{AllocError, Global};
 use std::hash::RandomState;
 use std::sync::Wait;
@@ -80,7 +80,7 @@ fn make_round<R: Wait, G: Gate, S: Subscriber>(
     ensures round { (made : MakesRound S.hears seat.old.number seat.old.seen seat.new.seen subscriber.old subscriber.new) × (result ≡ told_as made.round) }
     ensures legal { IsLegal Steps office.now.seats office.now.first seat.new.seen }
 {
-    let reply = seat.call(rt, office, Call::Claim);
+    let reply = seat.call(rt, office, Call::Do(Work::Claim));
     let is_refused = is_refused(&reply);
     match job_in(reply) {
         Some(job) => {
@@ -140,7 +140,11 @@ fn deliver<R: Wait>(rt: &R, office: &Office<Desk>, seat: &mut Seat<Desk>, made: 
             if is_large(&publication) {
                 publish_at_desk(rt, office, seat, lease, publication)
             } else {
-                seat.call(rt, office, Call::DeliverLink { lease, publication })
+                seat.call(
+                    rt,
+                    office,
+                    Call::Do(Work::DeliverLink { lease, publication }),
+                )
             }
         }
         made => {
@@ -181,9 +185,9 @@ fn publish_own<R: Wait>(rt: &R, office: &Office<Desk>, seat: &mut Seat<Desk>, le
     ensures asks { AsksToPublish seat.old.number lease result seat.old.seen seat.new.seen }
     ensures legal { IsLegal Steps office.now.seats office.now.first seat.new.seen }
 {
-    let answered = seat.call(rt, office, Call::Publish(lease));
+    let answered = seat.call(rt, office, Call::Do(Work::Publish(lease)));
     if is_starved(&answered) {
-        seat.call(rt, office, Call::GiveUp(lease)).free();
+        seat.call(rt, office, Call::Do(Work::GiveUp(lease))).free();
     }
     answered
 }
@@ -195,7 +199,7 @@ fn give_up<R: Wait>(rt: &R, office: &Office<Desk>, seat: &mut Seat<Desk>, lease:
     ensures gives { GivesUp seat.old.number lease result seat.old.seen seat.new.seen }
     ensures legal { IsLegal Steps office.now.seats office.now.first seat.new.seen }
 {
-    seat.call(rt, office, Call::GiveUp(lease)).free();
+    seat.call(rt, office, Call::Do(Work::GiveUp(lease))).free();
     Reply::Refused(Refusal::OutOfMemory)
 }
 
@@ -235,12 +239,12 @@ fn offer<R: Wait>(
     ensures same { (seat.new.office ≡ seat.old.office) × (seat.new.number ≡ seat.old.number) }
     ensures offered { OffersOne seat.old.number lease place object seat.old.seen seat.new.seen }
 {
-    let offered = Call::OfferObject {
+    let offered = Work::OfferObject {
         lease,
         place,
         object,
     };
-    seat.call(rt, office, offered).free();
+    seat.call(rt, office, Call::Do(offered)).free();
 }
 
 /// Whether something was made of a job, and the desk had the memory that it takes to publish.

@@ -1,7 +1,7 @@
 -- What is kept of a deck brings back the cards that it had at each version, and what is stated of it is that, in every run.
 use Rattle.std.proofs.{Common.{◌≡◌, ℕ, ◌+◌, ◌-◌, ◌≤◌, nat_lt, Bool, true, false, cond, List, [], ◌∷◌, ◌++◌, length, take, map, find, inl, inr, Option, Some, None, refl, sym, ap, ap₂, ◌∙◌, subst, arith}, lemmas.Bool.ltb-false, lemmas.Bool.Decides.leb_tells, lemmas.List.{take_all, take-append-le}, Math.Seq.take-length}
 use Rattle.turn_office.specs.Histories.{Leads}
-use Rattle.desk_core.{specs.Joins.Language.{Card, Deck, same_text}, specs.Joins.Causes.when, specs.Joins.Edits.{Edit, edited_by}, specs.Changes.{Change, decks_after}, specs.Past.{Past, KeptEdit, behind, backs_of}, specs.Led.HaveLed, specs.Desks.{Desk, DeskDeck, new_desk_at, deck_of, decks_of, is_named, deck_named}, specs.Joins.Calls.{Call, Changes, CardsAt, Reply, ChangesAre, CardsBefore, Refused, OutOfMemory, NoDeck, OldVersion, Forgotten}, specs.Answers.Answer, specs.Earlier.{against_since, edits_behind, changes_of, cards_at_of}, specs.Carrying.cards_of, specs.Steps.Steps, specs.Runs.{History, LedSince, Runs, changes_in, decks_at, cards_named}, proofs.AnswerLaws.{unrefused, no-reason, head-clear}, proofs.Outcomes.{Outcome, by_staying, by_changing, by_publishing}, proofs.Publishing.step_comes, proofs.Told.{IsTold, told_first}, proofs.EveryRun.{next_told, told_last}, proofs.TellingDecks.{found_told, all_next}, proofs.EachDeck.{OfDeck, IsKept, AllSo, so-next, named-found}, proofs.PastRises.{none-behind, since-after, cards-after}, proofs.PastAlways.{HasPast, past-kept, led_there}}
+use Rattle.desk_core.{specs.Joins.Language.{Card, Deck, same_text}, specs.Joins.Causes.when, specs.Joins.Edits.{Edit, edited_by}, specs.Changes.{Change, decks_after}, specs.Past.{Past, KeptEdit, behind, backs_of}, specs.Led.HaveLed, specs.Desks.{Desk, DeskDeck, new_desk_at, deck_of, decks_of, is_named, deck_named}, specs.Joins.Calls.{Changes, CardsAt, Call, Ask, Reply, ChangesAre, CardsBefore, Refused, OutOfMemory, NoDeck, OldVersion, Forgotten}, specs.Answers.Answer, specs.Earlier.{against_since, edits_behind, changes_of, cards_at_of}, specs.Carrying.cards_of, specs.Steps.Steps, specs.Runs.{History, LedSince, Runs, changes_in, decks_at, cards_named}, proofs.AnswerLaws.{unrefused, no-reason, head-clear}, proofs.Outcomes.{Outcome, by_staying, by_changing, by_publishing}, proofs.Publishing.step_comes, proofs.Told.{IsTold, told_first}, proofs.EveryRun.{next_told, told_last}, proofs.TellingDecks.{found_told, all_next}, proofs.EachDeck.{OfDeck, IsKept, AllSo, so-next, named-found}, proofs.PastRises.{none-behind, since-after, cards-after}, proofs.PastAlways.{HasPast, past-kept, led_there}}
 
 -- the cards of a deck that is found among the desk's
 cards-head : (name : List ℕ) (d deck : DeskDeck) (decks : List DeskDeck) (named : Bool) → cond named (Some d) (find (is_named name) decks) ≡ Some deck →
@@ -122,7 +122,7 @@ module _ (begun : ℕ) (history : History) (desk next : Desk) (name : List ℕ) 
       cards_then begun history desk name deck version runs found (since-told deck clear.0) ∙ ap₂ (λ (es : List Edit) (cs : List Card). Some (edited_by es cs)) took now
 
   -- the cards that are shown of a version are those that the deck had
-  pub shown_then : (told : ℕ) (cards : List Card) (backs : List Edit) → Steps desk (CardsAt name version) (CardsBefore told cards backs) next → cards_named name (decks_at begun version history) ≡ Some (edited_by backs cards)
+  pub shown_then : (told : ℕ) (cards : List Card) (backs : List Edit) → Steps desk (Ask (CardsAt name version)) (CardsBefore told cards backs) next → cards_named name (decks_at begun version history) ≡ Some (edited_by backs cards)
   shown_then told cards backs (inl gave) = shown-of told cards backs (deck_named name desk) refl gave.0
   shown_then told cards backs (inr starved) = let e : CardsBefore told cards backs ≡ Refused OutOfMemory = starved.1 in cc
 
@@ -140,6 +140,6 @@ module _ (begun : ℕ) (history : History) (desk next : Desk) (name : List ℕ) 
       )
 
   -- the changes that are stated of a deck led from the cards that it had to those of now
-  pub told_then : (last : ℕ) (edits : List KeptEdit) → Steps desk (Changes name version) (ChangesAre last edits) next → LedSince begun history name version edits desk
+  pub told_then : (last : ℕ) (edits : List KeptEdit) → Steps desk (Ask (Changes name version)) (ChangesAre last edits) next → LedSince begun history name version edits desk
   told_then last edits (inl gave) = told-of last edits (deck_named name desk) refl gave.0
   told_then last edits (inr starved) = absurd (let e : ChangesAre last edits ≡ Refused OutOfMemory = starved.1 in cc)

@@ -1,7 +1,7 @@
 -- What the code does to the deck at a place with edits that were carried is what the answer says of the deck of its name.
-use Rattle.std.{proofs.Common.{◌≡◌, ℕ, ◌+◌, List, [], ◌∷◌, length, refl, arith, sym, ap, ◌∙◌, subst, inl, not, true, Option, Some, None, option_map, Result, Ok}, specs.Prelude.{slice_get, slice_index_or}, specs.Option.ForSome}
+use Rattle.std.{proofs.Common.{◌≡◌, ℕ, ◌+◌, Bool, List, [], ◌∷◌, refl, sym, ap, ◌∙◌, subst, inl, not, true, Option, Some, None, option_map, Result, Ok}, specs.Prelude.slice_get, specs.Option.ForSome}
 use Rattle.cards.specs.declared.carrying.Touched.{Touched}
-use Rattle.desk_core.{specs.Joins.Edits.{Edit, first_fault}, specs.Desks.{Desk, DeskDeck, is_named}, specs.Joins.OwnNames.{IsPlaceOf, changed_at}, specs.Joins.Calls.{Refused, Refusal, Carried, BatchSize, OutOfMemory}, specs.Joins.Causes.when, specs.Earlier.against_since, specs.Answers.{Answer, against_next}, specs.Changing.{edited_deck, is_batch}, specs.Carrying.{cards_of, carried_since, against_carried, against_carry, bad_edit, accept_carried, batch_since, batch_since_of, edit_since, edit_since_of, alone}, specs.Steps.is_made, specs.Joins.Turns.{IsAnswer, MayAnswer}, proofs.AnswerLaws.{told, done, lacking, head-clear, map-clear}, proofs.PlaceLaws.element-at, proofs.ChangeDone.{next_with, edited-same}}
+use Rattle.desk_core.{specs.Joins.Edits.{Edit, first_fault}, specs.Desks.{Desk, DeskDeck, is_named}, specs.Joins.OwnNames.{IsPlaceOf, changed_at}, specs.Joins.Calls.{Refused, Refusal, Carried, BatchSize, OutOfMemory}, specs.Joins.Causes.when, specs.Earlier.against_since, specs.Answers.{Answer, against_next}, specs.Changing.{edited_deck, is_batch, bad_edit, shown}, specs.Carrying.{cards_of, carried_since, against_carried, against_carry, accept_carried, edit_since, edit_since_of}, specs.Steps.is_made, specs.Joins.Turns.{IsAnswer, MayAnswer}, proofs.AnswerLaws.{told, done, lacking, head-clear, map-clear}, proofs.PlaceLaws.element-at, proofs.ChangeDone.{next_with, edited-same}}
 
 -- where nothing speaks against edits, they apply to the cards that were seen, and as they were carried; and there is a version more
 pub record IsClear (seen : ℕ) (edits moved : List Edit) (desk : Desk) (deck : DeskDeck) : Type 0 where
@@ -26,12 +26,7 @@ carry-clear seen edits moved desk deck clear carried =
       room = e.0;
     }
 
--- the refusal of one edit alone is none where that is
-alone-none : (against : Option Refusal) → against ≡ None → option_map alone against ≡ None
-alone-none None e = refl
-alone-none (Some refusal) e = cc
-
-module _ (name who : List ℕ) (seen : ℕ) (desk : Desk) (place : ℕ) (is : IsPlaceOf (is_named name) (Some place) desk.decks) where
+module _ (single : Bool) (name who : List ℕ) (seen : ℕ) (desk : Desk) (place : ℕ) (is : IsPlaceOf (is_named name) (Some place) desk.decks) where
   pub there : (deck : DeskDeck) × (slice_get desk.decks place ≡ Some deck)
   there = element-at desk.decks place (is.some place refl).1
 
@@ -41,6 +36,10 @@ module _ (name who : List ℕ) (seen : ℕ) (desk : Desk) (place : ℕ) (is : Is
 
   pub at-place : (P : DeskDeck → Type 0) → P there.0 → ForSome (slice_get desk.decks place) P
   at-place P fact = λ deck is. let same : Some there.0 ≡ Some deck = sym there.1 ∙ is in let decks : there.0 ≡ deck = cc in subst P decks fact
+
+  -- nothing is shown where nothing speaks against them
+  shown-none : (against : Option Refusal) → against ≡ None → option_map (shown single) against ≡ None
+  shown-none against e = ap (option_map (shown single)) e
 
   -- a change by edits that were carried
   accepted : (moved : List Edit) (before : ℕ) (carried : Result (List Edit) Touched) → carried ≡ Ok moved → before ≡ there.0.version →
@@ -53,29 +52,29 @@ module _ (name who : List ℕ) (seen : ℕ) (desk : Desk) (place : ℕ) (is : Is
   is-made moved carried e = subst (λ (r : Result (List Edit) Touched). is_made (accept_carried name who desk there.0 r).reply ≡ true) (sym e) refl
 
   module _ (edits : List Edit) where
-    batch-over : batch_since name seen edits who desk ≡ batch_since_of name seen edits who desk (Some there.0)
-    batch-over = ap (batch_since_of name seen edits who desk) ((is.some place refl).0 ∙ there.1)
+    edit-over : edit_since single name seen edits who desk ≡ edit_since_of single name seen edits who desk (Some there.0)
+    edit-over = ap (edit_since_of single name seen edits who desk) ((is.some place refl).0 ∙ there.1)
 
-    pub batch-refused : (result : Option Refusal) (refusal : Refusal) → ForSome (slice_get desk.decks place) (λ deck. result ≡ against_carry seen edits desk deck) → result ≡ Some refusal →
-        MayAnswer desk (batch_since name seen edits who desk) (Refused refusal) desk
-    batch-refused result refusal given e =
-        subst (λ (a : Answer). MayAnswer desk a (Refused refusal) desk) (sym batch-over)
-        (inl (told _ refusal desk _ (sym (of-deck (λ deck. result ≡ against_carry seen edits desk deck) given) ∙ e)))
+    pub edit-refused : (result : Option Refusal) (refusal : Refusal) → ForSome (slice_get desk.decks place) (λ deck. result ≡ against_carry seen edits desk deck) → result ≡ Some refusal →
+        MayAnswer desk (edit_since single name seen edits who desk) (Refused (shown single refusal)) desk
+    edit-refused result refusal given e =
+        subst (λ (a : Answer). MayAnswer desk a (Refused (shown single refusal)) desk) (sym edit-over)
+        (inl (told _ (shown single refusal) desk _ (ap (option_map (shown single)) (sym (of-deck (λ deck. result ≡ against_carry seen edits desk deck) given) ∙ e))))
 
-    pub batch-done : (result : Option Refusal) (moved : List Edit) (before : ℕ) → ForSome (slice_get desk.decks place) (λ deck. result ≡ against_carry seen edits desk deck) → result ≡ None →
+    pub edit-done : (result : Option Refusal) (moved : List Edit) (before : ℕ) → ForSome (slice_get desk.decks place) (λ deck. result ≡ against_carry seen edits desk deck) → result ≡ None →
         ForSome (slice_get desk.decks place) (λ deck. carried_since seen edits deck ≡ Ok moved) → ForSome (slice_get desk.decks place) (λ deck. before ≡ deck.version) →
-        IsAnswer (batch_since name seen edits who desk) (Carried (desk.version + 1) before moved) (changed_at place (edited_deck (desk.version + 1) who moved) (next_with desk desk.decks))
-    batch-done result moved before given clear carried same =
-        subst (λ (a : Answer). IsAnswer a (Carried (desk.version + 1) before moved) (changed_at place (edited_deck (desk.version + 1) who moved) (next_with desk desk.decks))) (sym batch-over)
-        (done _ desk _ _ _ (sym (of-deck (λ deck. result ≡ against_carry seen edits desk deck) given) ∙ clear)
+        IsAnswer (edit_since single name seen edits who desk) (Carried (desk.version + 1) before moved) (changed_at place (edited_deck (desk.version + 1) who moved) (next_with desk desk.decks))
+    edit-done result moved before given clear carried same =
+        subst (λ (a : Answer). IsAnswer a (Carried (desk.version + 1) before moved) (changed_at place (edited_deck (desk.version + 1) who moved) (next_with desk desk.decks))) (sym edit-over)
+        (done _ desk _ _ _ (shown-none _ (sym (of-deck (λ deck. result ≡ against_carry seen edits desk deck) given) ∙ clear))
         (accepted moved before _ (of-deck (λ deck. carried_since seen edits deck ≡ Ok moved) carried) (of-deck (λ deck. before ≡ deck.version) same)))
 
-    pub batch-starved : (result : Option Refusal) (moved : List Edit) → ForSome (slice_get desk.decks place) (λ deck. result ≡ against_carry seen edits desk deck) → result ≡ None →
-        ForSome (slice_get desk.decks place) (λ deck. carried_since seen edits deck ≡ Ok moved) → MayAnswer desk (batch_since name seen edits who desk) (Refused OutOfMemory) desk
-    batch-starved result moved given clear carried =
-        subst (λ (a : Answer). MayAnswer desk a (Refused OutOfMemory) desk) (sym batch-over)
-        (lacking (against_carry seen edits desk there.0) desk (accept_carried name who desk there.0 (carried_since seen edits there.0))
-        (sym (of-deck (λ deck. result ≡ against_carry seen edits desk deck) given) ∙ clear)
+    pub edit-starved : (result : Option Refusal) (moved : List Edit) → ForSome (slice_get desk.decks place) (λ deck. result ≡ against_carry seen edits desk deck) → result ≡ None →
+        ForSome (slice_get desk.decks place) (λ deck. carried_since seen edits deck ≡ Ok moved) → MayAnswer desk (edit_since single name seen edits who desk) (Refused OutOfMemory) desk
+    edit-starved result moved given clear carried =
+        subst (λ (a : Answer). MayAnswer desk a (Refused OutOfMemory) desk) (sym edit-over)
+        (lacking (option_map (shown single) (against_carry seen edits desk there.0)) desk (accept_carried name who desk there.0 (carried_since seen edits there.0))
+        (shown-none _ (sym (of-deck (λ deck. result ≡ against_carry seen edits desk deck) given) ∙ clear))
         (is-made moved (carried_since seen edits there.0) (of-deck (λ deck. carried_since seen edits deck ≡ Ok moved) carried)))
 
     -- where nothing speaks against them, they apply
@@ -85,35 +84,3 @@ module _ (name who : List ℕ) (seen : ℕ) (desk : Desk) (place : ℕ) (is : Is
     carried-applies result moved given clear carried =
         let both = carry-clear seen edits moved desk there.0 (sym (of-deck (λ deck. result ≡ against_carry seen edits desk deck) given) ∙ clear) (of-deck (λ deck. carried_since seen edits deck ≡ Ok moved) carried) in
         (at-place (λ deck. first_fault moved deck.cards ≡ None) both.apply_now, both.room)
-
-  module _ (edit : Edit) where
-    edit-over : edit_since name seen edit who desk ≡ edit_since_of name seen edit who desk (Some there.0)
-    edit-over = ap (edit_since_of name seen edit who desk) ((is.some place refl).0 ∙ there.1)
-
-    pub edit-refused : (result : Option Refusal) (refusal : Refusal) → ForSome (slice_get desk.decks place) (λ deck. result ≡ against_carry seen (edit ∷ []) desk deck) → result ≡ Some refusal →
-        MayAnswer desk (edit_since name seen edit who desk) (Refused (alone refusal)) desk
-    edit-refused result refusal given e =
-        subst (λ (a : Answer). MayAnswer desk a (Refused (alone refusal)) desk) (sym edit-over)
-        (inl (told _ (alone refusal) desk _ (ap (option_map alone) (sym (of-deck (λ deck. result ≡ against_carry seen (edit ∷ []) desk deck) given) ∙ e))))
-
-    pub edit-done : (result : Option Refusal) (moved : List Edit) (before : ℕ) → ForSome (slice_get desk.decks place) (λ deck. result ≡ against_carry seen (edit ∷ []) desk deck) → result ≡ None →
-        ForSome (slice_get desk.decks place) (λ deck. carried_since seen (edit ∷ []) deck ≡ Ok moved) → ForSome (slice_get desk.decks place) (λ deck. before ≡ deck.version) →
-        IsAnswer (edit_since name seen edit who desk) (Carried (desk.version + 1) before moved) (changed_at place (edited_deck (desk.version + 1) who moved) (next_with desk desk.decks))
-    edit-done result moved before given clear carried same =
-        subst (λ (a : Answer). IsAnswer a (Carried (desk.version + 1) before moved) (changed_at place (edited_deck (desk.version + 1) who moved) (next_with desk desk.decks))) (sym edit-over)
-        (done _ desk _ _ _ (alone-none _ (sym (of-deck (λ deck. result ≡ against_carry seen (edit ∷ []) desk deck) given) ∙ clear))
-        (accepted moved before _ (of-deck (λ deck. carried_since seen (edit ∷ []) deck ≡ Ok moved) carried) (of-deck (λ deck. before ≡ deck.version) same)))
-
-    pub edit-starved : (result : Option Refusal) (moved : List Edit) → ForSome (slice_get desk.decks place) (λ deck. result ≡ against_carry seen (edit ∷ []) desk deck) → result ≡ None →
-        ForSome (slice_get desk.decks place) (λ deck. carried_since seen (edit ∷ []) deck ≡ Ok moved) → MayAnswer desk (edit_since name seen edit who desk) (Refused OutOfMemory) desk
-    edit-starved result moved given clear carried =
-        subst (λ (a : Answer). MayAnswer desk a (Refused OutOfMemory) desk) (sym edit-over)
-        (lacking (option_map alone (against_carry seen (edit ∷ []) desk there.0)) desk (accept_carried name who desk there.0 (carried_since seen (edit ∷ []) there.0))
-        (alone-none (against_carry seen (edit ∷ []) desk there.0) (sym (of-deck (λ deck. result ≡ against_carry seen (edit ∷ []) desk deck) given) ∙ clear))
-        (is-made moved (carried_since seen (edit ∷ []) there.0) (of-deck (λ deck. carried_since seen (edit ∷ []) deck ≡ Ok moved) carried)))
-
--- a list of one edit
-pub only-one : (edits : List Edit) (edit : Edit) → length edits ≡ 1 → edits ≡ slice_index_or edits 0 edit ∷ []
-only-one [] edit one = cc
-only-one (first ∷ []) edit one = refl
-only-one (first ∷ second ∷ more) edit one = absurd (omega (arith, one))

@@ -1,6 +1,6 @@
 -- Changes made at the place where a deck was found.
-use Rattle.std.{proofs.Common.{◌≡◌, ℕ, ◌+◌, ◌==◌, Bool, true, false, cond, List, [], ◌∷◌, remove, inl, Some, None, refl, sym, ap, ◌∙◌, subst, eq-eqb, ne_eqb}, specs.Prelude.slice_get}
-use Rattle.desk_core.{specs.Joins.Language.Deck, specs.Joins.Edits.Edit, specs.Desks.{Desk, DeskDeck, is_named, deck_named}, specs.Joins.Calls.{Reply, Changed, Refused, NoDeck}, specs.Answers.{Answer, unless}, specs.Changing.{accepted, against_add, added, add_deck, against_put, replaced_deck, put, put_where, put_deck, against_drop, dropped, drop_deck, edited_deck, edited, against_edit, edit_deck, against_batch, batch}, specs.Joins.OwnNames.{IsPlaceOf, changed_at}, specs.Joins.Turns.{IsAnswer, MayAnswer}, proofs.AnswerLaws.done, proofs.PlaceLaws.{element-at, found-with, found-removed}}
+use Rattle.std.{proofs.Common.{◌≡◌, ℕ, ◌+◌, ◌==◌, Bool, true, false, cond, List, remove, inl, Option, Some, None, option_map, refl, sym, ap, ◌∙◌, subst, eq-eqb, ne_eqb}, specs.Prelude.slice_get}
+use Rattle.desk_core.{specs.Joins.Language.Deck, specs.Joins.Edits.Edit, specs.Desks.{Desk, DeskDeck, is_named, deck_named}, specs.Joins.Calls.{Reply, Changed, Refused, Refusal, NoDeck}, specs.Answers.{Answer, unless}, specs.Changing.{accepted, against_add, added, add_deck, against_put, replaced_deck, put, put_where, put_deck, against_drop, dropped, drop_deck, edited_deck, edited, against_edits, shown, edit_deck}, specs.Joins.OwnNames.{IsPlaceOf, changed_at}, specs.Joins.Turns.{IsAnswer, MayAnswer}, proofs.AnswerLaws.{done, told}, proofs.PlaceLaws.{element-at, found-with, found-removed}}
 
 -- a desk with other decks, one version on
 abbrev pub next_with : Desk → List DeskDeck → Desk
@@ -23,19 +23,17 @@ edited-same name who edits desk place is =
     let there = element-at desk.decks place both.1 in
     ap (next_with desk) (found-with name (edited_deck (desk.version + 1) who edits) desk.decks place there.0 is.own (both.0 ∙ there.1) there.1)
 
--- an edit
-pub edit-done : (name : List ℕ) (seen : ℕ) (edit : Edit) (who : List ℕ) (desk : Desk) (place : ℕ) → IsPlaceOf (is_named name) (Some place) desk.decks → against_edit seen edit desk (slice_get desk.decks place) ≡ None →
-    IsAnswer (edit_deck name seen edit who desk) (Changed (desk.version + 1)) (changed_at place (edited_deck (desk.version + 1) who (edit ∷ [])) (next_with desk desk.decks))
-edit-done name seen edit who desk place is clear =
-    let both = is.some place refl in
-    done _ desk (accepted (edited name who (edit ∷ []) desk)) _ _ (ap (against_edit seen edit desk) both.0 ∙ clear) (refl, sym (edited-same name who (edit ∷ []) desk place is))
+-- edits
+module _ (single : Bool) (name : List ℕ) (seen : ℕ) (edits : List Edit) (who : List ℕ) (desk : Desk) (place : ℕ) (is : IsPlaceOf (is_named name) (Some place) desk.decks) where
+  against-there : (cause : Option Refusal) → against_edits seen edits desk (slice_get desk.decks place) ≡ cause → option_map (shown single) (against_edits seen edits desk (deck_named name desk)) ≡ option_map (shown single) cause
+  against-there cause e = ap (λ (d : Option DeskDeck). option_map (shown single) (against_edits seen edits desk d)) (is.some place refl).0 ∙ ap (option_map (shown single)) e
 
--- a batch
-pub batch-done : (name : List ℕ) (seen : ℕ) (edits : List Edit) (who : List ℕ) (desk : Desk) (place : ℕ) → IsPlaceOf (is_named name) (Some place) desk.decks → against_batch seen edits desk (slice_get desk.decks place) ≡ None →
-    IsAnswer (batch name seen edits who desk) (Changed (desk.version + 1)) (changed_at place (edited_deck (desk.version + 1) who edits) (next_with desk desk.decks))
-batch-done name seen edits who desk place is clear =
-    let both = is.some place refl in
-    done _ desk (accepted (edited name who edits desk)) _ _ (ap (against_batch seen edits desk) both.0 ∙ clear) (refl, sym (edited-same name who edits desk place is))
+  pub edit-refused : (refusal : Refusal) → against_edits seen edits desk (slice_get desk.decks place) ≡ Some refusal → MayAnswer desk (edit_deck single name seen edits who desk) (Refused (shown single refusal)) desk
+  edit-refused refusal e = inl (told _ (shown single refusal) desk _ (against-there (Some refusal) e))
+
+  pub edit-done : against_edits seen edits desk (slice_get desk.decks place) ≡ None →
+      IsAnswer (edit_deck single name seen edits who desk) (Changed (desk.version + 1)) (changed_at place (edited_deck (desk.version + 1) who edits) (next_with desk desk.decks))
+  edit-done e = done _ desk (accepted (edited name who edits desk)) _ _ (against-there None e) (refl, sym (edited-same name who edits desk place is))
 
 -- what is put where no deck has the name: one more where none was seen
 module _ (new : Deck) (seen : ℕ) (desk : Desk) (none : deck_named new.name desk ≡ None) where

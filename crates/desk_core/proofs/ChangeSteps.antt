@@ -1,7 +1,7 @@
 -- What is stated of a desk after a call that changes decks.
-use Rattle.std.{proofs.Common.{◌≡◌, ℕ, ◌+◌, ◌==◌, Bool, true, false, cond, not, ◌||◌, List, [], ◌∷◌, ◌++◌, is_some, inl, inr, Option, Some, None, Result, Ok, Err, option_map, refl, sym, ap, ◌∙◌, subst, arith, eq-eqb, ne_eqb}, specs.Option.option_or, proofs.lemmas.Bool.cases_Bool}
+use Rattle.std.{proofs.Common.{◌≡◌, ℕ, ◌+◌, ◌==◌, Bool, true, false, cond, not, ◌||◌, List, ◌∷◌, ◌++◌, is_some, inl, inr, Option, Some, None, Result, Ok, Err, option_map, refl, sym, ap, ◌∙◌, subst, arith, eq-eqb, ne_eqb}, specs.Option.option_or, proofs.lemmas.Bool.cases_Bool}
 use Rattle.turn_office.specs.{declared.history.Entry.Entry, Histories.entry}
-use Rattle.desk_core.{specs.Joins.Language.{Deck, same_text}, specs.Joins.Causes.{when, first_cause}, specs.Joins.Edits.Edit, specs.Desks.{Desk, DeskDeck, deck_named, is_named}, specs.Joins.Calls.{Call, AddDeck, PutDeck, DropDeck, EditDeck, Batch, EditSince, BatchSince, Undo, Reply, Changed, Carried, Refused, Refusal, NoDeck, TouchedCard}, specs.Answers.{Answer, answers, unless}, specs.Carrying.{carried_since, against_carry, accept_carried, edit_since_of, edit_since, batch_since_of, batch_since, alone}, specs.Undoing.{backs_at, against_change, undo_where, undo}, specs.Changing.{accepted, against_add, added_deck, added, add_deck, against_put, replaced_deck, put, put_where, put_deck, against_drop, dropped, drop_deck, edited_deck, edited, against_edit, edit_deck, against_batch, batch}, specs.Runs.History, specs.Jobs.{identity_in, identity_of, Effect, Edits, Leaves, effect_if, effect_on, after_effect, since_job}, proofs.Same.{equal_texts, same_text-itself}, proofs.JobsTold.{name_in, name_of, since_of, IsMeant, IsLeaseTold, IsDeckTold, IsUnreached, IsDeskTold, LeasesNone, lease_told_still, deck_told_next}, proofs.TellingDecks.{found_told, none_found, all_next, all_added, all_put}, proofs.QuietSteps.{IsQuiet, quiet, told_quiet, told_dropped}, proofs.TouchedSteps.{Touches, told_touched}}
+use Rattle.desk_core.{specs.Joins.Language.{Deck, same_text}, specs.Joins.Causes.{when, first_cause}, specs.Joins.Edits.Edit, specs.Desks.{Desk, DeskDeck, deck_named, is_named}, specs.Joins.Calls.{Exactly, Since, Change, AddDeck, PutDeck, DropDeck, EditDeck, Undo, Call, Make, Reply, Changed, Carried, Refused, Refusal, NoDeck, TouchedCard}, specs.Answers.{Answer, answers, unless}, specs.Carrying.{carried_since, against_carry, accept_carried, edit_since_of, is_alone, edits_of}, specs.Undoing.{backs_at, against_change, undo_where}, specs.Changing.{accepted, against_add, added_deck, added, add_deck, against_put, replaced_deck, put, put_where, against_drop, dropped, drop_deck, edited_deck, edited, against_edits, shown}, specs.Steps.answer_to_change, specs.Runs.History, specs.Jobs.{identity_in, identity_of, Effect, Accepts, Leaves, effect_if, effect_on, after_effect, since_job}, proofs.Same.{equal_texts, same_text-itself}, proofs.JobsTold.{name_in, name_of, since_of, IsMeant, IsLeaseTold, IsDeckTold, IsUnreached, IsDeskTold, LeasesNone, lease_told_still, deck_told_next}, proofs.TellingDecks.{found_told, none_found, all_next, all_added, all_put}, proofs.QuietSteps.{IsQuiet, quiet, told_quiet, told_dropped}, proofs.TouchedSteps.{Touches, told_touched}}
 use Rattle.cards.specs.declared.carrying.Touched.{Touched}
 
 -- a cause that is not shown is not present
@@ -111,23 +111,20 @@ module _ (history : History) (by : ℕ) (desk : Desk) (told : IsDeskTold history
         unreached = brought_unreached deck e brings;
       }
 
-  pub add_next : (deck : Deck) → Next (AddDeck deck) (add_deck deck desk)
-  add_next deck = next_unless (AddDeck deck) (against_add deck desk) (accepted (added deck desk)) (λ r. quiet _ _ _ (λ n. refl) (λ i. refl) (λ n. refl) (λ d. refl))
-      (λ free. next_added (AddDeck deck) deck (record { identities = λ n. refl; names = λ i. refl; leases_none = λ n few. refl; leaves = λ d. refl })
+  add_next : (who : List ℕ) (deck : Deck) → Next (Make who (AddDeck deck)) (add_deck deck desk)
+  add_next who deck = next_unless (Make who (AddDeck deck)) (against_add deck desk) (accepted (added deck desk)) (λ r. quiet _ _ _ (λ n. refl) (λ i. refl) (λ n. refl) (λ d. refl))
+      (λ free. next_added (Make who (AddDeck deck)) deck (record { identities = λ n. refl; names = λ i. refl; leases_none = λ n few. refl; leaves = λ d. refl })
       (nothing_there (deck_named deck.name desk) (absent (is_some (deck_named deck.name desk)) _ _ free)))
 
-  put_where_next : (deck : Deck) (seen : ℕ) (found : Option DeskDeck) → deck_named deck.name desk ≡ found → Next (PutDeck deck seen) (put_where deck seen desk found)
-  put_where_next deck seen None none = next_unless (PutDeck deck seen) (against_put seen deck desk None) (accepted (put deck desk None)) (λ r. quiet _ _ _ (λ n. refl) (λ i. refl) (λ n. refl) (λ d. refl))
-      (λ free. next_added (PutDeck deck seen) deck (record { identities = λ n. refl; names = λ i. refl; leases_none = λ n few. refl; leaves = λ d. refl }) none)
-  put_where_next deck seen (Some before) found = next_unless (PutDeck deck seen) (against_put seen deck desk (Some before)) (accepted (put deck desk (Some before))) (λ r. quiet _ _ _ (λ n. refl) (λ i. refl) (λ n. refl) (λ d. refl))
-      (λ free. next_replaced (PutDeck deck seen) deck before (record { identities = λ n. refl; names = λ i. refl; leases_none = λ n few. refl; leaves = λ d. refl }))
+  put_next : (who : List ℕ) (deck : Deck) (seen : ℕ) (found : Option DeskDeck) → deck_named deck.name desk ≡ found → Next (Make who (PutDeck deck seen)) (put_where deck seen desk found)
+  put_next who deck seen None none = next_unless (Make who (PutDeck deck seen)) (against_put seen deck desk None) (accepted (put deck desk None)) (λ r. quiet _ _ _ (λ n. refl) (λ i. refl) (λ n. refl) (λ d. refl))
+      (λ free. next_added (Make who (PutDeck deck seen)) deck (record { identities = λ n. refl; names = λ i. refl; leases_none = λ n few. refl; leaves = λ d. refl }) none)
+  put_next who deck seen (Some before) found = next_unless (Make who (PutDeck deck seen)) (against_put seen deck desk (Some before)) (accepted (put deck desk (Some before))) (λ r. quiet _ _ _ (λ n. refl) (λ i. refl) (λ n. refl) (λ d. refl))
+      (λ free. next_replaced (Make who (PutDeck deck seen)) deck before (record { identities = λ n. refl; names = λ i. refl; leases_none = λ n few. refl; leaves = λ d. refl }))
 
-  pub put_next : (deck : Deck) (seen : ℕ) → Next (PutDeck deck seen) (put_deck deck seen desk)
-  put_next deck seen = put_where_next deck seen (deck_named deck.name desk) refl
-
-  pub drop_next : (name : List ℕ) (seen : ℕ) → Next (DropDeck name seen) (drop_deck name seen desk)
-  drop_next name seen = next_unless (DropDeck name seen) (against_drop seen desk (deck_named name desk)) (accepted (dropped name desk)) (λ r. quiet _ _ _ (λ n. refl) (λ i. refl) (λ n. refl) (λ d. refl))
-      (λ free. told_dropped history (entry by (DropDeck name seen) (Changed (desk.version + 1))) desk (dropped name desk) (λ deck. not (is_named name deck))
+  drop_next : (who name : List ℕ) (seen : ℕ) → Next (Make who (DropDeck name seen)) (drop_deck name seen desk)
+  drop_next who name seen = next_unless (Make who (DropDeck name seen)) (against_drop seen desk (deck_named name desk)) (accepted (dropped name desk)) (λ r. quiet _ _ _ (λ n. refl) (λ i. refl) (λ n. refl) (λ d. refl))
+      (λ free. told_dropped history (entry by (Make who (DropDeck name seen)) (Changed (desk.version + 1))) desk (dropped name desk) (λ deck. not (is_named name deck))
       (quiet _ _ _ (λ n. refl) (λ i. refl) (λ n. refl) (λ d. refl)) told (omega arith) refl refl refl)
 
   -- the edits wait where the record is on the desk or out
@@ -137,14 +134,14 @@ module _ (history : History) (by : ℕ) (desk : Desk) (told : IsDeskTold history
 
   -- accepted edits of a deck that is there
   next_with : (call : Call) (reply : Reply) (name who : List ℕ) (edits : List Edit) (deck : DeskDeck) → deck_named name desk ≡ Some deck →
-      ((identity : ℕ) → identity_of name history ≡ Some identity → Touches history desk.leases identity (Edits edits) (entry by call reply)) →
+      ((identity : ℕ) → identity_of name history ≡ Some identity → Touches history desk.leases identity (Accepts edits) (entry by call reply)) →
       Next call (answers reply (edited name who edits desk))
   next_with call reply name who edits deck found touches =
       let e = entry by call reply in
       let here = found_told (IsDeckTold history desk.version desk.leases) (is_named name) desk.decks deck told.decks found in
       let meant : IsMeant history name deck.identity = subst (λ n. IsMeant history n deck.identity) (sym (equal_texts name deck.name here.1)) here.0.meant in
       let touch = touches deck.identity meant.identity_is in
-      told_touched history e desk (edited name who edits desk) deck.identity name (Edits edits) (edited_deck (desk.version + 1) who edits) touch
+      told_touched history e desk (edited name who edits desk) deck.identity name (Accepts edits) (edited_deck (desk.version + 1) who edits) touch
       (record {
         names = λ d. refl;
         identities = λ d. refl;
@@ -153,66 +150,49 @@ module _ (history : History) (by : ℕ) (desk : Desk) (told : IsDeskTold history
       }) meant here.0.reached told (omega arith) (omega arith) refl refl
 
   next_edited : (call : Call) (name who : List ℕ) (edits : List Edit) (deck : DeskDeck) → deck_named name desk ≡ Some deck →
-      ((identity : ℕ) → identity_of name history ≡ Some identity → Touches history desk.leases identity (Edits edits) (entry by call (Changed (desk.version + 1)))) →
+      ((identity : ℕ) → identity_of name history ≡ Some identity → Touches history desk.leases identity (Accepts edits) (entry by call (Changed (desk.version + 1)))) →
       Next call (accepted (edited name who edits desk))
   next_edited call name who edits deck found touches = next_with call (Changed (desk.version + 1)) name who edits deck found touches
 
   -- edits that were carried, of a deck that is there
   next_carried : (call : Call) (name who : List ℕ) (deck : DeskDeck) (moved : Result (List Edit) Touched) → deck_named name desk ≡ Some deck →
       ((refusal : Refusal) → IsQuiet history desk.leases (entry by call (Refused refusal))) →
-      ((edits : List Edit) (identity : ℕ) → identity_of name history ≡ Some identity → Touches history desk.leases identity (Edits edits) (entry by call (Carried (desk.version + 1) deck.version edits))) →
+      ((edits : List Edit) (identity : ℕ) → identity_of name history ≡ Some identity → Touches history desk.leases identity (Accepts edits) (entry by call (Carried (desk.version + 1) deck.version edits))) →
       Next call (accept_carried name who desk deck moved)
   next_carried call name who deck (Ok edits) found silent touches = next_with call (Carried (desk.version + 1) deck.version edits) name who edits deck found (touches edits)
   next_carried call name who deck (Err touched) found silent touches = next_quiet call (Refused (TouchedCard touched.card touched.version)) (silent (TouchedCard touched.card touched.version))
 
-  next_edit_since : (name : List ℕ) (seen : ℕ) (edit : Edit) (who : List ℕ) (found : Option DeskDeck) → deck_named name desk ≡ found → Next (EditSince name seen edit who) (edit_since_of name seen edit who desk found)
-  next_edit_since name seen edit who None none = next_quiet (EditSince name seen edit who) (Refused NoDeck) (quiet _ _ _ (λ n. refl) (λ i. refl) (λ n. refl) (λ d. refl))
-  next_edit_since name seen edit who (Some deck) found = next_unless (EditSince name seen edit who) (option_map alone (against_carry seen (edit ∷ []) desk deck)) (accept_carried name who desk deck (carried_since seen (edit ∷ []) deck))
-      (λ r. quiet _ _ _ (λ n. refl) (λ i. refl) (λ n. refl) (λ d. refl))
-      (λ free. next_carried (EditSince name seen edit who) name who deck (carried_since seen (edit ∷ []) deck) found (λ r. quiet _ _ _ (λ n. refl) (λ i. refl) (λ n. refl) (λ d. refl))
-      (λ edits identity is. record { adds_none = record { identities = λ n. refl; names = λ i. refl }; leases_none = λ n few. refl; effects = λ d. ap (λ (o : Option ℕ). effect_if d o (Edits edits)) is }))
-
-  pub edit_since_next : (name : List ℕ) (seen : ℕ) (edit : Edit) (who : List ℕ) → Next (EditSince name seen edit who) (edit_since name seen edit who desk)
-  edit_since_next name seen edit who = next_edit_since name seen edit who (deck_named name desk) refl
-
-  -- several of them, asked for by this call
-  next_batch_of : (call : Call) (name : List ℕ) (seen : ℕ) (edits : List Edit) (who : List ℕ) (found : Option DeskDeck) → deck_named name desk ≡ found →
+  next_since : (call : Call) (single : Bool) (name : List ℕ) (seen : ℕ) (edits : List Edit) (who : List ℕ) (found : Option DeskDeck) → deck_named name desk ≡ found →
       ((refusal : Refusal) → IsQuiet history desk.leases (entry by call (Refused refusal))) →
-      ((version before : ℕ) (made : List Edit) (identity : ℕ) → identity_of name history ≡ Some identity → Touches history desk.leases identity (Edits made) (entry by call (Carried version before made))) →
-      Next call (batch_since_of name seen edits who desk found)
-  next_batch_of call name seen edits who None none silent touches = next_quiet call (Refused NoDeck) (silent NoDeck)
-  next_batch_of call name seen edits who (Some deck) found silent touches = next_unless call (against_carry seen edits desk deck) (accept_carried name who desk deck (carried_since seen edits deck)) silent
+      ((version before : ℕ) (made : List Edit) (identity : ℕ) → identity_of name history ≡ Some identity → Touches history desk.leases identity (Accepts made) (entry by call (Carried version before made))) →
+      Next call (edit_since_of single name seen edits who desk found)
+  next_since call single name seen edits who None none silent touches = next_quiet call (Refused NoDeck) (silent NoDeck)
+  next_since call single name seen edits who (Some deck) found silent touches = next_unless call (option_map (shown single) (against_carry seen edits desk deck)) (accept_carried name who desk deck (carried_since seen edits deck)) silent
       (λ free. next_carried call name who deck (carried_since seen edits deck) found silent (touches (desk.version + 1) deck.version))
 
-  pub batch_since_next : (name : List ℕ) (seen : ℕ) (edits : List Edit) (who : List ℕ) → Next (BatchSince name seen edits who) (batch_since name seen edits who desk)
-  batch_since_next name seen edits who = next_batch_of (BatchSince name seen edits who) name seen edits who (deck_named name desk) refl (λ r. quiet _ _ _ (λ n. refl) (λ i. refl) (λ n. refl) (λ d. refl))
-      (λ version before made identity is. record { adds_none = record { identities = λ n. refl; names = λ i. refl }; leases_none = λ n few. refl; effects = λ d. ap (λ (o : Option ℕ). effect_if d o (Edits made)) is })
-
-  next_undo : (name : List ℕ) (version : ℕ) (who : List ℕ) (found : Option DeskDeck) → deck_named name desk ≡ found → Next (Undo name version who) (undo_where name version who desk found)
-  next_undo name version who None none = next_quiet (Undo name version who) (Refused NoDeck) (quiet _ _ _ (λ n. refl) (λ i. refl) (λ n. refl) (λ d. refl))
-  next_undo name version who (Some deck) found = next_unless (Undo name version who) (against_change version deck) (batch_since_of name version (backs_at version deck) who desk (Some deck))
+  next_undo : (who name : List ℕ) (version : ℕ) (found : Option DeskDeck) → deck_named name desk ≡ found → Next (Make who (Undo name version)) (undo_where name version who desk found)
+  next_undo who name version None none = next_quiet (Make who (Undo name version)) (Refused NoDeck) (quiet _ _ _ (λ n. refl) (λ i. refl) (λ n. refl) (λ d. refl))
+  next_undo who name version (Some deck) found = next_unless (Make who (Undo name version)) (against_change version deck) (edit_since_of false name version (backs_at version deck) who desk (Some deck))
       (λ r. quiet _ _ _ (λ n. refl) (λ i. refl) (λ n. refl) (λ d. refl))
-      (λ free. next_batch_of (Undo name version who) name version (backs_at version deck) who (Some deck) found (λ r. quiet _ _ _ (λ n. refl) (λ i. refl) (λ n. refl) (λ d. refl))
-      (λ after before made identity is. record { adds_none = record { identities = λ n. refl; names = λ i. refl }; leases_none = λ n few. refl; effects = λ d. ap (λ (o : Option ℕ). effect_if d o (Edits made)) is }))
+      (λ free. next_since (Make who (Undo name version)) false name version (backs_at version deck) who (Some deck) found (λ r. quiet _ _ _ (λ n. refl) (λ i. refl) (λ n. refl) (λ d. refl))
+      (λ after before made identity is. record { adds_none = record { identities = λ n. refl; names = λ i. refl }; leases_none = λ n few. refl; effects = λ d. ap (λ (o : Option ℕ). effect_if d o (Accepts made)) is }))
 
-  pub undo_next : (name : List ℕ) (version : ℕ) (who : List ℕ) → Next (Undo name version who) (undo name version who desk)
-  undo_next name version who = next_undo name version who (deck_named name desk) refl
+  -- nothing speaks against edits only where the deck is there
+  next_edit : (call : Call) (single : Bool) (name : List ℕ) (seen : ℕ) (edits : List Edit) (who : List ℕ) (found : Option DeskDeck) → deck_named name desk ≡ found →
+      ((identity : ℕ) → identity_of name history ≡ Some identity → Touches history desk.leases identity (Accepts edits) (entry by call (Changed (desk.version + 1)))) →
+      option_map (shown single) (against_edits seen edits desk found) ≡ None → Next call (accepted (edited name who edits desk))
+  next_edit call single name seen edits who None found touches free = cc
+  next_edit call single name seen edits who (Some deck) found touches free = next_edited call name who edits deck found touches
 
-  -- nothing speaks against an edit only where the deck is there
-  next_edit : (name : List ℕ) (seen : ℕ) (edit : Edit) (who : List ℕ) (found : Option DeskDeck) → deck_named name desk ≡ found → against_edit seen edit desk found ≡ None → Next (EditDeck name seen edit who) (accepted (edited name who (edit ∷ []) desk))
-  next_edit name seen edit who None found free = cc
-  next_edit name seen edit who (Some deck) found free = next_edited (EditDeck name seen edit who) name who (edit ∷ []) deck found
-      (λ identity is. record { adds_none = record { identities = λ n. refl; names = λ i. refl }; leases_none = λ n few. refl; effects = λ d. ap (λ (o : Option ℕ). effect_if d o (Edits (edit ∷ []))) is })
-
-  pub edit_next : (name : List ℕ) (seen : ℕ) (edit : Edit) (who : List ℕ) → Next (EditDeck name seen edit who) (edit_deck name seen edit who desk)
-  edit_next name seen edit who = next_unless (EditDeck name seen edit who) (against_edit seen edit desk (deck_named name desk)) (accepted (edited name who (edit ∷ []) desk)) (λ r. quiet _ _ _ (λ n. refl) (λ i. refl) (λ n. refl) (λ d. refl))
-      (next_edit name seen edit who (deck_named name desk) refl)
-
-  next_batch : (name : List ℕ) (seen : ℕ) (edits : List Edit) (who : List ℕ) (found : Option DeskDeck) → deck_named name desk ≡ found → against_batch seen edits desk found ≡ None → Next (Batch name seen edits who) (accepted (edited name who edits desk))
-  next_batch name seen edits who None found free = cc
-  next_batch name seen edits who (Some deck) found free = next_edited (Batch name seen edits who) name who edits deck found
-      (λ identity is. record { adds_none = record { identities = λ n. refl; names = λ i. refl }; leases_none = λ n few. refl; effects = λ d. ap (λ (o : Option ℕ). effect_if d o (Edits edits)) is })
-
-  pub batch_next : (name : List ℕ) (seen : ℕ) (edits : List Edit) (who : List ℕ) → Next (Batch name seen edits who) (batch name seen edits who desk)
-  batch_next name seen edits who = next_unless (Batch name seen edits who) (against_batch seen edits desk (deck_named name desk)) (accepted (edited name who edits desk)) (λ r. quiet _ _ _ (λ n. refl) (λ i. refl) (λ n. refl) (λ d. refl))
-      (next_batch name seen edits who (deck_named name desk) refl)
+  -- what is stated after each change
+  pub change_next : (who : List ℕ) (change : Change) → Next (Make who change) (answer_to_change who change desk)
+  change_next who (AddDeck deck) = add_next who deck
+  change_next who (PutDeck deck seen) = put_next who deck seen (deck_named deck.name desk) refl
+  change_next who (DropDeck name seen) = drop_next who name seen
+  change_next who (EditDeck name (Exactly seen) edits) = next_unless (Make who (EditDeck name (Exactly seen) edits)) (option_map (shown (is_alone edits)) (against_edits seen (edits_of edits) desk (deck_named name desk))) (accepted (edited name who (edits_of edits) desk))
+      (λ r. quiet _ _ _ (λ n. refl) (λ i. refl) (λ n. refl) (λ d. refl))
+      (next_edit (Make who (EditDeck name (Exactly seen) edits)) (is_alone edits) name seen (edits_of edits) who (deck_named name desk) refl
+      (λ identity is. record { adds_none = record { identities = λ n. refl; names = λ i. refl }; leases_none = λ n few. refl; effects = λ d. ap (λ (o : Option ℕ). effect_if d o (Accepts (edits_of edits))) is }))
+  change_next who (EditDeck name (Since seen) edits) = next_since (Make who (EditDeck name (Since seen) edits)) (is_alone edits) name seen (edits_of edits) who (deck_named name desk) refl (λ r. quiet _ _ _ (λ n. refl) (λ i. refl) (λ n. refl) (λ d. refl))
+      (λ version before made identity is. record { adds_none = record { identities = λ n. refl; names = λ i. refl }; leases_none = λ n few. refl; effects = λ d. ap (λ (o : Option ℕ). effect_if d o (Accepts made)) is })
+  change_next who (Undo name version) = next_undo who name version (deck_named name desk) refl

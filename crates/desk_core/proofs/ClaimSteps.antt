@@ -1,7 +1,7 @@
 -- What is stated of a desk after a claim, and what a job that it hands out has to carry.
 use Rattle.std.{proofs.Common.{◌≡◌, ℕ, ◌+◌, ◌≤◌, ◌==◌, Bool, true, false, cond, ◌||◌, List, is_some, is_none, find, Option, Some, None, refl, ap, ◌∙◌, subst, arith, eq-eqb, ne_eqb, unwrap_or}, specs.List.list_any, proofs.lemmas.Bool.{cond_both, and_parts}}
 use Rattle.turn_office.specs.Histories.{entry}
-use Rattle.desk_core.{specs.Joins.Edits.Edit, specs.Desks.{Desk, DeskDeck, Lease, Kept, is_leased_at}, specs.Joins.Calls.{Claim, DeckJob, DeckWork, Refusal}, specs.Answers.{Answer, unless, against_next}, specs.Claiming.{claim, claim_deck, claim_link, hand_out, hand_out_link, deck_work, given, start_of, edits_for, is_behind, is_free, is_published}, specs.Runs.History, specs.Jobs.{deck_of_lease, HandsOut, since_job, IsDue, IsDueFrom}, proofs.JobsTold.{IsDeckTold, IsDeskTold}, proofs.TellingDecks.found_told, proofs.QuietSteps.{quiet, told_linked}, proofs.TouchedSteps.told_touched, proofs.ChangeSteps.{Next, next_quiet, next_unless}}
+use Rattle.desk_core.{specs.Joins.Edits.Edit, specs.Desks.{Desk, DeskDeck, Lease, Kept, is_leased_at}, specs.Joins.Calls.{Claim, Do, DeckJob, DeckWork, Refusal}, specs.Answers.{Answer, unless, against_next}, specs.Claiming.{claim, claim_deck, claim_link, hand_out, hand_out_link, deck_work, given, start_of, edits_for, is_behind, is_free, is_published}, specs.Runs.History, specs.Jobs.{deck_of_lease, HandsOut, since_job, IsDue, IsDueFrom}, proofs.JobsTold.{IsDeckTold, IsDeskTold}, proofs.TellingDecks.found_told, proofs.QuietSteps.{quiet, told_linked}, proofs.TouchedSteps.told_touched, proofs.ChangeSteps.{Next, next_quiet, next_unless}}
 
 -- the next lease is none that was given before
 next_is_new : {A : Type 0} (leases : ℕ) (a : A) (number : ℕ) → number ≤ leases → cond (leases + 1 == number) (Some a) None ≡ None
@@ -16,10 +16,10 @@ no_lease None e = refl
 no_lease (Some lease) e = cc
 
 module _ (history : History) (by : ℕ) (desk : Desk) (told : IsDeskTold history desk) where
-  next_handed_out : (deck : DeskDeck) → IsDeckTold history desk.version desk.leases deck → Next history by desk told Claim (hand_out deck desk)
+  next_handed_out : (deck : DeskDeck) → IsDeckTold history desk.version desk.leases deck → Next history by desk told (Do Claim) (hand_out deck desk)
   next_handed_out deck was =
       let n = desk.leases + 1 in
-      let e = entry by Claim (DeckJob (deck_work n deck)) in
+      let e = entry by (Do Claim) (DeckJob (deck_work n deck)) in
       told_touched history e desk (hand_out deck desk).desk deck.identity deck.name (HandsOut (deck_work n deck).edits) (given n)
       (record { adds_none = record { identities = λ x. refl; names = λ i. refl }; leases_none = λ number few. next_is_new desk.leases (Some deck.identity) number few; effects = λ d. refl })
       (record {
@@ -29,27 +29,27 @@ module _ (history : History) (by : ℕ) (desk : Desk) (told : IsDeskTold history
         leased = λ d is same. (next_is_for desk.leases (Some deck.identity) (deck_of_lease n history) ∙ ap (λ (i : ℕ). Some i) same, omega arith);
       }) was.meant was.reached told (omega arith) (omega arith) refl refl
 
-  next_claim_deck : (found : Option DeskDeck) → find is_free desk.decks ≡ found → Next history by desk told Claim (claim_deck desk found)
-  next_claim_deck None free = next_quiet history by desk told Claim _ (quiet _ _ _ (λ n. refl) (λ i. refl) (λ n. refl) (λ d. refl))
-  next_claim_deck (Some deck) free = next_unless history by desk told Claim (against_next desk.leases) (hand_out deck desk) (λ r. quiet _ _ _ (λ n. refl) (λ i. refl) (λ n. refl) (λ d. refl))
+  next_claim_deck : (found : Option DeskDeck) → find is_free desk.decks ≡ found → Next history by desk told (Do Claim) (claim_deck desk found)
+  next_claim_deck None free = next_quiet history by desk told (Do Claim) _ (quiet _ _ _ (λ n. refl) (λ i. refl) (λ n. refl) (λ d. refl))
+  next_claim_deck (Some deck) free = next_unless history by desk told (Do Claim) (against_next desk.leases) (hand_out deck desk) (λ r. quiet _ _ _ (λ n. refl) (λ i. refl) (λ n. refl) (λ d. refl))
       (λ left. next_handed_out deck (found_told (IsDeckTold history desk.version desk.leases) is_free desk.decks deck told.decks free).0)
 
-  next_link : Next history by desk told Claim (hand_out_link desk)
+  next_link : Next history by desk told (Do Claim) (hand_out_link desk)
   next_link =
-      let e = entry by Claim (hand_out_link desk).reply in
+      let e = entry by (Do Claim) (hand_out_link desk).reply in
       told_linked history e desk (hand_out_link desk).desk
       (record { adds_none = record { identities = λ x. refl; names = λ i. refl }; leases_none = λ number few. next_is_new desk.leases None number few; leaves = λ d. refl })
       told refl (omega arith) refl (next_is_for desk.leases None (deck_of_lease (desk.leases + 1) history), omega arith)
 
-  next_claim_link : Next history by desk told Claim (claim_link desk)
+  next_claim_link : Next history by desk told (Do Claim) (claim_link desk)
   next_claim_link =
-      let P = Next history by desk told Claim in
-      cond_both (is_published desk.version desk.publication) _ _ P (λ shown. next_quiet history by desk told Claim _ (quiet _ _ _ (λ n. refl) (λ i. refl) (λ n. refl) (λ d. refl)))
-      (λ behind. cond_both (is_leased_at desk.version desk.link) _ _ P (λ out. next_quiet history by desk told Claim _ (quiet _ _ _ (λ n. refl) (λ i. refl) (λ n. refl) (λ d. refl)))
-      (λ free. next_unless history by desk told Claim (against_next desk.leases) (hand_out_link desk) (λ r. quiet _ _ _ (λ n. refl) (λ i. refl) (λ n. refl) (λ d. refl)) (λ left. next_link)))
+      let P = Next history by desk told (Do Claim) in
+      cond_both (is_published desk.version desk.publication) _ _ P (λ shown. next_quiet history by desk told (Do Claim) _ (quiet _ _ _ (λ n. refl) (λ i. refl) (λ n. refl) (λ d. refl)))
+      (λ behind. cond_both (is_leased_at desk.version desk.link) _ _ P (λ out. next_quiet history by desk told (Do Claim) _ (quiet _ _ _ (λ n. refl) (λ i. refl) (λ n. refl) (λ d. refl)))
+      (λ free. next_unless history by desk told (Do Claim) (against_next desk.leases) (hand_out_link desk) (λ r. quiet _ _ _ (λ n. refl) (λ i. refl) (λ n. refl) (λ d. refl)) (λ left. next_link)))
 
-  pub claim_next : Next history by desk told Claim (claim desk)
-  claim_next = cond_both (list_any is_behind desk.decks) _ _ (Next history by desk told Claim) (λ behind. next_claim_deck (find is_free desk.decks) refl) (λ built. next_claim_link)
+  pub claim_next : Next history by desk told (Do Claim) (claim desk)
+  claim_next = cond_both (list_any is_behind desk.decks) _ _ (Next history by desk told (Do Claim)) (λ behind. next_claim_deck (find is_free desk.decks) refl) (λ built. next_claim_link)
 
   -- where the reply is a deck job, it is what is due
   abbrev IsDueIn : Answer → Type 0

@@ -1,6 +1,6 @@
 -- A round at a desk without leases where a deck is behind: the deck is built, or loses a record of other cards.
 use Rattle.std.{proofs.Common.{◌≡◌, inl, inr, ℕ, ◌+◌, ◌==◌, ◌<◌, ◌≤◌, Bool, true, false, cond, not, ◌&&◌, List, length, find, is_none, Option, Some, None, refl, sym, ap, ◌∙◌, subst, arith, eq-eqb}, specs.Prelude.slice_get, specs.List.list_any, proofs.lemmas.Bool.{cases_Bool, cond_both, cond-true, cond-false, and_from, and_parts, not-true, le-ltb}}
-use Rattle.desk_core.{specs.Joins.Language.Deck, specs.Joins.Causes.when, specs.Joins.Edits.{edited_by, first_fault}, specs.Desks.{Desk, DeskDeck, Kept, deck_of, greatest_number}, specs.Joins.Calls.{Call, DeliverDeck, GiveUp, DeckWork, Reply, Stored, Refused, Refusal, Foreign, VersionsSpent}, specs.Answers.{Answer, answers, unless, against_next}, specs.Claiming.{claim, claim_deck, claim_link, hand_out, is_behind, is_free, given, deck_work, start_of, edits_for}, specs.Delivering.{same_deck, lost, stored, is_for}, specs.Joins.Delivered.{foreign_at, result_at}, specs.Steps.answer, specs.Making.{start_deck, start_cards, done_of}, specs.Rounds.{end_of_deck, after_job, after_round}, specs.Joins.OwnNames.{HaveOwnNames, IsPlaceOf, has_lease, changed_at}, specs.Progress.is_given, specs.Joins.Turns.IsAnswer, proofs.Same.same_deck-itself, proofs.PlaceLaws.{named-with, own-with, each}, proofs.TellingDecks.found_told, proofs.Progress.found, proofs.RoundsLeft.{rounds_with, rounds_of, rounds_left, some_of, place_found, place_within, get-with, with-twice, rounds-with, ungiven-with, found-leased}}
+use Rattle.desk_core.{specs.Joins.Language.Deck, specs.Joins.Causes.when, specs.Joins.Edits.{edited_by, first_fault}, specs.Desks.{Desk, DeskDeck, Kept, deck_of, greatest_number}, specs.Joins.Calls.{DeliverDeck, GiveUp, Call, Do, DeckWork, Reply, Stored, Refused, Refusal, Foreign, VersionsSpent}, specs.Answers.{Answer, answers, unless, against_next}, specs.Claiming.{claim, claim_deck, claim_link, hand_out, is_behind, is_free, given, deck_work, start_of, edits_for}, specs.Delivering.{same_deck, lost, stored, is_for}, specs.Joins.Delivered.{foreign_at, result_at}, specs.Steps.answer, specs.Making.{start_deck, start_cards, done_of}, specs.Rounds.{end_of_deck, after_job, after_round}, specs.Joins.OwnNames.{HaveOwnNames, IsPlaceOf, has_lease, changed_at}, specs.Progress.is_given, specs.Joins.Turns.IsAnswer, proofs.Same.same_deck-itself, proofs.PlaceLaws.{named-with, own-with, each}, proofs.TellingDecks.found_told, proofs.Progress.found, proofs.RoundsLeft.{rounds_with, rounds_of, rounds_left, some_of, place_found, place_within, get-with, with-twice, rounds-with, ungiven-with, found-leased}}
 use Rattle.desk_core.proofs.DeliverDone as deliver_done
 
 -- no lease is out, and each deck has a name of its own
@@ -124,13 +124,13 @@ module _ (desk : Desk) (resting : IsResting desk) (place : ℕ) (deck : DeskDeck
       cond-false (not (is_for (done_of work) (given number deck))) _ _ (ap not for_deck) ∙ cond-false (not (deck.version == deck.version)) _ _ (ap not present)
 
   -- it is delivered
-  delivered : (reply : Reply) (next : Desk) → IsAnswer (result_at place (done_of work) out (given number deck)) reply next → next ≡ (answer (DeliverDeck (done_of work)) out).desk
+  delivered : (reply : Reply) (next : Desk) → IsAnswer (result_at place (done_of work) out (given number deck)) reply next → next ≡ (answer (Do (DeliverDeck (done_of work))) out).desk
   delivered reply next is =
       (deliver_done.delivered number out place is_place (done_of work) reply next refl (λ d at.
       let same : given number deck ≡ d = let e : Some (given number deck) ≡ Some d = sym there ∙ at in cc in
       subst (λ (one : DeskDeck). IsAnswer (result_at place (done_of work) out one) reply next) same is)).1
 
-  goes_delivered : Goes desk (answer (DeliverDeck (done_of work)) out).desk
+  goes_delivered : Goes desk (answer (Do (DeliverDeck (done_of work))) out).desk
   goes_delivered = elim (cases_Bool (sound_from deck.kept)) [
     | inl sound ↦ (
         let here = result_is ∙ cond-false (not (sound_from deck.kept)) _ _ (ap not sound) in
@@ -143,7 +143,7 @@ module _ (desk : Desk) (resting : IsResting desk) (place : ℕ) (deck : DeskDeck
   -- the job ends
   goes_ended : Goes desk (answer (end_of_deck work) out).desk
   goes_ended =
-      cond_both (apply_from deck.kept) (DeliverDeck (done_of work)) (GiveUp number) (λ (call : Call). Goes desk (answer call out).desk) (λ applies. goes_delivered)
+      cond_both (apply_from deck.kept) (Do (DeliverDeck (done_of work))) (Do (GiveUp number)) (λ (call : Call). Goes desk (answer call out).desk) (λ applies. goes_delivered)
       (λ faulty. went_lost _ (faulty_held deck.kept faulty) (deliver_done.given-up number out place is_place).1)
 
 -- a claim where a deck is behind

@@ -2,7 +2,7 @@
 use Rattle.std.{proofs.Common.{◌≡◌, ℕ, ◌+◌, ◌≤◌, ◌==◌, nat_le, nat_lt, Bool, true, false, cond, not, ◌||◌, is_none, List, [], ◌∷◌, length, map, find, is_some, Option, Some, None, Result, Ok, Err, option_map, refl, sym, ap, ◌∙◌, subst, inl, inr}, specs.List.{list_any, AllByRecursion}, proofs.lemmas.Bool.{cond_both, ltb-false}}
 use Rattle.cards.specs.declared.carrying.Touched.{Touched}
 use Rattle.turn_office.specs.Histories.{Leads}
-use Rattle.desk_core.{specs.Joins.Language.{Card, Deck}, specs.Joins.Causes.when, specs.Joins.Edits.{Edit, most_cards, fault_of, first_fault, edited_by}, specs.Past.{Past, begun_at, past_after}, specs.Desks.{Desk, DeskDeck, Publication, most_decks, is_named, deck_named, put_if_named, is_leased, is_leased_at, decks_of}, specs.Joins.Calls.{Call, AddDeck, PutDeck, DropDeck, EditDeck, Batch, EditSince, BatchSince, Undo, Changes, CardsAt, Cards, Show, Status, Claim, DeliverDeck, DeliverLink, OfferObject, Publish, GiveUp, Done, Reply, Refusal, NameTaken, TooManyDecks, DeckFull, NoDeck, BatchSize}, specs.Answers.{Answer, unless, against_next}, specs.Changing.{accepted, against_add, added_deck, added, against_put, replaced_deck, put, put_where, against_drop, dropped, edited_deck, edited, against_edit, against_batch, refusal_of, is_batch, against_seen}, specs.Carrying.{carried_since, against_carry, accept_carried, edit_since_of, batch_since_of, bad_edit, alone}, specs.Undoing.{backs_at, against_change, undo_where}, specs.Earlier.{against_since, changes_of, cards_at_of}, specs.Claiming.{claim, claim_deck, claim_link, hand_out, hand_out_link, given, is_behind, is_free, is_published}, specs.Delivering.{deliver_to, take_result, deck_leased, lost, given_back, stored, is_for, is_sound, same_decks, deliver_link, offer_object, publish, give_up_of}, specs.Joins.OwnNames.HaveOwnNames, specs.Steps.{answer, Steps}, specs.Runs.History, proofs.AnswerLaws.{no-reason, head-clear, map-clear}, proofs.CarryDone.carry-clear, proofs.OwnAlways.own-answer, proofs.PastLaws.one-applies, proofs.Same.equal_texts, proofs.TellingDecks.{none_found, all_next, all_weaker, all_filtered, all_added, all_put}}
+use Rattle.desk_core.{specs.Joins.Language.{Card, Deck}, specs.Joins.Causes.when, specs.Joins.Edits.{Edit, most_cards, first_fault, edited_by}, specs.Past.{Past, begun_at, past_after}, specs.Desks.{Desk, DeskDeck, Publication, most_decks, is_named, deck_named, put_if_named, is_leased, is_leased_at, decks_of}, specs.Joins.Calls.{Exactly, Since, AddDeck, PutDeck, DropDeck, EditDeck, Undo, Changes, CardsAt, Cards, Show, Status, Claim, DeliverDeck, DeliverLink, OfferObject, Publish, GiveUp, Call, Make, Ask, Do, Done, Reply, Refusal, NameTaken, TooManyDecks, DeckFull, NoDeck, BatchSize}, specs.Answers.{Answer, unless, against_next}, specs.Changing.{accepted, against_add, added_deck, added, against_put, replaced_deck, put, put_where, against_drop, dropped, edited_deck, edited, against_edits, is_batch, bad_edit, shown, against_seen}, specs.Carrying.{carried_since, against_carry, accept_carried, edit_since_of, is_alone, edits_of}, specs.Undoing.{backs_at, against_change, undo_where}, specs.Earlier.{against_since, changes_of, cards_at_of}, specs.Claiming.{claim, claim_deck, claim_link, hand_out, hand_out_link, given, is_behind, is_free, is_published}, specs.Delivering.{deliver_to, take_result, deck_leased, lost, given_back, stored, is_for, is_sound, same_decks, deliver_link, offer_object, publish, give_up_of}, specs.Joins.OwnNames.HaveOwnNames, specs.Steps.{answer, Steps}, specs.Runs.History, proofs.AnswerLaws.{no-reason, head-clear, map-clear}, proofs.CarryDone.carry-clear, proofs.OwnAlways.own-answer, proofs.Same.equal_texts, proofs.TellingDecks.{none_found, all_next, all_weaker, all_filtered, all_added, all_put}}
 
 named-head : (name : List ℕ) (d : DeskDeck) (decks : List DeskDeck) (named : Bool) → is_named name d ≡ named → find (is_named d.name) decks ≡ None →
     AllByRecursion (λ (x : DeskDeck). is_named name x ≡ true → find (is_named name) decks ≡ Some x) decks →
@@ -83,24 +83,15 @@ module _ (R : ℕ → List ℕ → List Card → Past → Type 0) (desk : Desk) 
       (λ d both other. keeps.later d.name d.cards d.past both.0)
       desk.decks (all_next (OfDeck R desk.version) Found (λ (d : DeskDeck). OfDeck R desk.version d × Found d) (λ d so is. (so, is)) desk.decks all (named-found name desk.decks own))
 
-  told-edit : (name : List ℕ) (seen : ℕ) (edit : Edit) (who : List ℕ) (found : Option DeskDeck) → deck_named name desk ≡ found → Told (unless (against_edit seen edit desk found) desk (accepted (edited name who (edit ∷ []) desk)))
-  told-edit name seen edit who None none = all
-  told-edit name seen edit who (Some deck) found = told-unless (against_edit seen edit desk (Some deck)) (accepted (edited name who (edit ∷ []) desk))
-      (λ clear.
-      let next : List (Option Refusal) = against_next desk.version ∷ [] in
-      let fault : Option Refusal = option_map refusal_of (fault_of edit deck.cards) in
-      let a = head-clear (against_seen seen deck) (fault ∷ next) clear in
-      let b = head-clear fault next a.1 in
-      told-edited name who (edit ∷ []) deck found (one-applies edit deck.cards (map-clear refusal_of (fault_of edit deck.cards) b.0)))
-
-  told-batch : (name : List ℕ) (seen : ℕ) (edits : List Edit) (who : List ℕ) (found : Option DeskDeck) → deck_named name desk ≡ found → Told (unless (against_batch seen edits desk found) desk (accepted (edited name who edits desk)))
-  told-batch name seen edits who None none = all
-  told-batch name seen edits who (Some deck) found = told-unless (against_batch seen edits desk (Some deck)) (accepted (edited name who edits desk))
+  told-edit : (single : Bool) (name : List ℕ) (seen : ℕ) (edits : List Edit) (who : List ℕ) (found : Option DeskDeck) → deck_named name desk ≡ found →
+      Told (unless (option_map (shown single) (against_edits seen edits desk found)) desk (accepted (edited name who edits desk)))
+  told-edit single name seen edits who None none = all
+  told-edit single name seen edits who (Some deck) found = told-unless (option_map (shown single) (against_edits seen edits desk (Some deck))) (accepted (edited name who edits desk))
       (λ clear.
       let next : List (Option Refusal) = against_next desk.version ∷ [] in
       let fault : Option Refusal = option_map bad_edit (first_fault edits deck.cards) in
       let size : Option Refusal = when (not (is_batch edits)) BatchSize in
-      let a = head-clear (against_seen seen deck) (size ∷ fault ∷ next) clear in
+      let a = head-clear (against_seen seen deck) (size ∷ fault ∷ next) (map-clear (shown single) (against_edits seen edits desk (Some deck)) clear) in
       let b = head-clear size (fault ∷ next) a.1 in
       let c = head-clear fault next b.1 in
       told-edited name who edits deck found (map-clear bad_edit (first_fault edits deck.cards) c.0))
@@ -110,18 +101,14 @@ module _ (R : ℕ → List ℕ → List Card → Past → Type 0) (desk : Desk) 
   told-carried name who seen edits deck (Ok made) found clear is = told-edited name who made deck found (carry-clear seen edits made desk deck clear is).apply_now
   told-carried name who seen edits deck (Err touched) found clear is = all
 
-  told-edit-since : (name : List ℕ) (seen : ℕ) (edit : Edit) (who : List ℕ) (found : Option DeskDeck) → deck_named name desk ≡ found → Told (edit_since_of name seen edit who desk found)
-  told-edit-since name seen edit who None none = all
-  told-edit-since name seen edit who (Some deck) found = told-unless (option_map alone (against_carry seen (edit ∷ []) desk deck)) _
-      (λ clear. told-carried name who seen (edit ∷ []) deck (carried_since seen (edit ∷ []) deck) found (map-clear alone (against_carry seen (edit ∷ []) desk deck) clear) refl)
-
-  told-batch-since : (name : List ℕ) (seen : ℕ) (edits : List Edit) (who : List ℕ) (found : Option DeskDeck) → deck_named name desk ≡ found → Told (batch_since_of name seen edits who desk found)
-  told-batch-since name seen edits who None none = all
-  told-batch-since name seen edits who (Some deck) found = told-unless (against_carry seen edits desk deck) _ (λ clear. told-carried name who seen edits deck (carried_since seen edits deck) found clear refl)
+  told-edit-since : (single : Bool) (name : List ℕ) (seen : ℕ) (edits : List Edit) (who : List ℕ) (found : Option DeskDeck) → deck_named name desk ≡ found → Told (edit_since_of single name seen edits who desk found)
+  told-edit-since single name seen edits who None none = all
+  told-edit-since single name seen edits who (Some deck) found = told-unless (option_map (shown single) (against_carry seen edits desk deck)) _
+      (λ clear. told-carried name who seen edits deck (carried_since seen edits deck) found (map-clear (shown single) (against_carry seen edits desk deck) clear) refl)
 
   told-undo : (name : List ℕ) (version : ℕ) (who : List ℕ) (found : Option DeskDeck) → deck_named name desk ≡ found → Told (undo_where name version who desk found)
   told-undo name version who None none = all
-  told-undo name version who (Some deck) found = told-unless (against_change version deck) _ (λ clear. told-batch-since name version (backs_at version deck) who (Some deck) found)
+  told-undo name version who (Some deck) found = told-unless (against_change version deck) _ (λ clear. told-edit-since false name version (backs_at version deck) who (Some deck) found)
 
   told-changes : (since : ℕ) (found : Option DeskDeck) → Told (changes_of since desk found)
   told-changes since None = all
@@ -182,25 +169,23 @@ module _ (R : ℕ → List ℕ → List Card → Past → Type 0) (desk : Desk) 
 
   -- after each answer
   pub told-answer : (call : Call) → Told (answer call desk)
-  told-answer (AddDeck deck) = told-unless (against_add deck desk) (accepted (added deck desk)) (λ clear. told-added deck (few-added deck clear))
-  told-answer (PutDeck deck seen) = told-put deck seen (deck_named deck.name desk)
-  told-answer (DropDeck name seen) = told-unless (against_drop seen desk (deck_named name desk)) (accepted (dropped name desk)) (λ clear. all_filtered (OfDeck R (desk.version + 1)) (λ deck. not (is_named name deck)) desk.decks all-later)
-  told-answer (EditDeck name seen edit who) = told-edit name seen edit who (deck_named name desk) refl
-  told-answer (Batch name seen edits who) = told-batch name seen edits who (deck_named name desk) refl
-  told-answer (EditSince name seen edit who) = told-edit-since name seen edit who (deck_named name desk) refl
-  told-answer (BatchSince name seen edits who) = told-batch-since name seen edits who (deck_named name desk) refl
-  told-answer (Undo name version who) = told-undo name version who (deck_named name desk) refl
-  told-answer (Changes name since) = told-changes since (deck_named name desk)
-  told-answer (CardsAt name version) = told-cards-at version (deck_named name desk)
-  told-answer (Cards name) = all
-  told-answer Show = all
-  told-answer Status = all
-  told-answer Claim = told-claim
-  told-answer (DeliverDeck done) = told-deliver-to done (deck_leased done.lease desk)
-  told-answer (DeliverLink number publication) = told-link number publication
-  told-answer (OfferObject number place object) = told-offer number
-  told-answer (Publish number) = told-publish number
-  told-answer (GiveUp number) = told-give-up number (deck_leased number desk)
+  told-answer (Make who (AddDeck deck)) = told-unless (against_add deck desk) (accepted (added deck desk)) (λ clear. told-added deck (few-added deck clear))
+  told-answer (Make who (PutDeck deck seen)) = told-put deck seen (deck_named deck.name desk)
+  told-answer (Make who (DropDeck name seen)) = told-unless (against_drop seen desk (deck_named name desk)) (accepted (dropped name desk)) (λ clear. all_filtered (OfDeck R (desk.version + 1)) (λ deck. not (is_named name deck)) desk.decks all-later)
+  told-answer (Make who (EditDeck name (Exactly seen) edits)) = told-edit (is_alone edits) name seen (edits_of edits) who (deck_named name desk) refl
+  told-answer (Make who (EditDeck name (Since seen) edits)) = told-edit-since (is_alone edits) name seen (edits_of edits) who (deck_named name desk) refl
+  told-answer (Make who (Undo name version)) = told-undo name version who (deck_named name desk) refl
+  told-answer (Ask (Changes name since)) = told-changes since (deck_named name desk)
+  told-answer (Ask (CardsAt name version)) = told-cards-at version (deck_named name desk)
+  told-answer (Ask (Cards name)) = all
+  told-answer (Ask Show) = all
+  told-answer (Ask Status) = all
+  told-answer (Do Claim) = told-claim
+  told-answer (Do (DeliverDeck done)) = told-deliver-to done (deck_leased done.lease desk)
+  told-answer (Do (DeliverLink number publication)) = told-link number publication
+  told-answer (Do (OfferObject number place object)) = told-offer number
+  told-answer (Do (Publish number)) = told-publish number
+  told-answer (Do (GiveUp number)) = told-give-up number (deck_leased number desk)
 
 -- decks with names of their own, of each of which it holds
 pub record AllSo (R : ℕ → List ℕ → List Card → Past → Type 0) (desk : Desk) : Type 0 where

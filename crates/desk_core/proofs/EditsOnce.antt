@@ -1,7 +1,7 @@
 -- What the jobs of a deck carry is a part of its accepted edits.
 use Rattle.std.{proofs.Common.{◌≡◌, ℕ, ◌==◌, Bool, true, false, cond, List, [], ◌∷◌, ◌++◌, reverse, Option, Some, None, refl, sym, ap, ◌∙◌, subst, append_assoc, append-nil, eqb-true}, specs.Prelude.⊤}
 use Rattle.turn_office.specs.Histories.{Leads}
-use Rattle.desk_core.{specs.Joins.Edits.Edit, specs.Desks.{Desk, new_desk_at}, specs.Joins.Calls.{Call, EditDeck, Batch, EditSince, BatchSince, Undo, Claim, DeliverDeck, GiveUp, Reply, Changed, Carried, DeckJob, Cleared, Refused, Foreign, Start, FromRecord, FromCards}, specs.Steps.Steps, specs.Runs.{History, Runs}, specs.Jobs.{identity_of, deck_of_lease, Effect, HandsOut, Loses, Edits, Leaves, effect_if, effect_on, after_effect, since_job, IsDueFrom, accepted_by, handed_by, accepted_edits, handed_edits, IsPartOf}, proofs.JobsTold.{IsDeskTold, desk_told_first}, proofs.JobsOnce.{step_next, step_due, reverse_onto}, proofs.Parts.{part_nothing, part_itself, part_append, part_less}}
+use Rattle.desk_core.{specs.Joins.Edits.Edit, specs.Desks.{Desk, new_desk_at}, specs.Joins.Calls.{Exactly, Since, EditDeck, Undo, Claim, DeliverDeck, GiveUp, Call, Make, Do, Reply, Changed, Carried, DeckJob, Cleared, Refused, Foreign, Start, FromRecord, FromCards}, specs.Carrying.edits_of, specs.Steps.Steps, specs.Runs.{History, Runs}, specs.Jobs.{identity_of, deck_of_lease, Effect, HandsOut, Loses, Accepts, Leaves, effect_if, effect_on, after_effect, since_job, IsDueFrom, accepted_by, handed_by, accepted_edits, handed_edits, IsPartOf}, proofs.JobsTold.{IsDeskTold, desk_told_first}, proofs.JobsOnce.{step_next, step_due, reverse_onto}, proofs.Parts.{part_nothing, part_itself, part_append, part_less}}
 
 -- the edits that a deck's record lacks, if it has one
 abbrev lacking : Option (List Edit) → List Edit
@@ -22,8 +22,8 @@ carried_next : (accepted handed : List Edit) (since : Option (List Edit)) (effec
     IsPartOf (accepted ++ accepted_by effect) ((handed ++ handed_by effect) ++ lacking (after_effect effect since))
 carried_next accepted handed since (HandsOut edits) fits part = rw (append-nil accepted, append-nil (handed ++ edits), fits) part
 carried_next accepted handed since Loses fits part = rw (append-nil accepted, append-nil handed, append-nil handed) (part_less accepted handed (lacking since) part)
-carried_next accepted handed None (Edits edits) fits part = part_append accepted (handed ++ []) edits [] part (part_nothing edits)
-carried_next accepted handed (Some before) (Edits edits) fits part = rw (append-nil handed, ← (append_assoc handed before edits)) (part_append accepted (handed ++ before) edits edits part (part_itself edits))
+carried_next accepted handed None (Accepts edits) fits part = part_append accepted (handed ++ []) edits [] part (part_nothing edits)
+carried_next accepted handed (Some before) (Accepts edits) fits part = rw (append-nil handed, ← (append_assoc handed before edits)) (part_append accepted (handed ++ before) edits edits part (part_itself edits))
 carried_next accepted handed since Leaves fits part = rw (append-nil accepted, append-nil handed) part
 
 -- an effect that hands nothing out, on the deck that is meant
@@ -47,14 +47,12 @@ fits_job deck other edits history fits false same = tt
 module _ (history : History) (by : ℕ) (desk : Desk) (told : IsDeskTold history desk) (next : Desk) (deck : ℕ) where
   -- each step hands out what the record lacks, or nothing
   step_fits : (call : Call) (reply : Reply) → Steps desk call reply next → Fits (effect_on deck history call reply) (since_job deck history)
-  step_fits (EditDeck name seen edit who) (Changed version) step = fits_if deck (identity_of name history) (Edits (edit ∷ [])) (since_job deck history) tt
-  step_fits (Batch name seen edits who) (Changed version) step = fits_if deck (identity_of name history) (Edits edits) (since_job deck history) tt
-  step_fits (EditSince name seen edit who) (Carried version before edits) step = fits_if deck (identity_of name history) (Edits edits) (since_job deck history) tt
-  step_fits (BatchSince name seen edits who) (Carried version before made) step = fits_if deck (identity_of name history) (Edits made) (since_job deck history) tt
-  step_fits (Undo name of_version who) (Carried version before edits) step = fits_if deck (identity_of name history) (Edits edits) (since_job deck history) tt
-  step_fits Claim (DeckJob job) step = fits_job deck job.deck job.edits history (fits_due job.start job.edits (since_job job.deck history) (step_due history by desk told next job step)) (job.deck == deck) refl
-  step_fits (DeliverDeck done) (Refused Foreign) step = fits_if deck (deck_of_lease done.lease history) Loses (since_job deck history) tt
-  step_fits (GiveUp lease) Cleared step = fits_if deck (deck_of_lease lease history) Loses (since_job deck history) tt
+  step_fits (Make who (EditDeck name (Exactly seen) edits)) (Changed version) step = fits_if deck (identity_of name history) (Accepts (edits_of edits)) (since_job deck history) tt
+  step_fits (Make who (EditDeck name (Since seen) edits)) (Carried version before made) step = fits_if deck (identity_of name history) (Accepts made) (since_job deck history) tt
+  step_fits (Make who (Undo name of_version)) (Carried version before edits) step = fits_if deck (identity_of name history) (Accepts edits) (since_job deck history) tt
+  step_fits (Do Claim) (DeckJob job) step = fits_job deck job.deck job.edits history (fits_due job.start job.edits (since_job job.deck history) (step_due history by desk told next job step)) (job.deck == deck) refl
+  step_fits (Do (DeliverDeck done)) (Refused Foreign) step = fits_if deck (deck_of_lease done.lease history) Loses (since_job deck history) tt
+  step_fits (Do (GiveUp lease)) Cleared step = fits_if deck (deck_of_lease lease history) Loses (since_job deck history) tt
   step_fits _ _ step = tt
 
 carried_through : (deck : ℕ) (before : History) (desk last : Desk) (history : History) → Leads Steps desk history last → IsDeskTold before desk → IsCarried deck before → IsCarried deck (reverse history ++ before)

@@ -1,7 +1,7 @@
 -- What every run of a desk shows.
 use Rattle.std.{proofs.Common.{◌≡◌, inl, inr, ℕ, true, false, List, [], ◌∷◌, ◌++◌, Option, Some, None, sym, ap, ◌∙◌, subst, arith, append_assoc, append-nil}, specs.List.cons_option}
 use Rattle.turn_office.specs.{declared.history.Entry.Entry, Histories.Leads}
-use Rattle.desk_core.{specs.Joins.Language.{listing_of, image_of}, specs.Changes.Change, specs.Desks.{Desk, Publication, new_desk_at}, specs.Joins.Calls.{Call, Show, Reply, Shown, Refused, Refusal, OutOfMemory}, specs.Reading.show_reply, specs.Steps.Steps, specs.Runs.{History, Runs, change_asked, accepts, change_in, changes_in, IsBuildOf, IsUnchanged, IsOfItsChanges}, proofs.Outcomes.{Outcome, by_staying, by_changing, by_publishing}, proofs.Publishing.step_comes, proofs.Told.{IsTold, told_first, told_still, told_change, told_publication}}
+use Rattle.desk_core.{specs.Joins.Language.{listing_of, image_of}, specs.Changes.Change, specs.Desks.{Desk, Publication, new_desk_at}, specs.Joins.Calls.{Show, Call, Ask, Reply, Shown, Refused, Refusal, OutOfMemory}, specs.Reading.show_reply, specs.Steps.Steps, specs.Runs.{History, Runs, change_asked, accepts, change_in, changes_in, IsBuildOf, IsUnchanged, IsOfItsChanges}, proofs.Outcomes.{Outcome, by_staying, by_changing, by_publishing}, proofs.Publishing.step_comes, proofs.Told.{IsTold, told_first, told_still, told_change, told_publication}}
 
 -- an entry whose reply accepts nothing made no change
 silent_entry : (entry : Entry Call Reply) → accepts entry.reply ≡ false → change_in entry ≡ None
@@ -57,12 +57,12 @@ shown_is : (publication : Option Publication) (shown : Publication) → Shown sh
 shown_is None shown e = cc
 shown_is (Some publication) shown e = cc
 
-shown_by : (desk next : Desk) (shown : Publication) → Steps desk Show (Shown shown) next → desk.publication ≡ Some shown
+shown_by : (desk next : Desk) (shown : Publication) → Steps desk (Ask Show) (Shown shown) next → desk.publication ≡ Some shown
 shown_by desk next shown (inl given) = shown_is desk.publication shown given.0
 shown_by desk next shown (inr starved) = let e : Shown shown ≡ Refused OutOfMemory = starved.1 in cc
 
 -- what is shown is the build of the decks after as many changes as its version says
-pub shown_is_build : (begun : ℕ) (history : History) (desk next : Desk) (publication : Publication) → Runs begun history desk → Steps desk Show (Shown publication) next → IsBuildOf begun history desk publication
+pub shown_is_build : (begun : ℕ) (history : History) (desk next : Desk) (publication : Publication) → Runs begun history desk → Steps desk (Ask Show) (Shown publication) next → IsBuildOf begun history desk publication
 shown_is_build begun history desk next publication runs step =
     let told = told_last begun history desk runs in
     let published = told.published publication (shown_by desk next publication step) in

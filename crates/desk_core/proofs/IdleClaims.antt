@@ -1,6 +1,6 @@
 -- A claim that answers Idle shows the version that is published.
 use Rattle.std.{proofs.Common.{◌≡◌, inl, inr, ℕ, true, find, Option, Some, None, refl, sym, eqb-true}, specs.List.list_any, proofs.lemmas.Bool.cond_both}
-use Rattle.desk_core.specs.{Desks.{Desk, DeskDeck, Publication, is_leased_at}, Joins.Calls.{Claim, Reply, Idle, Refused, Refusal, OutOfMemory}, Answers.{Answer, unless, against_next}, Claiming.{claim, claim_deck, claim_link, hand_out, hand_out_link, is_behind, is_free, is_published}, Steps.Steps, Runs.IsPublishedAt}
+use Rattle.desk_core.specs.{Desks.{Desk, DeskDeck, Publication, is_leased_at}, Joins.Calls.{Claim, Do, Reply, Idle, Refused, Refusal, OutOfMemory}, Answers.{Answer, unless, against_next}, Claiming.{claim, claim_deck, claim_link, hand_out, hand_out_link, is_behind, is_free, is_published}, Steps.Steps, Runs.IsPublishedAt}
 
 -- where the reply is Idle, its version is the desk's and the publication's
 abbrev Tells : Desk → Reply → Type 0
@@ -37,6 +37,6 @@ claim_tells : (desk : Desk) → TellsIn desk (claim desk)
 claim_tells desk = cond_both (list_any is_behind desk.decks) _ _ (TellsIn desk) (λ behind. claim_deck_tells desk (find is_free desk.decks)) (λ built. claim_link_tells desk)
 
 -- the version of Idle is the desk's, and is published
-pub idle_is_published : (desk next : Desk) (version : ℕ) → Steps desk Claim (Idle version) next → (version ≡ desk.version) × IsPublishedAt version desk
+pub idle_is_published : (desk next : Desk) (version : ℕ) → Steps desk (Do Claim) (Idle version) next → (version ≡ desk.version) × IsPublishedAt version desk
 idle_is_published desk next version (inl given) = claim_tells desk version (sym given.0)
 idle_is_published desk next version (inr starved) = let e : Idle version ≡ Refused OutOfMemory = starved.1 in cc

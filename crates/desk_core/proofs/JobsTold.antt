@@ -1,12 +1,12 @@
 -- What the history before a desk shows of its decks' records, newest first: the form that each step keeps.
 use Rattle.std.{proofs.Common.{◌≡◌, ℕ, ◌<◌, ◌≤◌, ◌==◌, true, false, ◌||◌, List, [], ◌∷◌, Option, Some, None, is_some, sym, refl, ap, ◌∙◌, arith, ne_eqb, unwrap_or}, specs.Prelude.{⊤, if◌then◌else◌}, specs.Option.option_or, specs.List.AllByRecursion}
 use Rattle.turn_office.specs.declared.history.Entry.{Entry}
-use Rattle.desk_core.{specs.Joins.Language.same_text, specs.Joins.Edits.Edit, specs.Desks.{Desk, DeskDeck, Lease, new_desk_at}, specs.Joins.Calls.{Call, AddDeck, PutDeck, Reply, Changed}, specs.Runs.History, specs.Jobs.{identity_in, identity_of, leased_in, deck_of_lease, effect_on, after_effect, since_job}, proofs.Same.{equal_texts, same_text-itself}}
+use Rattle.desk_core.{specs.Joins.Language.same_text, specs.Joins.Edits.Edit, specs.Desks.{Desk, DeskDeck, Lease, new_desk_at}, specs.Joins.Calls.{AddDeck, PutDeck, Call, Make, Reply, Changed}, specs.Runs.History, specs.Jobs.{identity_in, identity_of, leased_in, deck_of_lease, effect_on, after_effect, since_job}, proofs.Same.{equal_texts, same_text-itself}}
 
 -- the name that an entry gives to a deck of this identity, if it adds or puts it
 abbrev pub name_in : ℕ → Call → Reply → Option (List ℕ)
-name_in identity (AddDeck deck) (Changed version) = if version == identity then Some deck.name else None
-name_in identity (PutDeck deck seen) (Changed version) = if version == identity then Some deck.name else None
+name_in identity (Make by (AddDeck deck)) (Changed version) = if version == identity then Some deck.name else None
+name_in identity (Make by (PutDeck deck seen)) (Changed version) = if version == identity then Some deck.name else None
 name_in identity _ _ = None
 
 -- the name of a deck, by its identity

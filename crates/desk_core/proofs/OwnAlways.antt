@@ -1,7 +1,7 @@
 -- The decks of a desk have names of their own in every run.
 use Rattle.std.{proofs.Common.{◌≡◌, ℕ, ◌+◌, ◌==◌, Bool, true, false, cond, not, ◌||◌, is_none, List, [], ◌∷◌, map, filter, find, is_some, Option, Some, None, Result, Ok, Err, option_map, refl, sym, ap, ◌∙◌, subst, inl, inr}, specs.List.list_any, proofs.lemmas.Bool.cond_both}
 use Rattle.turn_office.specs.Histories.{Leads}
-use Rattle.desk_core.{specs.Joins.Language.{Deck, same_text}, specs.Joins.Causes.{when, first_cause}, specs.Joins.Edits.Edit, specs.Desks.{Desk, DeskDeck, Publication, new_desk_at, is_named, deck_named, put_if_named, is_leased, is_leased_at, decks_of}, specs.Joins.Calls.{Call, AddDeck, PutDeck, DropDeck, EditDeck, Batch, EditSince, BatchSince, Undo, Changes, CardsAt, Cards, Show, Status, Claim, DeliverDeck, DeliverLink, OfferObject, Publish, GiveUp, Done, Reply, Refusal, NameTaken}, specs.Answers.{Answer, unless, against_next}, specs.Changing.{accepted, against_add, added_deck, added, add_deck, against_put, replaced_deck, put, put_where, against_drop, dropped, drop_deck, edited_deck, edited, against_edit, edit_deck, against_batch, batch}, specs.Carrying.{carried_since, against_carry, accept_carried, edit_since_of, batch_since_of, alone}, specs.Undoing.{backs_at, against_change, undo_where}, specs.Earlier.{against_since, changes_of, cards_at_of}, specs.Claiming.{claim, claim_deck, claim_link, hand_out, hand_out_link, given, is_behind, is_free, is_published}, specs.Delivering.{deliver_to, take_result, deck_leased, lost, given_back, stored, is_for, is_sound, same_decks, deliver_link, offer_object, publish, give_up_of}, specs.Steps.{answer, Steps}, specs.Runs.{History, Runs}, specs.Joins.OwnNames.HaveOwnNames, proofs.PlaceLaws.{fails-head, own-added}}
+use Rattle.desk_core.{specs.Joins.Language.{Deck, same_text}, specs.Joins.Causes.{when, first_cause}, specs.Joins.Edits.Edit, specs.Desks.{Desk, DeskDeck, Publication, new_desk_at, is_named, deck_named, put_if_named, is_leased, is_leased_at, decks_of}, specs.Joins.Calls.{Exactly, Since, AddDeck, PutDeck, DropDeck, EditDeck, Undo, Changes, CardsAt, Cards, Show, Status, Claim, DeliverDeck, DeliverLink, OfferObject, Publish, GiveUp, Call, Make, Ask, Do, Done, Reply, Refusal, NameTaken}, specs.Answers.{Answer, unless, against_next}, specs.Changing.{accepted, against_add, added_deck, added, add_deck, against_put, replaced_deck, put, put_where, against_drop, dropped, drop_deck, edited_deck, edited, against_edits, shown, edit_deck}, specs.Carrying.{carried_since, against_carry, accept_carried, edit_since_of, is_alone, edits_of}, specs.Undoing.{backs_at, against_change, undo_where}, specs.Earlier.{against_since, changes_of, cards_at_of}, specs.Claiming.{claim, claim_deck, claim_link, hand_out, hand_out_link, given, is_behind, is_free, is_published}, specs.Delivering.{deliver_to, take_result, deck_leased, lost, given_back, stored, is_for, is_sound, same_decks, deliver_link, offer_object, publish, give_up_of}, specs.Steps.{answer, Steps}, specs.Runs.{History, Runs}, specs.Joins.OwnNames.HaveOwnNames, proofs.PlaceLaws.{fails-head, own-added}}
 use Rattle.cards.specs.declared.carrying.Touched.{Touched}
 
 -- a deck in another form under its name
@@ -74,11 +74,8 @@ module _ (desk : Desk) (own : HaveOwnNames desk.decks) where
   own-edited : (name who : List ℕ) (edits : List Edit) → Own (accepted (edited name who edits desk))
   own-edited name who edits = own-put name (edited_deck (desk.version + 1) who edits) desk.decks (λ d. refl) own
 
-  own-edit : (name : List ℕ) (seen : ℕ) (edit : Edit) (who : List ℕ) → Own (edit_deck name seen edit who desk)
-  own-edit name seen edit who = own-unless desk (against_edit seen edit desk (deck_named name desk)) (accepted (edited name who (edit ∷ []) desk)) own (λ clear. own-edited name who (edit ∷ []))
-
-  own-batch : (name : List ℕ) (seen : ℕ) (edits : List Edit) (who : List ℕ) → Own (batch name seen edits who desk)
-  own-batch name seen edits who = own-unless desk (against_batch seen edits desk (deck_named name desk)) (accepted (edited name who edits desk)) own (λ clear. own-edited name who edits)
+  own-edit : (single : Bool) (name : List ℕ) (seen : ℕ) (edits : List Edit) (who : List ℕ) → Own (edit_deck single name seen edits who desk)
+  own-edit single name seen edits who = own-unless desk (option_map (shown single) (against_edits seen edits desk (deck_named name desk))) (accepted (edited name who edits desk)) own (λ clear. own-edited name who edits)
 
   own-claim-deck : (found : Option DeskDeck) → Own (claim_deck desk found)
   own-claim-deck None = own
@@ -129,17 +126,13 @@ module _ (desk : Desk) (own : HaveOwnNames desk.decks) where
   own-carried name who deck (Ok edits) = own-put name (edited_deck (desk.version + 1) who edits) desk.decks (λ d. refl) own
   own-carried name who deck (Err touched) = own
 
-  own-edit-since : (name : List ℕ) (seen : ℕ) (edit : Edit) (who : List ℕ) (found : Option DeskDeck) → Own (edit_since_of name seen edit who desk found)
-  own-edit-since name seen edit who None = own
-  own-edit-since name seen edit who (Some deck) = own-unless desk (option_map alone (against_carry seen (edit ∷ []) desk deck)) _ own (λ clear. own-carried name who deck (carried_since seen (edit ∷ []) deck))
-
-  own-batch-since : (name : List ℕ) (seen : ℕ) (edits : List Edit) (who : List ℕ) (found : Option DeskDeck) → Own (batch_since_of name seen edits who desk found)
-  own-batch-since name seen edits who None = own
-  own-batch-since name seen edits who (Some deck) = own-unless desk (against_carry seen edits desk deck) _ own (λ clear. own-carried name who deck (carried_since seen edits deck))
+  own-edit-since : (single : Bool) (name : List ℕ) (seen : ℕ) (edits : List Edit) (who : List ℕ) (found : Option DeskDeck) → Own (edit_since_of single name seen edits who desk found)
+  own-edit-since single name seen edits who None = own
+  own-edit-since single name seen edits who (Some deck) = own-unless desk (option_map (shown single) (against_carry seen edits desk deck)) _ own (λ clear. own-carried name who deck (carried_since seen edits deck))
 
   own-undo : (name : List ℕ) (version : ℕ) (who : List ℕ) (found : Option DeskDeck) → Own (undo_where name version who desk found)
   own-undo name version who None = own
-  own-undo name version who (Some deck) = own-unless desk (against_change version deck) _ own (λ clear. own-batch-since name version (backs_at version deck) who (Some deck))
+  own-undo name version who (Some deck) = own-unless desk (against_change version deck) _ own (λ clear. own-edit-since false name version (backs_at version deck) who (Some deck))
 
   own-changes : (since : ℕ) (found : Option DeskDeck) → Own (changes_of since desk found)
   own-changes since None = own
@@ -151,25 +144,23 @@ module _ (desk : Desk) (own : HaveOwnNames desk.decks) where
 
   -- after each answer
   pub own-answer : (call : Call) → Own (answer call desk)
-  own-answer (AddDeck deck) = own-add deck
-  own-answer (PutDeck deck seen) = own-put-where deck seen (deck_named deck.name desk) refl
-  own-answer (DropDeck name seen) = own-drop name seen
-  own-answer (EditDeck name seen edit who) = own-edit name seen edit who
-  own-answer (Batch name seen edits who) = own-batch name seen edits who
-  own-answer (EditSince name seen edit who) = own-edit-since name seen edit who (deck_named name desk)
-  own-answer (BatchSince name seen edits who) = own-batch-since name seen edits who (deck_named name desk)
-  own-answer (Undo name version who) = own-undo name version who (deck_named name desk)
-  own-answer (Changes name since) = own-changes since (deck_named name desk)
-  own-answer (CardsAt name version) = own-cards-at version (deck_named name desk)
-  own-answer (Cards name) = own
-  own-answer Show = own
-  own-answer Status = own
-  own-answer Claim = own-claim
-  own-answer (DeliverDeck done) = own-deliver-to done (deck_leased done.lease desk)
-  own-answer (DeliverLink number publication) = own-link number publication
-  own-answer (OfferObject number place object) = own-offer number
-  own-answer (Publish number) = own-publish number
-  own-answer (GiveUp number) = own-give-up-of number (deck_leased number desk)
+  own-answer (Make who (AddDeck deck)) = own-add deck
+  own-answer (Make who (PutDeck deck seen)) = own-put-where deck seen (deck_named deck.name desk) refl
+  own-answer (Make who (DropDeck name seen)) = own-drop name seen
+  own-answer (Make who (EditDeck name (Exactly seen) edits)) = own-edit (is_alone edits) name seen (edits_of edits) who
+  own-answer (Make who (EditDeck name (Since seen) edits)) = own-edit-since (is_alone edits) name seen (edits_of edits) who (deck_named name desk)
+  own-answer (Make who (Undo name version)) = own-undo name version who (deck_named name desk)
+  own-answer (Ask (Changes name since)) = own-changes since (deck_named name desk)
+  own-answer (Ask (CardsAt name version)) = own-cards-at version (deck_named name desk)
+  own-answer (Ask (Cards name)) = own
+  own-answer (Ask Show) = own
+  own-answer (Ask Status) = own
+  own-answer (Do Claim) = own-claim
+  own-answer (Do (DeliverDeck done)) = own-deliver-to done (deck_leased done.lease desk)
+  own-answer (Do (DeliverLink number publication)) = own-link number publication
+  own-answer (Do (OfferObject number place object)) = own-offer number
+  own-answer (Do (Publish number)) = own-publish number
+  own-answer (Do (GiveUp number)) = own-give-up-of number (deck_leased number desk)
 
 own-next : (desk : Desk) (call : Call) (reply : Reply) (next : Desk) → Steps desk call reply next → HaveOwnNames desk.decks → HaveOwnNames next.decks
 own-next desk call reply next (inl given) own = subst (λ (d : Desk). HaveOwnNames d.decks) (sym given.1) (own-answer desk own call)

@@ -1,6 +1,6 @@
 -- A claim hands work out where no lease is out.
 use Rattle.std.{proofs.Common.{◌≡◌, inl, inr, ℕ, Bool, true, false, not, ◌&&◌, ◌||◌, List, [], ◌∷◌, find, is_some, is_none, Option, Some, None, refl, sym, ap, ◌∙◌, subst}, specs.List.list_any, proofs.lemmas.Bool.{cond_both, cond-true, cond-false}}
-use Rattle.desk_core.specs.{Joins.Causes.when, Desks.{Desk, DeskDeck, Lease, is_leased_at}, Joins.Calls.{Claim, Reply, VersionsSpent}, Answers.{Answer, unless}, Claiming.{claim, claim_deck, claim_link, hand_out, hand_out_link, is_behind, is_free, is_published}, Progress.{is_given, has_leases, has_work, hands_a_deck, hands_a_link}, Steps.Steps}
+use Rattle.desk_core.specs.{Joins.Causes.when, Desks.{Desk, DeskDeck, Lease, is_leased_at}, Joins.Calls.{Claim, Do, Reply, VersionsSpent}, Answers.{Answer, unless}, Claiming.{claim, claim_deck, claim_link, hand_out, hand_out_link, is_behind, is_free, is_published}, Progress.{is_given, has_leases, has_work, hands_a_deck, hands_a_link}, Steps.Steps}
 
 -- neither holds
 pub neither : (a b : Bool) → (a || b) ≡ false → (a ≡ false) × (b ≡ false)
@@ -62,11 +62,11 @@ link-claimed desk built none =
     (λ _. link-unless desk _ (hand_out_link desk) refl)))
 
 -- where a deck is behind, a deck job
-pub deck_is_handed : (desk next : Desk) (reply : Reply) → Steps desk Claim reply next → has_leases desk ≡ false → has_work desk ≡ true → hands_a_deck reply ≡ true
+pub deck_is_handed : (desk next : Desk) (reply : Reply) → Steps desk (Do Claim) reply next → has_leases desk ≡ false → has_work desk ≡ true → hands_a_deck reply ≡ true
 deck_is_handed desk next reply (inl given) none behind = ap hands_a_deck given.0 ∙ deck-claimed desk behind none
 deck_is_handed desk next reply (inr starved) none behind = ap hands_a_deck starved.1
 
 -- where none is, the link job or Idle
-pub link_is_handed : (desk next : Desk) (reply : Reply) → Steps desk Claim reply next → has_leases desk ≡ false → has_work desk ≡ false → hands_a_link reply ≡ true
+pub link_is_handed : (desk next : Desk) (reply : Reply) → Steps desk (Do Claim) reply next → has_leases desk ≡ false → has_work desk ≡ false → hands_a_link reply ≡ true
 link_is_handed desk next reply (inl given) none built = ap hands_a_link given.0 ∙ link-claimed desk built none
 link_is_handed desk next reply (inr starved) none built = ap hands_a_link starved.1

@@ -1,7 +1,7 @@
 -- Entries that mean nothing for records, and steps with such an entry.
 use Rattle.std.{proofs.Common.{◌≡◌, ℕ, ◌<◌, ◌≤◌, Bool, List, ◌∷◌, filter, Some, None, refl, ap, ◌∙◌, arith}, specs.List.AllByRecursion}
 use Rattle.turn_office.specs.{declared.history.Entry.Entry, Histories.entry}
-use Rattle.desk_core.{specs.Desks.{Desk, DeskDeck}, specs.Joins.Calls.{Call, AddDeck, PutDeck, DropDeck, EditDeck, Batch, EditSince, BatchSince, Undo, Changes, CardsAt, Cards, Show, Status, Claim, DeliverDeck, DeliverLink, OfferObject, Publish, GiveUp, Reply, Refused, OutOfMemory}, specs.Runs.History, specs.Jobs.{identity_in, leased_in, Effect, Leaves, effect_on, after_effect, since_job}, proofs.JobsTold.{name_in, since_of, IsDeckTold, IsUnreached, IsDeskTold, IsLeaseTold, AddsNone, LeasesNone, meant_still, lease_told_still, deck_told_next}, proofs.TellingDecks.{all_weaker, all_filtered}}
+use Rattle.desk_core.{specs.Desks.{Desk, DeskDeck}, specs.Joins.Calls.{Exactly, Since, AddDeck, PutDeck, DropDeck, EditDeck, Undo, Claim, DeliverDeck, DeliverLink, OfferObject, Publish, GiveUp, Call, Make, Ask, Do, Reply, Refused, OutOfMemory}, specs.Runs.History, specs.Jobs.{identity_in, leased_in, Effect, Leaves, effect_on, after_effect, since_job}, proofs.JobsTold.{name_in, since_of, IsDeckTold, IsUnreached, IsDeskTold, IsLeaseTold, AddsNone, LeasesNone, meant_still, lease_told_still, deck_told_next}, proofs.TellingDecks.{all_weaker, all_filtered}}
 
 -- an entry that adds no deck, gives no lease that was given before, and leaves each record
 pub record IsQuiet (history : History) (leases : ℕ) (e : Entry Call Reply) : Type 0 where
@@ -16,25 +16,19 @@ quiet history leases e identities names none leaves = record { adds_none = recor
 
 -- want of memory is quiet, whatever was called
 pub starved_quiet : (history : History) (leases by : ℕ) (call : Call) → IsQuiet history leases (entry by call (Refused OutOfMemory))
-starved_quiet history leases by (AddDeck deck) = quiet _ _ _ (λ n. refl) (λ i. refl) (λ n. refl) (λ d. refl)
-starved_quiet history leases by (PutDeck deck seen) = quiet _ _ _ (λ n. refl) (λ i. refl) (λ n. refl) (λ d. refl)
-starved_quiet history leases by (DropDeck name seen) = quiet _ _ _ (λ n. refl) (λ i. refl) (λ n. refl) (λ d. refl)
-starved_quiet history leases by (EditDeck name seen edit who) = quiet _ _ _ (λ n. refl) (λ i. refl) (λ n. refl) (λ d. refl)
-starved_quiet history leases by (Batch name seen edits who) = quiet _ _ _ (λ n. refl) (λ i. refl) (λ n. refl) (λ d. refl)
-starved_quiet history leases by (EditSince name seen edit who) = quiet _ _ _ (λ n. refl) (λ i. refl) (λ n. refl) (λ d. refl)
-starved_quiet history leases by (BatchSince name seen edits who) = quiet _ _ _ (λ n. refl) (λ i. refl) (λ n. refl) (λ d. refl)
-starved_quiet history leases by (Undo name version who) = quiet _ _ _ (λ n. refl) (λ i. refl) (λ n. refl) (λ d. refl)
-starved_quiet history leases by (Changes name since) = quiet _ _ _ (λ n. refl) (λ i. refl) (λ n. refl) (λ d. refl)
-starved_quiet history leases by (CardsAt name version) = quiet _ _ _ (λ n. refl) (λ i. refl) (λ n. refl) (λ d. refl)
-starved_quiet history leases by (Cards name) = quiet _ _ _ (λ n. refl) (λ i. refl) (λ n. refl) (λ d. refl)
-starved_quiet history leases by Show = quiet _ _ _ (λ n. refl) (λ i. refl) (λ n. refl) (λ d. refl)
-starved_quiet history leases by Status = quiet _ _ _ (λ n. refl) (λ i. refl) (λ n. refl) (λ d. refl)
-starved_quiet history leases by Claim = quiet _ _ _ (λ n. refl) (λ i. refl) (λ n. refl) (λ d. refl)
-starved_quiet history leases by (DeliverDeck done) = quiet _ _ _ (λ n. refl) (λ i. refl) (λ n. refl) (λ d. refl)
-starved_quiet history leases by (DeliverLink number publication) = quiet _ _ _ (λ n. refl) (λ i. refl) (λ n. refl) (λ d. refl)
-starved_quiet history leases by (OfferObject number place object) = quiet _ _ _ (λ n. refl) (λ i. refl) (λ n. refl) (λ d. refl)
-starved_quiet history leases by (Publish number) = quiet _ _ _ (λ n. refl) (λ i. refl) (λ n. refl) (λ d. refl)
-starved_quiet history leases by (GiveUp number) = quiet _ _ _ (λ n. refl) (λ i. refl) (λ n. refl) (λ d. refl)
+starved_quiet history leases by (Make who (AddDeck deck)) = quiet _ _ _ (λ n. refl) (λ i. refl) (λ n. refl) (λ d. refl)
+starved_quiet history leases by (Make who (PutDeck deck seen)) = quiet _ _ _ (λ n. refl) (λ i. refl) (λ n. refl) (λ d. refl)
+starved_quiet history leases by (Make who (DropDeck name seen)) = quiet _ _ _ (λ n. refl) (λ i. refl) (λ n. refl) (λ d. refl)
+starved_quiet history leases by (Make who (EditDeck name (Exactly seen) edits)) = quiet _ _ _ (λ n. refl) (λ i. refl) (λ n. refl) (λ d. refl)
+starved_quiet history leases by (Make who (EditDeck name (Since seen) edits)) = quiet _ _ _ (λ n. refl) (λ i. refl) (λ n. refl) (λ d. refl)
+starved_quiet history leases by (Make who (Undo name version)) = quiet _ _ _ (λ n. refl) (λ i. refl) (λ n. refl) (λ d. refl)
+starved_quiet history leases by (Ask question) = quiet _ _ _ (λ n. refl) (λ i. refl) (λ n. refl) (λ d. refl)
+starved_quiet history leases by (Do Claim) = quiet _ _ _ (λ n. refl) (λ i. refl) (λ n. refl) (λ d. refl)
+starved_quiet history leases by (Do (DeliverDeck done)) = quiet _ _ _ (λ n. refl) (λ i. refl) (λ n. refl) (λ d. refl)
+starved_quiet history leases by (Do (DeliverLink number publication)) = quiet _ _ _ (λ n. refl) (λ i. refl) (λ n. refl) (λ d. refl)
+starved_quiet history leases by (Do (OfferObject number place object)) = quiet _ _ _ (λ n. refl) (λ i. refl) (λ n. refl) (λ d. refl)
+starved_quiet history leases by (Do (Publish number)) = quiet _ _ _ (λ n. refl) (λ i. refl) (λ n. refl) (λ d. refl)
+starved_quiet history leases by (Do (GiveUp number)) = quiet _ _ _ (λ n. refl) (λ i. refl) (λ n. refl) (λ d. refl)
 
 -- a deck that stays as it is, at a version and a number of leases that may have grown
 deck_told_quiet : (history : History) (e : Entry Call Reply) (version after leases more : ℕ) → IsQuiet history leases e → version ≤ after → leases ≤ more →

@@ -1,7 +1,7 @@
 -- What is stated of a desk after a call that ends a lease.
 use Rattle.std.{proofs.Common.{◌≡◌, ℕ, ◌==◌, Bool, true, false, cond, not, ◌||◌, List, ◌∷◌, is_some, is_none, Option, Some, None, refl, sym, ap, ◌∙◌, arith, eqb-true}, specs.List.list_any, proofs.lemmas.Bool.{cond_both, or_parts}}
 use Rattle.turn_office.specs.{declared.history.Entry.Entry, Histories.entry}
-use Rattle.desk_core.{specs.Joins.Language.Deck, specs.Joins.Edits.Edit, specs.Desks.{Desk, DeskDeck, Lease, Kept, Publication, decks_of, with_deck, is_leased, is_leased_at}, specs.Joins.Calls.{Call, DeliverDeck, DeliverLink, OfferObject, Publish, GiveUp, Done, Reply, Stored, Cleared, Refused, Stale, Foreign}, specs.Answers.answers, specs.Claiming.is_behind, specs.Delivering.{deliver_deck, deliver_to, take_result, deck_leased, lost, given_back, stored, is_for, is_sound, same_decks, deliver_link, offer_object, publish, give_up, give_up_of, unlinked}, specs.Runs.History, specs.Jobs.{deck_of_lease, Loses, Leaves, effect_if, since_job}, proofs.JobsTold.{since_of, IsLeaseTold, IsDeckTold, IsDeskTold}, proofs.TellingDecks.found_told, proofs.QuietSteps.{IsQuiet, quiet, told_unlinked}, proofs.TouchedSteps.{Touches, told_touched, leaves_each}, proofs.ChangeSteps.{Next, next_quiet}}
+use Rattle.desk_core.{specs.Joins.Language.Deck, specs.Joins.Edits.Edit, specs.Desks.{Desk, DeskDeck, Lease, Kept, Publication, decks_of, with_deck, is_leased, is_leased_at}, specs.Joins.Calls.{DeliverDeck, DeliverLink, OfferObject, Publish, GiveUp, Call, Do, Done, Reply, Stored, Cleared, Refused, Stale, Foreign}, specs.Answers.answers, specs.Claiming.is_behind, specs.Delivering.{deliver_deck, deliver_to, take_result, deck_leased, lost, given_back, stored, is_for, is_sound, same_decks, deliver_link, offer_object, publish, give_up, give_up_of, unlinked}, specs.Runs.History, specs.Jobs.{deck_of_lease, Loses, Leaves, effect_if, since_job}, proofs.JobsTold.{since_of, IsLeaseTold, IsDeckTold, IsDeskTold}, proofs.TellingDecks.found_told, proofs.QuietSteps.{IsQuiet, quiet, told_unlinked}, proofs.TouchedSteps.{Touches, told_touched, leaves_each}, proofs.ChangeSteps.{Next, next_quiet}}
 
 -- a lease that is out was given for what it is stated of
 leased_for : (history : History) (leases number : ℕ) (for : Option ℕ) (lease : Option Lease) → IsLeaseTold history leases for lease → is_leased number lease ≡ true → deck_of_lease number history ≡ for
@@ -49,13 +49,13 @@ module _ (history : History) (by : ℕ) (desk : Desk) (told : IsDeskTold history
 
   -- a foreign result loses the record of the deck whose lease it names
   next_foreign : (done : Done) (deck : DeskDeck) → IsDeckTold history desk.version desk.leases deck → deck_of_lease done.lease history ≡ Some deck.identity →
-      Next history by desk told (DeliverDeck done) (answers (Refused Foreign) (with_deck deck.name lost desk))
-  next_foreign done deck was for = next_lost (entry by (DeliverDeck done) (Refused Foreign)) deck was
+      Next history by desk told (Do (DeliverDeck done)) (answers (Refused Foreign) (with_deck deck.name lost desk))
+  next_foreign done deck was for = next_lost (entry by (Do (DeliverDeck done)) (Refused Foreign)) deck was
       (record { adds_none = record { identities = λ n. refl; names = λ i. refl }; leases_none = λ n few. refl; effects = λ d. ap (λ (o : Option ℕ). effect_if d o Loses) for })
 
-  next_take_result : (done : Done) (deck : DeskDeck) → IsDeckTold history desk.version desk.leases deck → is_leased done.lease deck.lease ≡ true → Next history by desk told (DeliverDeck done) (take_result done desk deck)
+  next_take_result : (done : Done) (deck : DeskDeck) → IsDeckTold history desk.version desk.leases deck → is_leased done.lease deck.lease ≡ true → Next history by desk told (Do (DeliverDeck done)) (take_result done desk deck)
   next_take_result done deck was out =
-      let P = Next history by desk told (DeliverDeck done) in
+      let P = Next history by desk told (Do (DeliverDeck done)) in
       let for = leased_for history desk.leases done.lease (Some deck.identity) deck.lease was.leased out in
       let here = since_leased deck deck.lease done.lease refl out in
       cond_both (not (is_for done deck) || is_none done.kept) _ _ P (λ other. next_foreign done deck was for)
@@ -63,19 +63,19 @@ module _ (history : History) (by : ℕ) (desk : Desk) (told : IsDeskTold history
       let there = is_there done.kept (or_parts (not (is_for done deck)) (is_none done.kept) ours).1 in
       let back : (waiting : List Edit) → cond (is_some done.kept || false) (Some waiting) None ≡ Some waiting = λ waiting. ap (λ b. cond (b || false) (Some waiting) None) there in
       cond_both (not (done.version == deck.version)) _ _ P
-      (λ stale. next_back (entry by (DeliverDeck done) (Refused (Stale deck.version))) deck (given_back done.kept) was (quiet _ _ _ (λ n. refl) (λ i. refl) (λ n. refl) (λ d. refl)) here
+      (λ stale. next_back (entry by (Do (DeliverDeck done)) (Refused (Stale deck.version))) deck (given_back done.kept) was (quiet _ _ _ (λ n. refl) (λ i. refl) (λ n. refl) (λ d. refl)) here
       (λ d. refl) (λ d. refl) (λ d. back d.waiting) (λ d. refl))
       (λ present. cond_both (not (is_sound done deck)) _ _ P (λ other. next_foreign done deck was for)
-      (λ sound. next_back (entry by (DeliverDeck done) Stored) deck (stored done.kept) was (quiet _ _ _ (λ n. refl) (λ i. refl) (λ n. refl) (λ d. refl)) here
+      (λ sound. next_back (entry by (Do (DeliverDeck done)) Stored) deck (stored done.kept) was (quiet _ _ _ (λ n. refl) (λ i. refl) (λ n. refl) (λ d. refl)) here
       (λ d. refl) (λ d. refl) (λ d. back d.waiting) (λ d. refl))))
 
-  next_deliver : (done : Done) (found : Option DeskDeck) → deck_leased done.lease desk ≡ found → Next history by desk told (DeliverDeck done) (deliver_to done desk found)
-  next_deliver done None found = next_quiet history by desk told (DeliverDeck done) _ (quiet _ _ _ (λ n. refl) (λ i. refl) (λ n. refl) (λ d. refl))
+  next_deliver : (done : Done) (found : Option DeskDeck) → deck_leased done.lease desk ≡ found → Next history by desk told (Do (DeliverDeck done)) (deliver_to done desk found)
+  next_deliver done None found = next_quiet history by desk told (Do (DeliverDeck done)) _ (quiet _ _ _ (λ n. refl) (λ i. refl) (λ n. refl) (λ d. refl))
   next_deliver done (Some deck) found =
       let here = found_told (IsDeckTold history desk.version desk.leases) (λ (d : DeskDeck). is_leased done.lease d.lease) desk.decks deck told.decks found in
       next_take_result done deck here.0 here.1
 
-  pub deliver_deck_next : (done : Done) → Next history by desk told (DeliverDeck done) (deliver_deck done desk)
+  pub deliver_deck_next : (done : Done) → Next history by desk told (Do (DeliverDeck done)) (deliver_deck done desk)
   deliver_deck_next done = next_deliver done (deck_leased done.lease desk) refl
 
   -- a reply that means nothing, after which no link is out
@@ -83,9 +83,9 @@ module _ (history : History) (by : ℕ) (desk : Desk) (told : IsDeskTold history
       IsDeskTold (entry by call reply ∷ history) next
   next_unlinked call reply next silent version leases decks link = told_unlinked history (entry by call reply) desk next silent told version leases decks link
 
-  pub deliver_link_next : (number : ℕ) (publication : Publication) → Next history by desk told (DeliverLink number publication) (deliver_link number publication desk)
+  pub deliver_link_next : (number : ℕ) (publication : Publication) → Next history by desk told (Do (DeliverLink number publication)) (deliver_link number publication desk)
   deliver_link_next number publication =
-      let call = DeliverLink number publication in
+      let call = Do (DeliverLink number publication) in
       let P = Next history by desk told call in
       cond_both (is_leased number desk.link) _ _ P
       (λ out. cond_both (not (is_leased_at publication.version desk.link)) _ _ P (λ other. next_unlinked call _ _ (quiet _ _ _ (λ n. refl) (λ i. refl) (λ n. refl) (λ d. refl)) refl refl refl refl)
@@ -94,16 +94,16 @@ module _ (history : History) (by : ℕ) (desk : Desk) (told : IsDeskTold history
       (λ same. next_unlinked call _ _ (quiet _ _ _ (λ n. refl) (λ i. refl) (λ n. refl) (λ d. refl)) refl refl refl refl))))
       (λ unknown. next_quiet history by desk told call _ (quiet _ _ _ (λ n. refl) (λ i. refl) (λ n. refl) (λ d. refl)))
 
-  pub offer_next : (number place : ℕ) (object : Deck) → Next history by desk told (OfferObject number place object) (offer_object number desk)
+  pub offer_next : (number place : ℕ) (object : Deck) → Next history by desk told (Do (OfferObject number place object)) (offer_object number desk)
   offer_next number place object =
-      let call = OfferObject number place object in
+      let call = Do (OfferObject number place object) in
       cond_both (is_leased number desk.link) _ _ (Next history by desk told call)
       (λ out. next_quiet history by desk told call _ (quiet _ _ _ (λ n. refl) (λ i. refl) (λ n. refl) (λ d. refl)))
       (λ unknown. next_quiet history by desk told call _ (quiet _ _ _ (λ n. refl) (λ i. refl) (λ n. refl) (λ d. refl)))
 
-  pub publish_next : (number : ℕ) → Next history by desk told (Publish number) (publish number desk)
+  pub publish_next : (number : ℕ) → Next history by desk told (Do (Publish number)) (publish number desk)
   publish_next number =
-      let call = Publish number in
+      let call = Do (Publish number) in
       let P = Next history by desk told call in
       cond_both (is_leased number desk.link) _ _ P
       (λ out. cond_both (not (is_leased_at desk.version desk.link)) _ _ P (λ old. next_unlinked call _ _ (quiet _ _ _ (λ n. refl) (λ i. refl) (λ n. refl) (λ d. refl)) refl refl refl refl)
@@ -111,9 +111,9 @@ module _ (history : History) (by : ℕ) (desk : Desk) (told : IsDeskTold history
       (λ built. next_unlinked call _ _ (quiet _ _ _ (λ n. refl) (λ i. refl) (λ n. refl) (λ d. refl)) refl refl refl refl)))
       (λ unknown. next_quiet history by desk told call _ (quiet _ _ _ (λ n. refl) (λ i. refl) (λ n. refl) (λ d. refl)))
 
-  next_give_up : (number : ℕ) (found : Option DeskDeck) → deck_leased number desk ≡ found → Next history by desk told (GiveUp number) (give_up_of number desk found)
+  next_give_up : (number : ℕ) (found : Option DeskDeck) → deck_leased number desk ≡ found → Next history by desk told (Do (GiveUp number)) (give_up_of number desk found)
   next_give_up number None found =
-      let call = GiveUp number in
+      let call = Do (GiveUp number) in
       cond_both (is_leased number desk.link) _ _ (Next history by desk told call)
       (λ out. next_unlinked call Cleared (unlinked desk) (quiet _ _ _ (λ n. refl) (λ i. refl) (λ n. refl)
       (λ d. ap (λ (o : Option ℕ). effect_if d o Loses) (leased_for history desk.leases number None desk.link told.link out))) refl refl refl refl)
@@ -121,8 +121,8 @@ module _ (history : History) (by : ℕ) (desk : Desk) (told : IsDeskTold history
   next_give_up number (Some deck) found =
       let here = found_told (IsDeckTold history desk.version desk.leases) (λ (d : DeskDeck). is_leased number d.lease) desk.decks deck told.decks found in
       let for = leased_for history desk.leases number (Some deck.identity) deck.lease here.0.leased here.1 in
-      next_lost (entry by (GiveUp number) Cleared) deck here.0
+      next_lost (entry by (Do (GiveUp number)) Cleared) deck here.0
       (record { adds_none = record { identities = λ n. refl; names = λ i. refl }; leases_none = λ n few. refl; effects = λ d. ap (λ (o : Option ℕ). effect_if d o Loses) for })
 
-  pub give_up_next : (number : ℕ) → Next history by desk told (GiveUp number) (give_up number desk)
+  pub give_up_next : (number : ℕ) → Next history by desk told (Do (GiveUp number)) (give_up number desk)
   give_up_next number = next_give_up number (deck_leased number desk) refl

@@ -1,7 +1,7 @@
 -- What takes a change back leads to the cards at the version before; and an undo of a deck's latest change makes it as it stands.
-use Rattle.std.proofs.{Common.{◌≡◌, ℕ, zero, suc, ◌+◌, ◌-◌, ◌==◌, ◌≤◌, Bool, true, false, cond, List, [], ◌∷◌, ◌++◌, length, take, map, find, nat_lt, inl, inr, Option, Some, Result, Ok, Err, refl, sym, ap, ap₂, ◌∙◌, subst, arith, append_assoc, append-nil, eqb-true}, lemmas.Bool.{ltb-true, ltb-false, false_from_ne_true, cond_both}, lemmas.List.Sums.fold-append}
+use Rattle.std.proofs.{Common.{◌≡◌, ℕ, zero, suc, ◌+◌, ◌-◌, ◌==◌, ◌≤◌, Bool, true, false, cond, List, [], ◌∷◌, ◌++◌, length, take, map, find, nat_lt, inl, inr, Option, Some, option_map, Result, Ok, Err, refl, sym, ap, ap₂, ◌∙◌, subst, arith, append_assoc, append-nil, eqb-true}, lemmas.Bool.{ltb-true, ltb-false, false_from_ne_true, cond_both}, lemmas.List.Sums.fold-append}
 use Rattle.cards.specs.{declared.carrying.Touched.Touched, Carrying.{Whereabouts, seen_before, one_further, one_nearer, in_gap, carried_place, placed, in_front, stands_from, stands_after, carried}}
-use Rattle.desk_core.{specs.Joins.Language.{Card, same_text}, specs.Joins.Edits.{Edit, Insert, Replace, Remove, edited, edited_by}, specs.Past.{KeptEdit, behind, change_at, backs_of}, specs.Desks.{Desk, DeskDeck, is_named, deck_named, put_if_named}, specs.Joins.Calls.{Undo, Carried, Refused, OutOfMemory}, specs.Answers.Answer, specs.Changing.edited_deck, specs.Earlier.edits_behind, specs.Carrying.{made_in, cards_of, carried_since, against_carry, accept_carried, batch_since_of}, specs.Undoing.{backs_at, against_change, undo, undo_where}, specs.Steps.Steps, proofs.AnswerLaws.unrefused}
+use Rattle.desk_core.{specs.Joins.Language.{Card, same_text}, specs.Joins.Edits.{Edit, Insert, Replace, Remove, edited, edited_by}, specs.Past.{KeptEdit, behind, change_at, backs_of}, specs.Desks.{Desk, DeskDeck, is_named, deck_named, put_if_named}, specs.Joins.Calls.{Undo, Make, Carried, Refused, OutOfMemory}, specs.Answers.Answer, specs.Changing.edited_deck, specs.Earlier.edits_behind, specs.Carrying.{made_in, cards_of, carried_since, against_carry, accept_carried, edit_since_of}, specs.Undoing.{backs_at, against_change, undo, undo_where}, specs.Steps.Steps, proofs.AnswerLaws.unrefused}
 use Rattle.desk_core.specs.Changing as changing
 
 -- those behind a version are the last of all
@@ -132,7 +132,7 @@ found-formed name form (d ∷ decks) deck keeps found =
 
 -- the latest change of a deck, taken back
 pub latest_back : (desk next : Desk) (name who : List ℕ) (version : ℕ) (deck : DeskDeck) (made before : ℕ) (edits : List Edit) →
-    deck_named name desk ≡ Some deck → edits_behind version deck ≡ [] → Steps desk (Undo name version who) (Carried made before edits) next →
+    deck_named name desk ≡ Some deck → edits_behind version deck ≡ [] → Steps desk (Make who (Undo name version)) (Carried made before edits) next →
     (after : DeskDeck) × (deck_named name next ≡ Some after) × (after.cards ≡ cards_of (version - 1) deck)
 latest_back desk next name who version deck made before edits found none (inr starved) = let e : Carried made before edits ≡ Refused OutOfMemory = starved.1 in cc
 latest_back desk next name who version deck made before edits found none (inl gave) =
@@ -140,9 +140,9 @@ latest_back desk next name who version deck made before edits found none (inl ga
     let last = accept_carried name who desk deck (carried_since version backs deck) in
     let over : undo name version who desk ≡ undo_where name version who desk (Some deck) = ap (undo_where name version who desk) found in
     let told : Carried made before edits ≡ (undo_where name version who desk (Some deck)).reply = gave.0 ∙ ap (λ (a : Answer). a.reply) over in
-    let one = (unrefused (against_change version deck) desk (batch_since_of name version backs who desk (Some deck)) (Carried made before edits) (λ refusal e. cc) told).1 in
-    let told_on : Carried made before edits ≡ (batch_since_of name version backs who desk (Some deck)).reply = told ∙ ap (λ (a : Answer). a.reply) one in
-    let two = (unrefused (against_carry version backs desk deck) desk last (Carried made before edits) (λ refusal e. cc) told_on).1 in
+    let one = (unrefused (against_change version deck) desk (edit_since_of false name version backs who desk (Some deck)) (Carried made before edits) (λ refusal e. cc) told).1 in
+    let told_on : Carried made before edits ≡ (edit_since_of false name version backs who desk (Some deck)).reply = told ∙ ap (λ (a : Answer). a.reply) one in
+    let two = (unrefused (option_map (changing.shown false) (against_carry version backs desk deck)) desk last (Carried made before edits) (λ refusal e. cc) told_on).1 in
     let both = accepts-made name who desk deck (carried_since version backs deck) made before edits (told_on ∙ ap (λ (a : Answer). a.reply) two) in
     let still : carried_since version backs deck ≡ Ok backs = ap (λ (kept : List KeptEdit). carried (seen_before (made_in kept)) backs) none ∙ carried-still (seen_before []) backs (λ place. refl) in
     let same : edits ≡ backs = let e : Ok edits ≡ Ok backs = sym both.0 ∙ still in cc in

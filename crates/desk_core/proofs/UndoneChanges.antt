@@ -2,7 +2,7 @@
 use Rattle.std.proofs.{Common.{◌≡◌, ℕ, ◌+◌, ◌-◌, ◌≤◌, ◌<◌, Bool, true, false, cond, not, nat_le, nat_lt, List, [], ◌∷◌, Option, Some, None, option_map, Result, Ok, Err, inl, inr, refl, sym, ap, ◌∙◌, subst, arith}, lemmas.Bool.leb-false}
 use Rattle.cards.specs.declared.carrying.Touched.{Touched}
 use Rattle.turn_office.specs.declared.history.Entry.{Entry}
-use Rattle.desk_core.{specs.Joins.Edits.{Edit, fault_of, first_fault}, specs.Joins.Causes.when, specs.Changes.{Change, Edited}, specs.Past.{KeptEdit, backs_of}, specs.Desks.{Desk, DeskDeck, deck_named}, specs.Joins.Calls.{Call, AddDeck, PutDeck, DropDeck, EditDeck, Batch, EditSince, BatchSince, Undo, Changes, CardsAt, Cards, Show, Status, Claim, DeliverDeck, DeliverLink, OfferObject, Publish, GiveUp, Reply, Carried, Refused, Refusal, OutOfMemory, OldVersion, Forgotten, NoChange, BatchSize}, specs.Answers.{Answer, unless, against_next}, specs.Changing.{accepted, edited_deck, edited, against_seen, against_edit, against_batch, is_batch, refusal_of}, specs.Earlier.edits_behind, specs.Carrying.{cards_of, carried_since, against_carry, accept_carried, edit_since_of, batch_since_of, bad_edit, alone}, specs.Undoing.{backs_at, against_change, undo, undo_where}, specs.Steps.{answer, Steps}, specs.Runs.{History, Runs, accepts, carried_in, change_asked, change_in}, proofs.AnswerLaws.{unrefused, no-reason, head-clear, map-clear}, proofs.PastLaws.one-applies, proofs.CarryDone.carry-clear, proofs.PastAlways.{HasPast, past-named}, proofs.PastRises.{none-behind, rise-after, cards-after}, proofs.UndoTakesBack.{found-formed, latest_back}}
+use Rattle.desk_core.{specs.Joins.Edits.{Edit, first_fault}, specs.Joins.Causes.when, specs.Changes.{Change, Edited}, specs.Past.{KeptEdit, backs_of}, specs.Desks.{Desk, DeskDeck, deck_named}, specs.Joins.Calls.{Exactly, Since, AddDeck, PutDeck, DropDeck, EditDeck, Undo, Call, Make, Ask, Do, Reply, Carried, Refused, Refusal, OutOfMemory, OldVersion, Forgotten, NoChange, BatchSize}, specs.Answers.{Answer, unless, against_next}, specs.Changing.{accepted, edited_deck, edited, against_seen, against_edits, is_batch, bad_edit, shown, edit_deck}, specs.Earlier.edits_behind, specs.Carrying.{cards_of, carried_since, against_carry, accept_carried, edit_since_of, is_alone, edits_of}, specs.Undoing.{backs_at, against_change, undo, undo_where}, specs.Steps.{answer, Steps}, specs.Runs.{History, Runs, accepts, carried_in, change_asked, change_in}, proofs.AnswerLaws.{unrefused, no-reason, head-clear, map-clear}, proofs.CarryDone.carry-clear, proofs.PastAlways.{HasPast, past-named}, proofs.PastRises.{none-behind, rise-after, cards-after}, proofs.UndoTakesBack.{found-formed, latest_back}}
 use Rattle.desk_core.specs.Joins.Edits as cards
 
 -- an answer that accepts is the one that nothing speaks against
@@ -35,26 +35,12 @@ carried-made n who desk deck (Ok es) reply edits e told =
 carried-made n who desk deck (Err touched) reply edits e told = absurd (let no : None ≡ Some edits = sym (ap carried_in e) ∙ told in cc)
 
 module _ (desk next : Desk) (name : List ℕ) (edits : List Edit) (deck : DeskDeck) where
-  -- by an edit or a batch that was asked for
-  by-edit : (n : List ℕ) (seen : ℕ) (edit : Edit) (who : List ℕ) (reply : Reply) → deck_named n desk ≡ Some deck → edit ∷ [] ≡ edits →
-      reply ≡ (answer (EditDeck n seen edit who) desk).reply → next ≡ (answer (EditDeck n seen edit who) desk).desk → accepts reply ≡ true → MadeEdits desk next n edits deck
-  by-edit n seen edit who reply found same told is takes =
-      let both = unless-accepted (against_edit seen edit desk (deck_named n desk)) desk (accepted (edited n who (edit ∷ []) desk)) reply told takes in
-      let clear : against_edit seen edit desk (Some deck) ≡ None = sym (ap (against_edit seen edit desk) found) ∙ both.0 in
-      let fault : Option Refusal = option_map refusal_of (fault_of edit deck.cards) in
-      let a = head-clear (against_seen seen deck) (fault ∷ against_next desk.version ∷ []) clear in
-      let b = head-clear fault (against_next desk.version ∷ []) a.1 in
-      record {
-        by = who;
-        made = is ∙ (ap (λ (x : Answer). x.desk) both.1 ∙ ap (λ (es : List Edit). edited n who es desk) same);
-        applied = subst (λ (es : List Edit). first_fault es deck.cards ≡ None) same (one-applies edit deck.cards (map-clear refusal_of (fault_of edit deck.cards) b.0));
-      }
-
-  by-batch : (n : List ℕ) (seen : ℕ) (several : List Edit) (who : List ℕ) (reply : Reply) → deck_named n desk ≡ Some deck → several ≡ edits →
-      reply ≡ (answer (Batch n seen several who) desk).reply → next ≡ (answer (Batch n seen several who) desk).desk → accepts reply ≡ true → MadeEdits desk next n edits deck
-  by-batch n seen several who reply found same told is takes =
-      let both = unless-accepted (against_batch seen several desk (deck_named n desk)) desk (accepted (edited n who several desk)) reply told takes in
-      let clear : against_batch seen several desk (Some deck) ≡ None = sym (ap (against_batch seen several desk) found) ∙ both.0 in
+  -- by edits that were asked for
+  by-edits : (single : Bool) (n : List ℕ) (seen : ℕ) (several : List Edit) (who : List ℕ) (reply : Reply) → deck_named n desk ≡ Some deck → several ≡ edits →
+      reply ≡ (edit_deck single n seen several who desk).reply → next ≡ (edit_deck single n seen several who desk).desk → accepts reply ≡ true → MadeEdits desk next n edits deck
+  by-edits single n seen several who reply found same told is takes =
+      let both = unless-accepted (option_map (shown single) (against_edits seen several desk (deck_named n desk))) desk (accepted (edited n who several desk)) reply told takes in
+      let clear : against_edits seen several desk (Some deck) ≡ None = sym (ap (against_edits seen several desk) found) ∙ map-clear (shown single) (against_edits seen several desk (deck_named n desk)) both.0 in
       let fault : Option Refusal = option_map bad_edit (first_fault several deck.cards) in
       let size : Option Refusal = when (not (is_batch several)) BatchSize in
       let a = head-clear (against_seen seen deck) (size ∷ fault ∷ against_next desk.version ∷ []) clear in
@@ -67,59 +53,37 @@ module _ (desk next : Desk) (name : List ℕ) (edits : List Edit) (deck : DeskDe
       }
 
   -- by edits that were carried
-  by-carried : (n : List ℕ) (seen : ℕ) (several : List Edit) (who : List ℕ) (reply : Reply) (against : Option Refusal) → (against ≡ None → against_carry seen several desk deck ≡ None) →
-      reply ≡ (unless against desk (accept_carried n who desk deck (carried_since seen several deck))).reply → next ≡ (unless against desk (accept_carried n who desk deck (carried_since seen several deck))).desk →
+  by-carried : (single : Bool) (n : List ℕ) (seen : ℕ) (several : List Edit) (who : List ℕ) (reply : Reply) →
+      reply ≡ (edit_since_of single n seen several who desk (Some deck)).reply → next ≡ (edit_since_of single n seen several who desk (Some deck)).desk →
       accepts reply ≡ true → carried_in reply ≡ Some edits → MadeEdits desk next n edits deck
-  by-carried n seen several who reply against clears told is takes tells =
-      let both = unless-accepted against desk (accept_carried n who desk deck (carried_since seen several deck)) reply told takes in
+  by-carried single n seen several who reply told is takes tells =
+      let both = unless-accepted (option_map (shown single) (against_carry seen several desk deck)) desk (accept_carried n who desk deck (carried_since seen several deck)) reply told takes in
       let made = carried-made n who desk deck (carried_since seen several deck) reply edits (told ∙ ap (λ (x : Answer). x.reply) both.1) tells in
       record {
         by = who;
         made = is ∙ (ap (λ (x : Answer). x.desk) both.1 ∙ made.1);
-        applied = (carry-clear seen several edits desk deck (clears both.0) made.0).apply_now;
+        applied = (carry-clear seen several edits desk deck (map-clear (shown single) (against_carry seen several desk deck) both.0) made.0).apply_now;
       }
 
   -- by any call
   by-call : (call : Call) (reply : Reply) → deck_named name desk ≡ Some deck → reply ≡ (answer call desk).reply → next ≡ (answer call desk).desk → accepts reply ≡ true → change_asked call reply ≡ Some (Edited name edits) → MadeEdits desk next name edits deck
-  by-call (AddDeck added) reply found told is takes asked = cc
-  by-call (PutDeck put seen) reply found told is takes asked = cc
-  by-call (DropDeck n seen) reply found told is takes asked = cc
-  by-call (EditDeck n seen edit who) reply found told is takes asked =
-      let same : n ≡ name = cc in let all : edit ∷ [] ≡ edits = cc in
-      renamed desk next n name edits deck same (by-edit n seen edit who reply (ap (λ (x : List ℕ). deck_named x desk) same ∙ found) all told is takes)
-  by-call (Batch n seen several who) reply found told is takes asked =
-      let same : n ≡ name = cc in let all : several ≡ edits = cc in
-      renamed desk next n name edits deck same (by-batch n seen several who reply (ap (λ (x : List ℕ). deck_named x desk) same ∙ found) all told is takes)
-  by-call (EditSince n seen edit who) reply found told is takes asked =
+  by-call (Make who (AddDeck added)) reply found told is takes asked = cc
+  by-call (Make who (PutDeck put seen)) reply found told is takes asked = cc
+  by-call (Make who (DropDeck n seen)) reply found told is takes asked = cc
+  by-call (Make who (EditDeck n (Exactly seen) several)) reply found told is takes asked =
+      let same : n ≡ name = cc in let all : edits_of several ≡ edits = cc in
+      renamed desk next n name edits deck same (by-edits (is_alone several) n seen (edits_of several) who reply (ap (λ (x : List ℕ). deck_named x desk) same ∙ found) all told is takes)
+  by-call (Make who (EditDeck n (Since seen) several)) reply found told is takes asked =
       let both = edits-told n name (carried_in reply) edits asked in
-      let here : answer (EditSince n seen edit who) desk ≡ unless (option_map alone (against_carry seen (edit ∷ []) desk deck)) desk (accept_carried n who desk deck (carried_since seen (edit ∷ []) deck)) =
-      ap (edit_since_of n seen edit who desk) (ap (λ (x : List ℕ). deck_named x desk) both.0 ∙ found) in
-      renamed desk next n name edits deck both.0 (by-carried n seen (edit ∷ []) who reply (option_map alone (against_carry seen (edit ∷ []) desk deck)) (λ none. map-clear alone (against_carry seen (edit ∷ []) desk deck) none)
-      (told ∙ ap (λ (x : Answer). x.reply) here) (is ∙ ap (λ (x : Answer). x.desk) here) takes both.1)
-  by-call (BatchSince n seen several who) reply found told is takes asked =
+      let here = ap (edit_since_of (is_alone several) n seen (edits_of several) who desk) (ap (λ (x : List ℕ). deck_named x desk) both.0 ∙ found) in
+      renamed desk next n name edits deck both.0 (by-carried (is_alone several) n seen (edits_of several) who reply (told ∙ ap (λ (x : Answer). x.reply) here) (is ∙ ap (λ (x : Answer). x.desk) here) takes both.1)
+  by-call (Make who (Undo n version)) reply found told is takes asked =
       let both = edits-told n name (carried_in reply) edits asked in
-      let here : answer (BatchSince n seen several who) desk ≡ unless (against_carry seen several desk deck) desk (accept_carried n who desk deck (carried_since seen several deck)) =
-      ap (batch_since_of n seen several who desk) (ap (λ (x : List ℕ). deck_named x desk) both.0 ∙ found) in
-      renamed desk next n name edits deck both.0 (by-carried n seen several who reply (against_carry seen several desk deck) (λ none. none)
-      (told ∙ ap (λ (x : Answer). x.reply) here) (is ∙ ap (λ (x : Answer). x.desk) here) takes both.1)
-  by-call (Undo n version who) reply found told is takes asked =
-      let both = edits-told n name (carried_in reply) edits asked in
-      let here : answer (Undo n version who) desk ≡ unless (against_change version deck) desk (batch_since_of n version (backs_at version deck) who desk (Some deck)) =
-      ap (undo_where n version who desk) (ap (λ (x : List ℕ). deck_named x desk) both.0 ∙ found) in
-      let past = unless-accepted (against_change version deck) desk (batch_since_of n version (backs_at version deck) who desk (Some deck)) reply (told ∙ ap (λ (x : Answer). x.reply) here) takes in
-      renamed desk next n name edits deck both.0 (by-carried n version (backs_at version deck) who reply (against_carry version (backs_at version deck) desk deck) (λ none. none)
-      (told ∙ ap (λ (x : Answer). x.reply) (here ∙ past.1)) (is ∙ ap (λ (x : Answer). x.desk) (here ∙ past.1)) takes both.1)
-  by-call (Changes n since) reply found told is takes asked = cc
-  by-call (CardsAt n version) reply found told is takes asked = cc
-  by-call (Cards n) reply found told is takes asked = cc
-  by-call Show reply found told is takes asked = cc
-  by-call Status reply found told is takes asked = cc
-  by-call Claim reply found told is takes asked = cc
-  by-call (DeliverDeck done) reply found told is takes asked = cc
-  by-call (DeliverLink number publication) reply found told is takes asked = cc
-  by-call (OfferObject number place object) reply found told is takes asked = cc
-  by-call (Publish number) reply found told is takes asked = cc
-  by-call (GiveUp number) reply found told is takes asked = cc
+      let here = ap (undo_where n version who desk) (ap (λ (x : List ℕ). deck_named x desk) both.0 ∙ found) in
+      let past = unless-accepted (against_change version deck) desk (edit_since_of false n version (backs_at version deck) who desk (Some deck)) reply (told ∙ ap (λ (x : Answer). x.reply) here) takes in
+      renamed desk next n name edits deck both.0 (by-carried false n version (backs_at version deck) who reply (told ∙ ap (λ (x : Answer). x.reply) (here ∙ past.1)) (is ∙ ap (λ (x : Answer). x.desk) (here ∙ past.1)) takes both.1)
+  by-call (Ask question) reply found told is takes asked = cc
+  by-call (Do work) reply found told is takes asked = cc
 
   by-step : (made : Entry Call Reply) → deck_named name desk ≡ Some deck → Steps desk made.call made.reply next → change_in made ≡ Some (Edited name edits) → MadeEdits desk next name edits deck
   by-step made found (inl gave) asked =
@@ -141,12 +105,12 @@ kept-then version deck clear =
 -- a change of edits, taken back at once
 pub undone : (begun : ℕ) (history : History) (desk next last : Desk) (made : Entry Call Reply) (name who : List ℕ) (deck : DeskDeck) (edits moved : List Edit) (version before : ℕ) →
     Runs begun history desk → deck_named name desk ≡ Some deck → Steps desk made.call made.reply next → change_in made ≡ Some (Edited name edits) →
-    Steps next (Undo name next.version who) (Carried version before moved) last → (after : DeskDeck) × (deck_named name last ≡ Some after) × (after.cards ≡ deck.cards)
+    Steps next (Make who (Undo name next.version)) (Carried version before moved) last → (after : DeskDeck) × (deck_named name last ≡ Some after) × (after.cards ≡ deck.cards)
 undone begun history desk next last made name who deck edits moved version before runs found step asked undoes =
     let by_edits = by-step desk next name edits deck made found step asked in
     at-next by_edits.by by_edits.made by_edits.applied undoes
   where
-    at-next : (by : List ℕ) → next ≡ edited name by edits desk → first_fault edits deck.cards ≡ None → Steps next (Undo name next.version who) (Carried version before moved) last →
+    at-next : (by : List ℕ) → next ≡ edited name by edits desk → first_fault edits deck.cards ≡ None → Steps next (Make who (Undo name next.version)) (Carried version before moved) last →
         (after : DeskDeck) × (deck_named name last ≡ Some after) × (after.cards ≡ deck.cards)
     at-next by is applied (inr starved) = absurd (let e : Carried version before moved ≡ Refused OutOfMemory = starved.1 in cc)
     at-next by is applied (inl gave) =
@@ -158,7 +122,7 @@ undone begun history desk next last made name who deck edits moved version befor
         ap (λ (v : ℕ). edits_behind v (form deck)) same ∙ none-behind (desk.version + 1) (form deck).past.since (desk.version + 1) (form deck).past.edits (rise-after desk.version by edits deck.cards deck.past has.rises) (omega arith) in
         let back = latest_back next last name who next.version (form deck) version before moved there late (inl gave) in
         let over : undo name next.version who next ≡ undo_where name next.version who next (Some (form deck)) = ap (undo_where name next.version who next) there in
-        let clear = unless-accepted (against_change next.version (form deck)) next (batch_since_of name next.version (backs_at next.version (form deck)) who next (Some (form deck))) (Carried version before moved)
+        let clear = unless-accepted (against_change next.version (form deck)) next (edit_since_of false name next.version (backs_at next.version (form deck)) who next (Some (form deck))) (Carried version before moved)
         (gave.0 ∙ ap (λ (a : Answer). a.reply) over) refl in
         let kept : (form deck).past.since ≤ desk.version = let less = kept-then next.version (form deck) clear.0 in omega (arith, less, same) in
         let place : next.version - 1 ≡ desk.version = omega (arith, same) in

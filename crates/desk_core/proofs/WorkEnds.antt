@@ -1,6 +1,6 @@
 -- Rounds from a desk without leases end where nothing is due.
 use Rattle.std.{proofs.Common.{◌≡◌, inl, inr, ℕ, zero, suc, ◌+◌, ◌≤◌, false, cond, is_some, Option, Some, None, refl, ap, ◌∙◌, arith}, specs.List.list_any, proofs.lemmas.Bool.cases_Bool}
-use Rattle.desk_core.{specs.Desks.{Desk, Lease, greatest_number}, specs.Joins.Calls.{Claim, Idle}, specs.Answers.{Answer, answers}, specs.Claiming.{claim, is_behind, is_published}, specs.Steps.answer, specs.Runs.{History, Runs}, specs.Rounds.{after_job, after_round, after_rounds, most_rounds}, specs.Progress.{is_given, has_leases}, proofs.Progress.neither, proofs.OwnAlways.own-last, proofs.RoundsLeft.{link_rounds, rounds_left, few_left, some_in}, proofs.DeckRounds.{IsResting, Goes, deck_round}, proofs.LinkRounds.{idle_claimed, link_round}}
+use Rattle.desk_core.{specs.Desks.{Desk, Lease, greatest_number}, specs.Joins.Calls.{Claim, Do, Idle}, specs.Answers.{Answer, answers}, specs.Claiming.{claim, is_behind, is_published}, specs.Steps.answer, specs.Runs.{History, Runs}, specs.Rounds.{after_job, after_round, after_rounds, most_rounds}, specs.Progress.{is_given, has_leases}, proofs.Progress.neither, proofs.OwnAlways.own-last, proofs.RoundsLeft.{link_rounds, rounds_left, few_left, some_in}, proofs.DeckRounds.{IsResting, Goes, deck_round}, proofs.LinkRounds.{idle_claimed, link_round}}
 
 -- rounds at an idle desk leave it as it is
 idle_stays : (rounds : ℕ) (desk : Desk) → claim desk ≡ answers (Idle desk.version) desk → after_rounds rounds desk ≡ desk
@@ -9,7 +9,7 @@ idle_stays (suc rounds) desk idle = ap (after_rounds rounds) (ap (λ (a : Answer
 
 -- the claim after so many rounds shows that this version is published
 abbrev Ends : ℕ → Desk → ℕ → Type 0
-Ends rounds desk version = (answer Claim (after_rounds rounds desk)).reply ≡ Idle version
+Ends rounds desk version = (answer (Do Claim) (after_rounds rounds desk)).reply ≡ Idle version
 
 ends_idle : (rounds : ℕ) (desk : Desk) → claim desk ≡ answers (Idle desk.version) desk → Ends rounds desk desk.version
 ends_idle rounds desk idle = ap (λ (d : Desk). (claim d).reply) (idle_stays rounds desk idle) ∙ ap (λ (a : Answer). a.reply) idle
@@ -44,7 +44,7 @@ none_linked (Some lease) none = cc
 
 -- from each desk without leases that is reached
 pub ends_at_idle : (begun : ℕ) (history : History) (desk : Desk) → Runs begun history desk → has_leases desk ≡ false → desk.leases + most_rounds desk ≤ greatest_number →
-    (answer Claim (after_rounds (most_rounds desk) desk)).reply ≡ Idle desk.version
+    (answer (Do Claim) (after_rounds (most_rounds desk) desk)).reply ≡ Idle desk.version
 ends_at_idle begun history desk runs free room =
     let both = neither (list_any is_given desk.decks) (is_some desk.link) free in
     ends_within (most_rounds desk) desk (record { own = own-last begun history desk runs; ungiven = both.0; unlinked = none_linked desk.link both.1 }) (few_left desk) room

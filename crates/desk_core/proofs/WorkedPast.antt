@@ -1,6 +1,6 @@
 -- Worked histories: what is kept of a deck's changes, and the cards at earlier versions.
 use Rattle.std.{proofs.Common.{◌≡◌, ℕ, List, [], ◌∷◌, map, codes, length, refl}, specs.List.range_with_len}
-use Rattle.desk_core.{specs.Joins.Edits.{Edit, Insert, Replace, Remove, edited_by}, specs.Past.{Past, KeptEdit, past_after}, specs.Desks.{Desk, new_desk}, specs.Joins.Calls.{AddDeck, PutDeck, DropDeck, EditDeck, Batch, Changes, CardsAt, Changed, ChangesAre, CardsBefore, Refused, NoDeck, OldVersion, Forgotten}, proofs.Worked.{replies_to, desk_after, M, me, deck_m}}
+use Rattle.desk_core.{specs.Joins.Edits.{Edit, Insert, Replace, Remove, edited_by}, specs.Past.{Past, KeptEdit, past_after}, specs.Desks.{Desk, new_desk}, specs.Joins.Calls.{Changed, ChangesAre, CardsBefore, Refused, NoDeck, OldVersion, Forgotten}, proofs.Worked.{replies_to, desk_after, M, me, deck_m, add, edit, batch, changes, cards_at, put, drop}}
 
 -- the name of another
 abbrev you : List ℕ
@@ -9,20 +9,20 @@ you = codes "ANNA"
 -- the deck M with the card *ONE, from version 1 on; at 2 a card is put behind it, and at 3 a batch replaces the first and removes the second
 abbrev at_three : Desk
 at_three = desk_after (
-    AddDeck (deck_m (codes "*ONE" ∷ [])) ∷ EditDeck M 1 (Insert 2 (codes "*TWO")) me ∷ Batch M 2 (Replace 1 (codes "*A") ∷ Remove 2 ∷ []) you ∷ []) new_desk
+    add (deck_m (codes "*ONE" ∷ [])) ∷ edit M 1 (Insert 2 (codes "*TWO")) me ∷ batch M 2 (Replace 1 (codes "*A") ∷ Remove 2 ∷ []) you ∷ []) new_desk
 
 abbrev kept : ℕ → Edit → Edit → List ℕ → KeptEdit
 kept version edit back by = record { version = version; edit = edit; back = back; by = by }
 
 -- the changes behind each version, each edit with what takes it back
-pub changes_told : replies_to (Changes M 1 ∷ Changes M 2 ∷ Changes M 3 ∷ Changes M 4 ∷ Changes M 0 ∷ Changes (codes "N") 1 ∷ []) at_three
+pub changes_told : replies_to (changes M 1 ∷ changes M 2 ∷ changes M 3 ∷ changes M 4 ∷ changes M 0 ∷ changes (codes "N") 1 ∷ []) at_three
     ≡ ChangesAre 3 (kept 2 (Insert 2 (codes "*TWO")) (Remove 2) me ∷ kept 3 (Replace 1 (codes "*A")) (Replace 1 (codes "*ONE")) you ∷ kept 3 (Remove 2) (Insert 2 (codes "*TWO")) you ∷ [])
     ∷ ChangesAre 3 (kept 3 (Replace 1 (codes "*A")) (Replace 1 (codes "*ONE")) you ∷ kept 3 (Remove 2) (Insert 2 (codes "*TWO")) you ∷ [])
     ∷ ChangesAre 3 [] ∷ Refused (OldVersion 3) ∷ Refused (Forgotten 1) ∷ Refused NoDeck ∷ []
 changes_told = refl
 
 -- the cards of now with what takes back all that came behind a version, the last first
-pub cards_told : replies_to (CardsAt M 1 ∷ CardsAt M 2 ∷ CardsAt M 3 ∷ CardsAt M 4 ∷ CardsAt M 0 ∷ []) at_three
+pub cards_told : replies_to (cards_at M 1 ∷ cards_at M 2 ∷ cards_at M 3 ∷ cards_at M 4 ∷ cards_at M 0 ∷ []) at_three
     ≡ CardsBefore 1 (codes "*A" ∷ []) (Insert 2 (codes "*TWO") ∷ Replace 1 (codes "*ONE") ∷ Remove 2 ∷ [])
     ∷ CardsBefore 2 (codes "*A" ∷ []) (Insert 2 (codes "*TWO") ∷ Replace 1 (codes "*ONE") ∷ [])
     ∷ CardsBefore 3 (codes "*A" ∷ []) [] ∷ Refused (OldVersion 3) ∷ Refused (Forgotten 1) ∷ []
@@ -33,7 +33,7 @@ pub taken_back : edited_by (Insert 2 (codes "*TWO") ∷ Replace 1 (codes "*ONE")
 taken_back = refl
 
 -- a deck that is put begins its past anew, and one that is dropped has none
-pub begun_anew : replies_to (PutDeck (deck_m (codes "*B" ∷ [])) 3 ∷ Changes M 3 ∷ Changes M 4 ∷ EditDeck M 4 (Remove 1) you ∷ Changes M 4 ∷ DropDeck M 5 ∷ Changes M 5 ∷ []) at_three
+pub begun_anew : replies_to (put (deck_m (codes "*B" ∷ [])) 3 ∷ changes M 3 ∷ changes M 4 ∷ edit M 4 (Remove 1) you ∷ changes M 4 ∷ drop M 5 ∷ changes M 5 ∷ []) at_three
     ≡ Changed 4 ∷ Refused (Forgotten 4) ∷ ChangesAre 4 [] ∷ Changed 5 ∷ ChangesAre 5 (kept 5 (Remove 1) (Insert 1 (codes "*B")) you ∷ []) ∷ Changed 6 ∷ Refused NoDeck ∷ []
 begun_anew = refl
 

@@ -1,11 +1,11 @@
 -- Worked histories: results that come late, records that go back, a deck dropped and added anew, a desk without decks.
 use Rattle.std.proofs.Common.{◌≡◌, ℕ, List, [], ◌∷◌, ◌++◌, reverse, take, codes, Some, None, refl}
-use Rattle.desk_core.{specs.Joins.Language.{listing_of, image_of}, specs.Joins.Edits.Replace, specs.Desks.new_desk, specs.Joins.Calls.{Call, AddDeck, DropDeck, Show, Status, Claim, DeliverLink, GiveUp, FromRecord, FromCards, Changed, Shown, StatusIs, LinkJob, Idle, AllOut, Stored, Cleared, Refused, NoPublication, UnknownJob, Stale, Foreign, Out, Behind, Ready}, specs.Runs.{History, decks_at}, specs.Jobs.{since_job, accepted_edits, handed_edits}, proofs.Worked.{replies_to, history_of, M, deck_m, kept, result, job, A, B, C, D, replace}}
+use Rattle.desk_core.{specs.Joins.Language.{listing_of, image_of}, specs.Joins.Edits.Replace, specs.Desks.new_desk, specs.Joins.Calls.{Call, FromRecord, FromCards, Changed, Shown, StatusIs, LinkJob, Idle, AllOut, Stored, Cleared, Refused, NoPublication, UnknownJob, Stale, Foreign, Out, Behind, Ready}, specs.Runs.{History, decks_at}, specs.Jobs.{since_job, accepted_edits, handed_edits}, proofs.Worked.{replies_to, history_of, M, deck_m, kept, result, job, A, B, C, D, replace, add, claim, deliver_link, show, give_up, drop, status}}
 
 -- a stale result gives its record back, and the next job carries it with the one edit
 pub late_result : replies_to (
-    AddDeck (deck_m A) ∷ Claim ∷ replace 1 (codes "*B") ∷ result 1 1 1 A ∷ result 1 1 1 A ∷ Claim ∷ result 2 1 2 B
-    ∷ Claim ∷ DeliverLink 3 (record { version = 2; decks = deck_m B ∷ [] }) ∷ Claim ∷ Show ∷ []) new_desk
+    add (deck_m A) ∷ claim ∷ replace 1 (codes "*B") ∷ result 1 1 1 A ∷ result 1 1 1 A ∷ claim ∷ result 2 1 2 B
+    ∷ claim ∷ deliver_link 3 (record { version = 2; decks = deck_m B ∷ [] }) ∷ claim ∷ show ∷ []) new_desk
     ≡ Changed 1 ∷ job 1 1 1 (FromCards A) [] ∷ Changed 2 ∷ Refused (Stale 2) ∷ Refused UnknownJob ∷ job 2 1 2 (FromRecord (kept A)) (Replace 1 (codes "*B") ∷ []) ∷ Stored
     ∷ LinkJob (record { lease = 3; version = 2; objects = deck_m B ∷ [] }) ∷ Stored ∷ Idle 2 ∷ Shown (record { version = 2; decks = deck_m B ∷ [] }) ∷ []
 late_result = refl
@@ -13,11 +13,11 @@ late_result = refl
 -- three edits while results are stale or stored, one more, and a job that is given up
 abbrev edits_and_results : List Call
 edits_and_results =
-    AddDeck (deck_m A) ∷ Claim ∷ replace 1 (codes "*B") ∷ replace 2 (codes "*C") ∷ result 1 1 1 A ∷ Claim ∷ replace 3 (codes "*D") ∷ result 2 1 3 C
-    ∷ Claim ∷ result 3 1 4 D ∷ replace 4 (codes "*A") ∷ Claim ∷ GiveUp 4 ∷ []
+    add (deck_m A) ∷ claim ∷ replace 1 (codes "*B") ∷ replace 2 (codes "*C") ∷ result 1 1 1 A ∷ claim ∷ replace 3 (codes "*D") ∷ result 2 1 3 C
+    ∷ claim ∷ result 3 1 4 D ∷ replace 4 (codes "*A") ∷ claim ∷ give_up 4 ∷ []
 
 -- of several jobs only the first carries cards, until the record is given up
-pub one_job_with_cards : replies_to (edits_and_results ++ Claim ∷ []) new_desk
+pub one_job_with_cards : replies_to (edits_and_results ++ claim ∷ []) new_desk
     ≡ Changed 1 ∷ job 1 1 1 (FromCards A) [] ∷ Changed 2 ∷ Changed 3 ∷ Refused (Stale 3)
     ∷ job 2 1 3 (FromRecord (kept A)) (Replace 1 (codes "*B") ∷ Replace 1 (codes "*C") ∷ []) ∷ Changed 4 ∷ Refused (Stale 4)
     ∷ job 3 1 4 (FromRecord (kept C)) (Replace 1 (codes "*D") ∷ []) ∷ Stored ∷ Changed 5
@@ -50,19 +50,19 @@ decks_at_two = refl
 
 -- a deck dropped and added anew has another identity, and the lease of the old one has ended
 pub dropped_and_added_anew : replies_to (
-    AddDeck (deck_m []) ∷ Claim ∷ DropDeck M 1 ∷ AddDeck (deck_m []) ∷ result 1 1 1 [] ∷ Claim ∷ GiveUp 2 ∷ GiveUp 2 ∷ []) new_desk
+    add (deck_m []) ∷ claim ∷ drop M 1 ∷ add (deck_m []) ∷ result 1 1 1 [] ∷ claim ∷ give_up 2 ∷ give_up 2 ∷ []) new_desk
     ≡ Changed 1 ∷ job 1 1 1 (FromCards []) [] ∷ Changed 2 ∷ Changed 3 ∷ Refused UnknownJob ∷ job 2 3 3 (FromCards []) [] ∷ Cleared ∷ Refused UnknownJob ∷ []
 dropped_and_added_anew = refl
 
 -- a late result is not taken for the new deck, under its own lease or under the new deck's
 pub late_for_another_deck : replies_to (
-    AddDeck (deck_m []) ∷ Claim ∷ DropDeck M 1 ∷ AddDeck (deck_m []) ∷ Claim ∷ result 1 1 1 [] ∷ result 1 3 3 [] ∷ result 2 1 1 [] ∷ Claim ∷ result 3 3 3 [] ∷ []) new_desk
+    add (deck_m []) ∷ claim ∷ drop M 1 ∷ add (deck_m []) ∷ claim ∷ result 1 1 1 [] ∷ result 1 3 3 [] ∷ result 2 1 1 [] ∷ claim ∷ result 3 3 3 [] ∷ []) new_desk
     ≡ Changed 1 ∷ job 1 1 1 (FromCards []) [] ∷ Changed 2 ∷ Changed 3 ∷ job 2 3 3 (FromCards []) [] ∷ Refused UnknownJob ∷ Refused UnknownJob ∷ Refused Foreign
     ∷ job 3 3 3 (FromCards []) [] ∷ Stored ∷ []
 late_for_another_deck = refl
 
 -- a new desk has to be linked before anything is shown
-pub new_desk_is_linked : replies_to (Show ∷ Claim ∷ Claim ∷ DeliverLink 1 (record { version = 0; decks = [] }) ∷ Show ∷ Claim ∷ []) new_desk
+pub new_desk_is_linked : replies_to (show ∷ claim ∷ claim ∷ deliver_link 1 (record { version = 0; decks = [] }) ∷ show ∷ claim ∷ []) new_desk
     ≡ Refused NoPublication ∷ LinkJob (record { lease = 1; version = 0; objects = [] }) ∷ AllOut ∷ Stored ∷ Shown (record { version = 0; decks = [] }) ∷ Idle 0 ∷ []
 new_desk_is_linked = refl
 
@@ -74,7 +74,7 @@ pub empty_image : image_of [] ≡ codes "END" ++ 10 ∷ []
 empty_image = refl
 
 -- the status of a deck that is behind, given out, stored
-pub states : replies_to (AddDeck (deck_m []) ∷ Status ∷ Claim ∷ Status ∷ Claim ∷ result 1 1 1 [] ∷ Status ∷ []) new_desk
+pub states : replies_to (add (deck_m []) ∷ status ∷ claim ∷ status ∷ claim ∷ result 1 1 1 [] ∷ status ∷ []) new_desk
     ≡ Changed 1 ∷ StatusIs 1 None (record { name = M; version = 1; cards = 0; state = Behind; decks_behind = 0 } ∷ []) ∷ job 1 1 1 (FromCards []) []
     ∷ StatusIs 1 None (record { name = M; version = 1; cards = 0; state = Out; decks_behind = 0 } ∷ []) ∷ AllOut ∷ Stored
     ∷ StatusIs 1 None (record { name = M; version = 1; cards = 0; state = Ready; decks_behind = 0 } ∷ []) ∷ []

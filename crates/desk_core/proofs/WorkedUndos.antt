@@ -1,44 +1,44 @@
 -- Worked histories: changes that are taken back.
 use Rattle.std.{proofs.Common.{◌≡◌, ℕ, false, List, [], ◌∷◌, codes, replicate, map, None, refl}, specs.List.range_with_len}
-use Rattle.desk_core.{specs.Joins.Edits.{Insert, Replace, Remove, DeckFull}, specs.Past.KeptEdit, specs.Desks.{Desk, new_desk}, specs.Joins.Calls.{AddDeck, EditDeck, Batch, Undo, Cards, Changed, Carried, CardsAre, Refused, NoDeck, OldVersion, BadEdit, Forgotten, TouchedCard, NoChange, VersionsSpent}, proofs.Worked.{replies_to, desk_after, M, me, deck_m}}
+use Rattle.desk_core.{specs.Joins.Edits.{Insert, Replace, Remove, DeckFull}, specs.Past.KeptEdit, specs.Desks.{Desk, new_desk}, specs.Joins.Calls.{Changed, Carried, CardsAre, Refused, NoDeck, OldVersion, BadEdit, Forgotten, TouchedCard, NoChange, VersionsSpent}, proofs.Worked.{replies_to, desk_after, M, me, deck_m, add, batch, edit, undo, cards}}
 
 -- the deck M with *A and *B at version 1; a batch removes the first and replaces the second, and another puts *X in front
 abbrev at_three : Desk
 at_three = desk_after (
-    AddDeck (deck_m (codes "*A" ∷ codes "*B" ∷ [])) ∷ Batch M 1 (Remove 1 ∷ Replace 1 (codes "*Y") ∷ []) me ∷ EditDeck M 2 (Insert 1 (codes "*X")) me ∷ []) new_desk
+    add (deck_m (codes "*A" ∷ codes "*B" ∷ [])) ∷ batch M 1 (Remove 1 ∷ Replace 1 (codes "*Y") ∷ []) me ∷ edit M 2 (Insert 1 (codes "*X")) me ∷ []) new_desk
 
 -- the batch is taken back, the last of its edits first, and what came behind it stays; and an undo is taken back as any change
-pub taken_back : replies_to (Undo M 2 me ∷ Cards M ∷ Undo M 4 me ∷ Cards M ∷ Undo M 3 me ∷ Cards M ∷ []) at_three
+pub taken_back : replies_to (undo M 2 me ∷ cards M ∷ undo M 4 me ∷ cards M ∷ undo M 3 me ∷ cards M ∷ []) at_three
     ≡ Carried 4 3 (Replace 2 (codes "*B") ∷ Insert 2 (codes "*A") ∷ []) ∷ CardsAre 4 (codes "*X" ∷ codes "*A" ∷ codes "*B" ∷ [])
     ∷ Carried 5 4 (Remove 2 ∷ Replace 2 (codes "*Y") ∷ []) ∷ CardsAre 5 (codes "*X" ∷ codes "*Y" ∷ [])
     ∷ Carried 6 5 (Remove 1 ∷ []) ∷ CardsAre 6 (codes "*Y" ∷ []) ∷ []
 taken_back = refl
 
 -- nothing that another changed is undone: the card is known by its number at the version that is taken back, with the version that changed it
-pub others_stay : replies_to (EditDeck M 3 (Replace 2 (codes "*Z")) me ∷ Undo M 2 me ∷ Undo M 3 me ∷ Undo M 4 me ∷ Undo M 2 me ∷ []) at_three
+pub others_stay : replies_to (edit M 3 (Replace 2 (codes "*Z")) me ∷ undo M 2 me ∷ undo M 3 me ∷ undo M 4 me ∷ undo M 2 me ∷ []) at_three
     ≡ Changed 4 ∷ Refused (TouchedCard 1 4) ∷ Carried 5 4 (Remove 1 ∷ []) ∷ Carried 6 5 (Replace 1 (codes "*Y") ∷ []) ∷ Refused (TouchedCard 1 4) ∷ []
 others_stay = refl
 
 -- a card that comes back finds its place where one beside it is as it was, and not between two that were changed
 abbrev at_two : Desk
-at_two = desk_after (AddDeck (deck_m (codes "*A" ∷ codes "*B" ∷ codes "*C" ∷ [])) ∷ EditDeck M 1 (Remove 2) me ∷ []) new_desk
+at_two = desk_after (add (deck_m (codes "*A" ∷ codes "*B" ∷ codes "*C" ∷ [])) ∷ edit M 1 (Remove 2) me ∷ []) new_desk
 
-pub between : replies_to (EditDeck M 2 (Remove 2) me ∷ Undo M 2 me ∷ Cards M ∷ []) at_two
+pub between : replies_to (edit M 2 (Remove 2) me ∷ undo M 2 me ∷ cards M ∷ []) at_two
     ≡ Changed 3 ∷ Carried 4 3 (Insert 2 (codes "*B") ∷ []) ∷ CardsAre 4 (codes "*A" ∷ codes "*B" ∷ []) ∷ []
 between = refl
 
-pub between_changed : replies_to (EditDeck M 2 (Replace 1 []) me ∷ EditDeck M 3 (Replace 2 []) me ∷ Undo M 2 me ∷ []) at_two
+pub between_changed : replies_to (edit M 2 (Replace 1 []) me ∷ edit M 3 (Replace 2 []) me ∷ undo M 2 me ∷ []) at_two
     ≡ Changed 3 ∷ Changed 4 ∷ Refused (TouchedCard 2 4) ∷ []
 between_changed = refl
 
 -- the refusals in their order: no edit made the version that added the deck, nor one that another deck's change made
 pub refused : replies_to (
-    Undo (codes "N") 2 me ∷ Undo M 4 me ∷ Undo M 1 me ∷ Undo M 0 me ∷ AddDeck (record { name = codes "N"; cards = [] }) ∷ Undo M 4 me ∷ EditDeck M 3 (Remove 1) me ∷ Undo M 4 me ∷ Undo M 5 me ∷ []) at_three
+    undo (codes "N") 2 me ∷ undo M 4 me ∷ undo M 1 me ∷ undo M 0 me ∷ add (record { name = codes "N"; cards = [] }) ∷ undo M 4 me ∷ edit M 3 (Remove 1) me ∷ undo M 4 me ∷ undo M 5 me ∷ []) at_three
     ≡ Refused NoDeck ∷ Refused (OldVersion 3) ∷ Refused (Forgotten 1) ∷ Refused (Forgotten 1) ∷ Changed 4 ∷ Refused (OldVersion 3) ∷ Changed 5 ∷ Refused NoChange ∷ Carried 6 5 (Insert 1 (codes "*X") ∷ []) ∷ []
 refused = refl
 
 -- a deck that others filled has no room for a card that comes back
-pub filled : replies_to (EditDeck M 2 (Insert 1 []) me ∷ Undo M 2 me ∷ []) (desk_after (AddDeck (deck_m (replicate 20000 [])) ∷ EditDeck M 1 (Remove 1) me ∷ []) new_desk)
+pub filled : replies_to (edit M 2 (Insert 1 []) me ∷ undo M 2 me ∷ []) (desk_after (add (deck_m (replicate 20000 [])) ∷ edit M 1 (Remove 1) me ∷ []) new_desk)
     ≡ Changed 3 ∷ Refused (BadEdit 1 DeckFull) ∷ []
 filled = refl
 
@@ -57,9 +57,9 @@ worn version = record {
 }
 
 -- the change of the version behind which all are kept is forgotten, though a rest of it is there
-pub forgotten : replies_to (Undo M 802 me ∷ Undo M 803 me ∷ Undo M 1902 me ∷ []) (worn 1902)
+pub forgotten : replies_to (undo M 802 me ∷ undo M 803 me ∷ undo M 1902 me ∷ []) (worn 1902)
     ≡ Refused (Forgotten 802) ∷ Refused (TouchedCard 1 804) ∷ Carried 1903 1902 (Replace 1 [] ∷ []) ∷ []
 forgotten = refl
 
-pub spent : replies_to (Undo M 803 me ∷ Undo M 1902 me ∷ []) (worn 4611686018427387904) ≡ Refused (TouchedCard 1 804) ∷ Refused VersionsSpent ∷ []
+pub spent : replies_to (undo M 803 me ∷ undo M 1902 me ∷ []) (worn 4611686018427387904) ≡ Refused (TouchedCard 1 804) ∷ Refused VersionsSpent ∷ []
 spent = refl

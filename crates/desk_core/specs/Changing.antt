@@ -1,4 +1,4 @@
--- Calls that change decks: Add, PutDeck, DropDeck, an edit, a Batch (ours).
+-- Changes of decks: AddDeck, PutDeck, DropDeck, and edits by who has seen the deck's present version (ours).
 use Rattle.std.specs.Prelude.{ℕ, ◌+◌, ◌==◌, Bool, false, not, ◌&&◌, ◌||◌, nat_le, nat_lt, List, [], ◌∷◌, ◌++◌, length, filter, is_some, Option, Some, None, option_map, if◌then◌else◌}
 use Rattle.desk_core.specs.{Joins.Language.{Card, Deck}, Joins.Causes.{when, first_cause}, Past.{begun_at, past_after}, Desks.{Desk, DeskDeck, most_decks, is_named, deck_named, with_deck}, Joins.Calls.{Changed, Refusal, NoSuchCard, DeckFull, NameTaken, NoDeck, OldVersion, TooManyDecks, BadEdit, BatchSize}, Answers.{Answer, answers, unless, against_next}}
 use Rattle.desk_core.specs.Joins.Edits as E
@@ -84,33 +84,33 @@ abbrev pub refusal_of : E.EditFault → Refusal
 refusal_of E.NoSuchCard = NoSuchCard
 refusal_of E.DeckFull = DeckFull
 
--- what speaks against an edit of a deck
-abbrev pub against_edit : ℕ → E.Edit → Desk → Option DeskDeck → Option Refusal
-against_edit seen edit desk None = Some NoDeck
-against_edit seen edit desk (Some deck) = first_cause (against_seen seen deck ∷ option_map refusal_of (E.fault_of edit deck.cards) ∷ against_next desk.version ∷ [])
-
--- an edit
-abbrev pub edit_deck : List ℕ → ℕ → E.Edit → List ℕ → Desk → Answer
-edit_deck name seen edit by desk = unless (against_edit seen edit desk (deck_named name desk)) desk (accepted (edited name by (edit ∷ []) desk))
-
--- how many edits a batch may have
+-- how many edits a change may have
 abbrev pub most_edits : ℕ
 most_edits = 100
 
--- whether a batch has so many edits as it may, one at least
+-- whether these are so many edits as a change may have, one at least
 abbrev pub is_batch : List E.Edit → Bool
 is_batch edits = nat_le 1 (length edits) && nat_le (length edits) most_edits
 
--- what speaks against a batch of edits of a deck
-abbrev pub against_batch : ℕ → List E.Edit → Desk → Option DeskDeck → Option Refusal
-against_batch seen edits desk None = Some NoDeck
-against_batch seen edits desk (Some deck) = first_cause (
+-- the refusal that shows which edit of several does not apply, and why
+abbrev pub bad_edit : ℕ × E.EditFault → Refusal
+bad_edit fault = BadEdit fault.0 fault.1
+
+-- what speaks against edits of a deck
+abbrev pub against_edits : ℕ → List E.Edit → Desk → Option DeskDeck → Option Refusal
+against_edits seen edits desk None = Some NoDeck
+against_edits seen edits desk (Some deck) = first_cause (
     against_seen seen deck
     ∷ when (not (is_batch edits)) BatchSize
-    ∷ option_map (λ (fault : ℕ × E.EditFault). BadEdit fault.0 fault.1) (E.first_fault edits deck.cards)
+    ∷ option_map bad_edit (E.first_fault edits deck.cards)
     ∷ against_next desk.version
     ∷ [])
 
--- Batch: all its edits or none, as one change
-abbrev pub batch : List ℕ → ℕ → List E.Edit → List ℕ → Desk → Answer
-batch name seen edits by desk = unless (against_batch seen edits desk (deck_named name desk)) desk (accepted (edited name by edits desk))
+-- a refusal of edits, which shows no number where it is of one alone
+abbrev pub shown : Bool → Refusal → Refusal
+shown single (BadEdit number fault) = if single then refusal_of fault else BadEdit number fault
+shown single refusal = refusal
+
+-- EditDeck by who has seen this version and no other, one edit or several: all of them or none, as one change
+abbrev pub edit_deck : Bool → List ℕ → ℕ → List E.Edit → List ℕ → Desk → Answer
+edit_deck single name seen edits by desk = unless (option_map (shown single) (against_edits seen edits desk (deck_named name desk))) desk (accepted (edited name by edits desk))

@@ -1,11 +1,11 @@
 -- Which edits a deck job has to carry, known by the history before it (ours). Histories are read newest first here.
 use Rattle.std.specs.{Prelude.{◌≡◌, ◌⊎◌, ⊤, ℕ, ◌==◌, List, [], ◌∷◌, ◌++◌, Option, Some, None, option_map, unwrap_or, if◌then◌else◌}, Option.option_or}
-use Rattle.desk_core.specs.{Joins.Language.same_text, Joins.Edits.Edit, Joins.Calls.{Call, AddDeck, PutDeck, EditDeck, Batch, EditSince, BatchSince, Undo, Claim, DeliverDeck, GiveUp, Reply, Changed, Carried, DeckJob, LinkJob, Cleared, Refused, Foreign, DeckWork, Start, FromRecord, FromCards}, Runs.History}
+use Rattle.desk_core.specs.{Joins.Language.same_text, Joins.Edits.Edit, Joins.Calls.{Exactly, Since, AddDeck, PutDeck, EditDeck, Undo, Claim, DeliverDeck, GiveUp, Call, Make, Do, Reply, Changed, Carried, DeckJob, LinkJob, Cleared, Refused, Foreign, DeckWork, Start, FromRecord, FromCards}, Carrying.edits_of, Runs.History}
 
 -- the identity that an entry gives to a deck of this name where it adds or puts one: the version that it makes
 abbrev pub identity_in : List ℕ → Call → Reply → Option ℕ
-identity_in name (AddDeck deck) (Changed version) = if same_text name deck.name then Some version else None
-identity_in name (PutDeck deck seen) (Changed version) = if same_text name deck.name then Some version else None
+identity_in name (Make by (AddDeck deck)) (Changed version) = if same_text name deck.name then Some version else None
+identity_in name (Make by (PutDeck deck seen)) (Changed version) = if same_text name deck.name then Some version else None
 identity_in name _ _ = None
 
 -- the deck of a name, by its identity: the latest that was added or put under that name
@@ -15,8 +15,8 @@ identity_of name (entry ∷ earlier) = option_or (identity_in name entry.call en
 
 -- what an entry gave the lease of this number for, if it gave it: a deck, or none for a link
 abbrev pub leased_in : ℕ → Call → Reply → Option (Option ℕ)
-leased_in number Claim (DeckJob job) = if job.lease == number then Some (Some job.deck) else None
-leased_in number Claim (LinkJob job) = if job.lease == number then Some None else None
+leased_in number (Do Claim) (DeckJob job) = if job.lease == number then Some (Some job.deck) else None
+leased_in number (Do Claim) (LinkJob job) = if job.lease == number then Some None else None
 leased_in number _ _ = None
 
 -- the deck for which a lease was given, by its identity
@@ -28,7 +28,7 @@ deck_of_lease number (entry ∷ earlier) = unwrap_or (leased_in number entry.cal
 pub data Effect : Type 0 where
   HandsOut : List Edit → Effect
   Loses : Effect
-  Edits : List Edit → Effect
+  Accepts : List Edit → Effect
   Leaves : Effect
 
 -- the effect on a deck, where it is the one that is meant
@@ -38,21 +38,19 @@ effect_if deck (Some other) effect = if other == deck then effect else Leaves
 
 -- the effect of a call with its reply on a deck: a foreign result loses the record, and so does giving up
 abbrev pub effect_on : ℕ → History → Call → Reply → Effect
-effect_on deck earlier (EditDeck name seen edit by) (Changed version) = effect_if deck (identity_of name earlier) (Edits (edit ∷ []))
-effect_on deck earlier (Batch name seen edits by) (Changed version) = effect_if deck (identity_of name earlier) (Edits edits)
-effect_on deck earlier (EditSince name seen edit by) (Carried version before edits) = effect_if deck (identity_of name earlier) (Edits edits)
-effect_on deck earlier (BatchSince name seen edits by) (Carried version before made) = effect_if deck (identity_of name earlier) (Edits made)
-effect_on deck earlier (Undo name of_version by) (Carried version before edits) = effect_if deck (identity_of name earlier) (Edits edits)
-effect_on deck earlier Claim (DeckJob job) = effect_if deck (Some job.deck) (HandsOut job.edits)
-effect_on deck earlier (DeliverDeck done) (Refused Foreign) = effect_if deck (deck_of_lease done.lease earlier) Loses
-effect_on deck earlier (GiveUp lease) Cleared = effect_if deck (deck_of_lease lease earlier) Loses
+effect_on deck earlier (Make by (EditDeck name (Exactly seen) edits)) (Changed version) = effect_if deck (identity_of name earlier) (Accepts (edits_of edits))
+effect_on deck earlier (Make by (EditDeck name (Since seen) edits)) (Carried version before made) = effect_if deck (identity_of name earlier) (Accepts made)
+effect_on deck earlier (Make by (Undo name of_version)) (Carried version before edits) = effect_if deck (identity_of name earlier) (Accepts edits)
+effect_on deck earlier (Do Claim) (DeckJob job) = effect_if deck (Some job.deck) (HandsOut job.edits)
+effect_on deck earlier (Do (DeliverDeck done)) (Refused Foreign) = effect_if deck (deck_of_lease done.lease earlier) Loses
+effect_on deck earlier (Do (GiveUp lease)) Cleared = effect_if deck (deck_of_lease lease earlier) Loses
 effect_on deck earlier _ _ = Leaves
 
 -- what is known of a deck's record, after one effect more
 abbrev pub after_effect : Effect → Option (List Edit) → Option (List Edit)
 after_effect (HandsOut edits) since = Some []
 after_effect Loses since = None
-after_effect (Edits edits) since = option_map (λ (before : List Edit). before ++ edits) since
+after_effect (Accepts edits) since = option_map (λ (before : List Edit). before ++ edits) since
 after_effect Leaves since = since
 
 -- the edits of a deck that were accepted since its latest job, in order; none where it had no job yet, or its record was lost since
@@ -71,7 +69,7 @@ IsDue job earlier = IsDueFrom job.start job.edits (since_job job.deck earlier)
 
 -- the edits that an effect accepts
 abbrev pub accepted_by : Effect → List Edit
-accepted_by (Edits edits) = edits
+accepted_by (Accepts edits) = edits
 accepted_by _ = []
 
 -- the edits that an effect hands out

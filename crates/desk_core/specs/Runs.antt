@@ -2,7 +2,8 @@
 use Rattle.std.specs.Prelude.{◌≡◌, ℕ, ◌+◌, ◌-◌, ◌≤◌, Bool, true, false, List, [], ◌∷◌, take, length, filter_map, Option, Some, None, option_map, if◌then◌else◌}
 use Rattle.cards.specs.Converging.{edits_in, Converge}
 use Rattle.turn_office.specs.{declared.history.Entry.Entry, Histories.Leads}
-use Rattle.desk_core.specs.{Joins.Language.{Card, Deck, same_text, listing_of, image_of}, Joins.Edits.Edit, Changes.{Change, Added, Dropped, Edited, Put, decks_after}, Past.KeptEdit, Led.HaveLed, Desks.{Desk, DeskDeck, Publication, new_desk_at, decks_of, deck_named}, Joins.Calls.{Call, AddDeck, PutDeck, DropDeck, EditDeck, Batch, EditSince, BatchSince, Undo, Reply, Changed, Carried}, Earlier.edits_behind, Carrying.{made_in, cards_of}, Steps.Steps}
+use Rattle.desk_core.specs.{Joins.Language.{Card, Deck, same_text, listing_of, image_of}, Joins.Edits.Edit, Changes.decks_after, Past.KeptEdit, Led.HaveLed, Desks.{Desk, DeskDeck, Publication, new_desk_at, decks_of, deck_named}, Joins.Calls.{Exactly, Since, Change, AddDeck, PutDeck, DropDeck, EditDeck, Undo, Call, Make, Reply, Changed, Carried}, Earlier.edits_behind, Carrying.{made_in, cards_of, edits_of}, Steps.Steps}
+use Rattle.desk_core.specs.Changes as changes
 
 -- calls with their replies, oldest first
 abbrev pub History : Type 0
@@ -17,16 +18,18 @@ abbrev pub carried_in : Reply → Option (List Edit)
 carried_in (Carried version seen edits) = Some edits
 carried_in _ = None
 
--- the change that a call asks for; where its edits are carried, with those that the reply shows
-abbrev pub change_asked : Call → Reply → Option Change
-change_asked (AddDeck deck) reply = Some (Added deck)
-change_asked (PutDeck deck seen) reply = Some (Put deck)
-change_asked (DropDeck name seen) reply = Some (Dropped name)
-change_asked (EditDeck name seen edit by) reply = Some (Edited name (edit ∷ []))
-change_asked (Batch name seen edits by) reply = Some (Edited name edits)
-change_asked (EditSince name seen edit by) reply = option_map (Edited name) (carried_in reply)
-change_asked (BatchSince name seen edits by) reply = option_map (Edited name) (carried_in reply)
-change_asked (Undo name version by) reply = option_map (Edited name) (carried_in reply)
+-- the change of decks that is asked for; where its edits are carried, with those that the reply shows
+abbrev pub change_made : Change → Reply → Option changes.Change
+change_made (AddDeck deck) reply = Some (changes.Added deck)
+change_made (PutDeck deck seen) reply = Some (changes.Put deck)
+change_made (DropDeck name seen) reply = Some (changes.Dropped name)
+change_made (EditDeck name (Exactly seen) edits) reply = Some (changes.Edited name (edits_of edits))
+change_made (EditDeck name (Since seen) edits) reply = option_map (changes.Edited name) (carried_in reply)
+change_made (Undo name version) reply = option_map (changes.Edited name) (carried_in reply)
+
+-- the change that a call asks for, if it asks for one
+abbrev pub change_asked : Call → Reply → Option changes.Change
+change_asked (Make by change) reply = change_made change reply
 change_asked _ reply = None
 
 -- whether a reply accepts a change
@@ -36,11 +39,11 @@ accepts (Carried version seen edits) = true
 accepts _ = false
 
 -- the change that an entry made
-abbrev pub change_in : Entry Call Reply → Option Change
+abbrev pub change_in : Entry Call Reply → Option changes.Change
 change_in entry = if accepts entry.reply then change_asked entry.call entry.reply else None
 
 -- the accepted changes, in order
-abbrev pub changes_in : History → List Change
+abbrev pub changes_in : History → List changes.Change
 changes_in history = filter_map change_in history
 
 -- the decks at a version: after as many accepted changes as it took to come there

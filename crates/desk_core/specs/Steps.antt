@@ -1,32 +1,41 @@
 -- The step of a desk (ours): a function of the call and the desk, and one free choice.
-use Rattle.std.specs.Prelude.{◌≡◌, ◌⊎◌, Bool, true, false, not, ◌&&◌, IsTrue}
-use Rattle.desk_core.specs.{Desks.Desk, Joins.Calls.{Call, AddDeck, PutDeck, DropDeck, EditDeck, Batch, EditSince, BatchSince, Undo, Changes, CardsAt, Cards, Show, Status, Claim, DeliverDeck, DeliverLink, OfferObject, Publish, GiveUp, Reply, Changed, Carried, CardsAre, ChangesAre, CardsBefore, Shown, StatusIs, DeckJob, LinkJob, Published, Refused, OutOfMemory}, Answers.Answer, Changing.{add_deck, put_deck, drop_deck, edit_deck, batch}, Reading.{cards, show, status}, Earlier.{changes, cards_at}, Carrying.{edit_since, batch_since}, Undoing.undo, Claiming.claim, Delivering.{deliver_deck, deliver_link, offer_object, publish, give_up}}
+use Rattle.std.specs.Prelude.{◌≡◌, ◌⊎◌, ℕ, List, Bool, true, false, not, ◌&&◌, IsTrue}
+use Rattle.desk_core.specs.{Desks.Desk, Joins.Calls.{Change, AddDeck, PutDeck, DropDeck, EditDeck, Undo, Question, Changes, CardsAt, Cards, Show, Status, Work, Claim, DeliverDeck, DeliverLink, OfferObject, Publish, GiveUp, Call, Make, Ask, Do, Reply, Changed, Carried, CardsAre, ChangesAre, CardsBefore, Shown, StatusIs, DeckJob, LinkJob, Published, Refused, OutOfMemory}, Answers.Answer, Changing.{add_deck, put_deck, drop_deck}, Reading.{cards, show, status}, Earlier.{changes, cards_at}, Carrying.edit_seen, Undoing.undo, Claiming.claim, Delivering.{deliver_deck, deliver_link, offer_object, publish, give_up}}
+
+-- what a change of who has a name is answered
+abbrev pub answer_to_change : List ℕ → Change → Desk → Answer
+answer_to_change by (AddDeck deck) desk = add_deck deck desk
+answer_to_change by (PutDeck deck seen) desk = put_deck deck seen desk
+answer_to_change by (DropDeck name seen) desk = drop_deck name seen desk
+answer_to_change by (EditDeck name seen edits) desk = edit_seen name seen edits by desk
+answer_to_change by (Undo name version) desk = undo name version by desk
+
+-- what a question is answered
+abbrev pub answer_to_question : Question → Desk → Answer
+answer_to_question (Changes name since) desk = changes name since desk
+answer_to_question (CardsAt name version) desk = cards_at name version desk
+answer_to_question (Cards name) desk = cards name desk
+answer_to_question Show desk = show desk
+answer_to_question Status desk = status desk
+
+-- what a worker is answered
+abbrev pub answer_to_work : Work → Desk → Answer
+answer_to_work Claim desk = claim desk
+answer_to_work (DeliverDeck done) desk = deliver_deck done desk
+answer_to_work (DeliverLink number publication) desk = deliver_link number publication desk
+answer_to_work (OfferObject number place object) desk = offer_object number desk
+answer_to_work (Publish number) desk = publish number desk
+answer_to_work (GiveUp number) desk = give_up number desk
 
 -- the answer of a desk to a call, where memory is found
 abbrev pub answer : Call → Desk → Answer
-answer (AddDeck deck) desk = add_deck deck desk
-answer (PutDeck deck seen) desk = put_deck deck seen desk
-answer (DropDeck name seen) desk = drop_deck name seen desk
-answer (EditDeck name seen edit by) desk = edit_deck name seen edit by desk
-answer (Batch name seen edits by) desk = batch name seen edits by desk
-answer (EditSince name seen edit by) desk = edit_since name seen edit by desk
-answer (BatchSince name seen edits by) desk = batch_since name seen edits by desk
-answer (Undo name version by) desk = undo name version by desk
-answer (Changes name since) desk = changes name since desk
-answer (CardsAt name version) desk = cards_at name version desk
-answer (Cards name) desk = cards name desk
-answer Show desk = show desk
-answer Status desk = status desk
-answer Claim desk = claim desk
-answer (DeliverDeck done) desk = deliver_deck done desk
-answer (DeliverLink number publication) desk = deliver_link number publication desk
-answer (OfferObject number place object) desk = offer_object number desk
-answer (Publish number) desk = publish number desk
-answer (GiveUp number) desk = give_up number desk
+answer (Make by change) desk = answer_to_change by change desk
+answer (Ask question) desk = answer_to_question question desk
+answer (Do work) desk = answer_to_work work desk
 
 -- a drop takes no memory
 abbrev pub is_drop : Call → Bool
-is_drop (DropDeck name seen) = true
+is_drop (Make by (DropDeck name seen)) = true
 is_drop _ = false
 
 -- whether a reply shows something that has to be stored or copied first

@@ -1,6 +1,6 @@
--- A call that takes a change back: Undo (ours).
-use Rattle.std.specs.Prelude.{ℕ, not, nat_le, nat_lt, List, [], ◌∷◌, Option, Some, None}
-use Rattle.desk_core.specs.{Joins.Causes.{when, first_cause}, Joins.Edits.Edit, Past.{change_at, backs_of}, Desks.{Desk, DeskDeck, deck_named}, Joins.Calls.{Refused, Refusal, NoDeck, OldVersion, Forgotten, NoChange}, Answers.{Answer, answers, unless}, Changing.is_batch, Carrying.batch_since_of}
+-- A change that takes another back: Undo (ours).
+use Rattle.std.specs.Prelude.{ℕ, false, not, nat_le, nat_lt, List, [], ◌∷◌, Option, Some, None}
+use Rattle.desk_core.specs.{Joins.Causes.{when, first_cause}, Joins.Edits.Edit, Past.{change_at, backs_of}, Desks.{Desk, DeskDeck, deck_named}, Joins.Calls.{Refused, Refusal, NoDeck, OldVersion, Forgotten, NoChange}, Answers.{Answer, answers, unless}, Changing.is_batch, Carrying.edit_since_of}
 
 -- the edits that take back a deck's change of a version, the last of them first
 abbrev pub backs_at : ℕ → DeskDeck → List Edit
@@ -14,10 +14,10 @@ against_change version deck = first_cause (
     ∷ when (not (is_batch (backs_at version deck))) NoChange
     ∷ [])
 
--- Undo, by the deck of its name: what takes the change back is a batch by who has seen that version
+-- Undo, by the deck of its name: what takes the change back is a batch of edits by who has seen that version
 abbrev pub undo_where : List ℕ → ℕ → List ℕ → Desk → Option DeskDeck → Answer
 undo_where name version by desk None = answers (Refused NoDeck) desk
-undo_where name version by desk (Some deck) = unless (against_change version deck) desk (batch_since_of name version (backs_at version deck) by desk (Some deck))
+undo_where name version by desk (Some deck) = unless (against_change version deck) desk (edit_since_of false name version (backs_at version deck) by desk (Some deck))
 
 -- Undo
 abbrev pub undo : List ℕ → ℕ → List ℕ → Desk → Answer

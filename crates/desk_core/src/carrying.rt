@@ -1,11 +1,10 @@
-//! Calls with edits that find their card: carried over what others changed since their sender looked.
-ghost use Rattle.std.specs.Prelude.{◌≡◌, ◌≤◌, ◌<◌, [], ◌∷◌, length, slice_get, option_map, None, Ok};
+//! Edits that find their card: carried over what others changed since their sender looked.
+ghost use Rattle.std.specs.Prelude.{◌≡◌, ◌<◌, length, slice_get, None, Ok};
 ghost use Rattle.std.specs.Option.{ForSome};
-ghost use Rattle.desk_core.specs.Changing.{refusal_of};
-ghost use Rattle.desk_core.specs.Carrying.{carried_since, against_carry, batch_since, edit_since, alone};
+ghost use Rattle.desk_core.specs.Carrying.{carried_since, against_carry, edit_since};
 ghost use Rattle.desk_core.specs.Joins.Turns.{MayAnswer};
 
-use crate::changing::MOST_EDITS;
+use crate::changing::{MOST_EDITS, shown};
 use crate::desk::{Desk, against_next};
 use crate::earlier::against_since;
 use crate::listed::Listed;
@@ -13,72 +12,29 @@ use crate::replies::{Refusal, Reply};
 use cards::{DeckName, Edit, copied_edits};
 
 impl Desk {
-    /// Edits of the deck by who saw a version of it, as one change.
-    pub(crate) fn batch_since(
+    /// Edits of the deck by who saw a version of it, one alone or several, as one change; for the reply they are
+    /// copied.
+    pub(crate) fn edit_since(
         &mut self,
-        name: &DeckName,
-        seen: u64,
-        edits: Listed<Edit>,
-        by: &DeckName,
-    ) -> Reply
-        ensures { MayAnswer self.old (batch_since name.now seen edits by.now self.old) result self.new }
-    {
-        let mut edits = edits.into_items();
-        self.batch_of(name, seen, &mut edits, by)
-    }
-
-    /// Edits of the deck by who saw a version of it, as one change; for the reply they are copied.
-    pub(crate) fn batch_of(
-        &mut self,
+        single: bool,
         name: &DeckName,
         seen: u64,
         edits: &mut [Edit],
         by: &DeckName,
     ) -> Reply
-        ensures { MayAnswer self.old (batch_since name.now seen edits.old by.now self.old) result self.new }
+        ensures { MayAnswer self.old (edit_since single name.now seen edits.old by.now self.old) result self.new }
     {
         let Some(place) = self.place_of(name) else {
             return Reply::Refused(Refusal::NoDeck);
         };
         if let Some(refusal) = self.carry_at(place, seen, edits) {
-            return Reply::Refused(refusal);
+            return Reply::Refused(shown(single, refusal));
         }
         let before = self.version_at(place);
         let Ok(copies) = copied_edits(self.alloc, edits) else {
             return Reply::Refused(Refusal::OutOfMemory);
         };
-        match self.edit_all_at(place, by, edits) {
-            Ok(version) => Reply::Carried {
-                version,
-                seen: before,
-                edits: Listed::new(copies),
-            },
-            Err(_) => Reply::Refused(Refusal::OutOfMemory),
-        }
-    }
-
-    /// One edit of the deck by who saw a version of it.
-    pub(crate) fn edit_since(
-        &mut self,
-        name: &DeckName,
-        seen: u64,
-        edit: Edit,
-        by: &DeckName,
-    ) -> Reply
-        ensures { MayAnswer self.old (edit_since name.now seen edit by.now self.old) result self.new }
-    {
-        let Some(place) = self.place_of(name) else {
-            return Reply::Refused(Refusal::NoDeck);
-        };
-        let mut edits = [edit];
-        if let Some(refusal) = self.carry_at(place, seen, &mut edits) {
-            return Reply::Refused(alone(refusal));
-        }
-        let before = self.version_at(place);
-        let Ok(copies) = copied_edits(self.alloc, &edits) else {
-            return Reply::Refused(Refusal::OutOfMemory);
-        };
-        match self.edit_at(place, by, &edits[0]) {
+        match self.edit_at(place, by, edits) {
             Ok(version) => Reply::Carried {
                 version,
                 seen: before,
@@ -114,15 +70,5 @@ impl Desk {
             return Some(refusal);
         }
         against_next(self.version)
-    }
-}
-
-/// The refusal of one edit alone, which shows no number.
-fn alone(refusal: Refusal) -> Refusal
-    ensures { result ≡ alone refusal }
-{
-    match refusal {
-        Refusal::BadEdit(_, fault) => Refusal::from(fault),
-        other => other,
     }
 }

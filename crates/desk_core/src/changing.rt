@@ -1,10 +1,10 @@
 //! Calls that change decks.
-ghost use Rattle.std.specs.Prelude.{◌≡◌, ◌+◌, ◌<◌, ◌≤◌, [], ◌∷◌, length, is_ok, None, Some, slice_get, remove, IfOk, if◌then◌else◌};
+ghost use Rattle.std.specs.Prelude.{◌≡◌, ◌+◌, ◌<◌, ◌≤◌, length, is_ok, None, Some, slice_get, remove, IfOk, if◌then◌else◌};
 ghost use Rattle.std.specs.Option.{ForSome};
 ghost use Rattle.desk_core.specs.Desks.{is_named, deck_named};
-ghost use Rattle.desk_core.specs.Joins.Edits.{fault_of, first_fault};
+ghost use Rattle.desk_core.specs.Joins.Edits.{first_fault};
 ghost use Rattle.desk_core.specs.Answers.{against_next};
-ghost use Rattle.desk_core.specs.Changing.{add_deck, added, accepted, against_add, put_deck, replaced_deck, against_put, drop_deck, against_drop, edit_deck, edited_deck, against_edit, batch, against_batch};
+ghost use Rattle.desk_core.specs.Changing.{add_deck, added, accepted, against_add, put_deck, replaced_deck, against_put, drop_deck, against_drop, edit_deck, edited_deck, against_edits, shown};
 ghost use Rattle.desk_core.specs.Joins.OwnNames.{IsPlaceOf, changed_at};
 ghost use Rattle.desk_core.specs.Joins.Turns.{IsAnswer, MayAnswer};
 
@@ -13,13 +13,13 @@ use crate::desk::{Desk, against_next};
 use crate::new_deck::NewDeck;
 use crate::replies::{Refusal, Reply};
 use crate::stored_deck::StoredDeck;
-use cards::{Card, DeckName, Edit, MOST_CARDS, fault_of, first_fault};
+use cards::{Card, DeckName, Edit, MOST_CARDS, first_fault};
 use std::alloc::AllocError;
 
 /// How many decks a desk has at most.
 const MOST_DECKS: usize = 64;
 
-/// How many edits a batch has at most.
+/// How many edits a change has at most.
 pub(crate) const MOST_EDITS: usize = 100;
 
 impl Desk {
@@ -176,83 +176,25 @@ impl Desk {
         Accepted::without(self.version, deck)
     }
 
-    /// One edit of the deck.
+    /// Edits of the deck by who saw its present version, one alone or several, all or none, as one change.
     pub(crate) fn edit_deck(
         &mut self,
-        name: &DeckName,
-        seen: u64,
-        edit: &Edit,
-        by: &DeckName,
-    ) -> Reply
-        ensures { MayAnswer self.old (edit_deck name.now seen edit.now by.now self.old) result self.new }
-    {
-        let Some(place) = self.place_of(name) else {
-            return Reply::Refused(Refusal::NoDeck);
-        };
-        if let Some(refusal) = self.against_edit(place, seen, edit) {
-            return Reply::Refused(refusal);
-        }
-        let object = self.decks.object_at(place);
-        match self.edit_at(place, by, edit) {
-            Ok(version) => Reply::Changed(Accepted::behind(version, object)),
-            Err(_) => {
-                drop(object);
-                Reply::Refused(Refusal::OutOfMemory)
-            }
-        }
-    }
-
-    fn against_edit(&self, place: usize, seen: u64, edit: &Edit) -> Option<Refusal>
-        requires { place < length self.now.decks }
-        ensures { result ≡ against_edit seen edit.now self.now (slice_get self.now.decks place) }
-    {
-        let deck = self.decks.deck_at(place);
-        if seen != deck.version() {
-            return Some(Refusal::OldVersion(deck.version()));
-        }
-        match fault_of(edit, deck.card_count()) {
-            Some(fault) => Some(Refusal::from(fault)),
-            None => against_next(self.version),
-        }
-    }
-
-    /// Makes an edit that applies to the deck at a place, as the next change.
-    pub(crate) fn edit_at(
-        &mut self,
-        place: usize,
-        by: &DeckName,
-        edit: &Edit,
-    ) -> Result<u64, AllocError>
-        requires within { place < length self.old.decks }
-        requires applies { ForSome (slice_get self.old.decks place) (λ deck. fault_of edit.now deck.cards ≡ None) }
-        requires room { against_next self.old.version ≡ None }
-        ensures desk { self.new ≡ (if is_ok result then changed_at place (edited_deck (self.old.version + 1) by.now (edit.now ∷ [])) (record self.old { version = self.old.version + 1 }) else self.old) }
-        ensures version { IfOk result (λ version. version ≡ self.old.version + 1) }
-    {
-        let version = self.version + 1;
-        self.decks.edit_at(self.alloc, place, version, by, edit)?;
-        self.version = version;
-        Ok(version)
-    }
-
-    /// Edits of the deck, all or none, as one change.
-    pub(crate) fn batch(
-        &mut self,
+        single: bool,
         name: &DeckName,
         seen: u64,
         edits: &[Edit],
         by: &DeckName,
     ) -> Reply
-        ensures { MayAnswer self.old (batch name.now seen edits.now by.now self.old) result self.new }
+        ensures { MayAnswer self.old (edit_deck single name.now seen edits.now by.now self.old) result self.new }
     {
         let Some(place) = self.place_of(name) else {
             return Reply::Refused(Refusal::NoDeck);
         };
-        if let Some(refusal) = self.against_batch(place, seen, edits) {
-            return Reply::Refused(refusal);
+        if let Some(refusal) = self.against_edits(place, seen, edits) {
+            return Reply::Refused(shown(single, refusal));
         }
         let object = self.decks.object_at(place);
-        match self.edit_all_at(place, by, edits) {
+        match self.edit_at(place, by, edits) {
             Ok(version) => Reply::Changed(Accepted::behind(version, object)),
             Err(_) => {
                 drop(object);
@@ -261,9 +203,9 @@ impl Desk {
         }
     }
 
-    fn against_batch(&self, place: usize, seen: u64, edits: &[Edit]) -> Option<Refusal>
+    fn against_edits(&self, place: usize, seen: u64, edits: &[Edit]) -> Option<Refusal>
         requires { place < length self.now.decks }
-        ensures { result ≡ against_batch seen edits.now self.now (slice_get self.now.decks place) }
+        ensures { result ≡ against_edits seen edits.now self.now (slice_get self.now.decks place) }
     {
         let deck = self.decks.deck_at(place);
         if seen != deck.version() {
@@ -279,7 +221,7 @@ impl Desk {
     }
 
     /// Makes edits of which each applies to the deck at a place, as the next change.
-    pub(crate) fn edit_all_at(
+    pub(crate) fn edit_at(
         &mut self,
         place: usize,
         by: &DeckName,
@@ -292,9 +234,18 @@ impl Desk {
         ensures version { IfOk result (λ version. version ≡ self.old.version + 1) }
     {
         let version = self.version + 1;
-        self.decks
-            .edit_all_at(self.alloc, place, version, by, edits)?;
+        self.decks.edit_at(self.alloc, place, version, by, edits)?;
         self.version = version;
         Ok(version)
+    }
+}
+
+/// A refusal of edits, which shows no number where it is of one alone.
+pub(crate) fn shown(single: bool, refusal: Refusal) -> Refusal
+    ensures { result ≡ shown single refusal }
+{
+    match refusal {
+        Refusal::BadEdit(_, fault) if single => Refusal::from(fault),
+        other => other,
     }
 }

@@ -3,7 +3,7 @@ ghost use Rattle.std.specs.Prelude.{◌≡◌, ◌<◌, ◌≤◌, [], ◌∷◌
 ghost use Rattle.std.specs.List.{list_any};
 ghost use Rattle.std.specs.Option.{ForSome};
 ghost use Rattle.desk_core.specs.Desks.{is_named, deck_of};
-ghost use Rattle.desk_core.specs.Joins.Edits.{fault_of, first_fault};
+ghost use Rattle.desk_core.specs.Joins.Edits.{first_fault};
 ghost use Rattle.desk_core.specs.Changing.{edited_deck, replaced_deck};
 ghost use Rattle.desk_core.specs.Claiming.{is_behind, is_free, given, deck_work};
 ghost use Rattle.desk_core.specs.Delivering.{lost, given_back, stored};
@@ -125,25 +125,8 @@ impl DeckList {
         deck.replace(alloc, version, cards)
     }
 
-    /// Makes an edit that applies to the deck at a place.
-    pub(crate) fn edit_at(
-        &mut self,
-        alloc: Global,
-        place: usize,
-        version: u64,
-        by: &DeckName,
-        edit: &Edit,
-    ) -> Result<(), AllocError>
-        requires within { place < length self.old }
-        requires applies { ForSome (slice_get self.old place) (λ deck. fault_of edit.now deck.cards ≡ None) }
-        ensures { self.new ≡ (if is_ok result then with_at place (edited_deck version by.now (edit.now ∷ [])) self.old else self.old) }
-    {
-        let deck = &mut self.decks[place];
-        deck.edit(alloc, version, by, edit)
-    }
-
     /// Makes edits of which each applies to the deck at a place, as one change.
-    pub(crate) fn edit_all_at(
+    pub(crate) fn edit_at(
         &mut self,
         alloc: Global,
         place: usize,
@@ -156,7 +139,7 @@ impl DeckList {
         ensures { self.new ≡ (if is_ok result then with_at place (edited_deck version by.now edits.now) self.old else self.old) }
     {
         let deck = &mut self.decks[place];
-        deck.edit_all(alloc, version, by, edits)
+        deck.edit(alloc, version, by, edits)
     }
 
     /// Gives the deck at a place out.

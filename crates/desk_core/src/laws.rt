@@ -1,5 +1,5 @@
 //! What holds in every run of a desk, each law as the contract of a function that does nothing.
-ghost use Rattle.std.specs.Prelude.{◌≡◌, ℕ, ◌+◌, ◌-◌, ◌≤◌, true, false, List, [], ◌∷◌, Some, reverse};
+ghost use Rattle.std.specs.Prelude.{◌≡◌, ℕ, ◌+◌, ◌-◌, ◌≤◌, true, false, List, [], Some, reverse};
 ghost use Rattle.turn_office.specs.declared.history.Entry.{Entry};
 ghost use Rattle.turn_office.specs.Histories.{Leads};
 ghost use Rattle.desk_core.specs.Joins.Language.{Card};
@@ -8,13 +8,13 @@ ghost use Rattle.desk_core.specs.Joins.Edits.{Edit, edited_by};
 ghost use Rattle.desk_core.specs.Past.{KeptEdit};
 ghost use Rattle.desk_core.specs.Led.{HaveLed};
 ghost use Rattle.desk_core.specs.Desks.{Desk, DeskDeck, Publication, deck_named, greatest_number};
-ghost use Rattle.desk_core.specs.Joins.Calls.{Call, Refusal, Reply, Show, Shown, Claim, Idle, DeliverLink, Publish, DeckJob, DeckWork, Refused, EditSince, BatchSince, Undo, Carried, Changes, ChangesAre, CardsAt, CardsBefore};
+ghost use Rattle.desk_core.specs.Joins.Calls.{Since, Edits, EditDeck, Undo, Changes, CardsAt, Show, Claim, DeliverLink, Publish, Call, Make, Ask, Do, Refusal, Reply, Shown, Idle, DeckJob, DeckWork, Refused, Carried, ChangesAre, CardsBefore};
 ghost use Rattle.desk_core.specs.Delivering.{own_publication};
 ghost use Rattle.desk_core.specs.Steps.{answer, Steps};
 ghost use Rattle.desk_core.specs.Runs.{History, Runs, HadCards, HasCards, InEachRun, LedSince, LosesNothing, change_in, IsBuildOf, IsUnchanged, IsOfItsChanges, IsPublishedAt, IsPublishedFrom};
 ghost use Rattle.desk_core.specs.Jobs.{IsDue, IsPartOf, accepted_edits, handed_edits};
 ghost use Rattle.desk_core.specs.Earlier.{edits_behind};
-ghost use Rattle.desk_core.specs.Carrying.{cards_of};
+ghost use Rattle.desk_core.specs.Carrying.{cards_of, edits_of};
 ghost use Rattle.desk_core.specs.Undoing.{backs_at};
 ghost use Rattle.desk_core.specs.Rounds.{after_rounds, most_rounds};
 ghost use Rattle.desk_core.specs.Progress.{has_leases, has_work, hands_a_deck, hands_a_link};
@@ -26,11 +26,11 @@ ghost use Rattle.desk_core.specs.Progress.{has_leases, has_work, hands_a_deck, h
 /// never falls. A desk that went on behind a version counts from there.
 pub fn every_run()
     ensures shown { (begun : ℕ) (history : History) (desk next : Desk) (publication : Publication) →
-        Runs begun history desk → Steps desk Show (Shown publication) next → IsBuildOf begun history desk publication }
+        Runs begun history desk → Steps desk (Ask Show) (Shown publication) next → IsBuildOf begun history desk publication }
     ensures refused { (desk next : Desk) (call : Call) (refusal : Refusal) →
         Steps desk call (Refused refusal) next → IsUnchanged desk next }
     ensures idle { (desk next : Desk) (version : ℕ) →
-        Steps desk Claim (Idle version) next → (version ≡ desk.version) × IsPublishedAt version desk }
+        Steps desk (Do Claim) (Idle version) next → (version ≡ desk.version) × IsPublishedAt version desk }
     ensures changes { (begun : ℕ) (history : History) (desk : Desk) → Runs begun history desk → IsOfItsChanges begun history desk }
     ensures published { (begun : ℕ) (history more : History) (desk last : Desk) (publication : Publication) →
         Runs begun history desk → desk.publication ≡ Some publication → Leads Steps desk more last →
@@ -43,7 +43,7 @@ pub fn every_run()
 /// the other, is a part of its accepted edits: each stands in at most one job.
 pub fn jobs_once()
     ensures due { (begun : ℕ) (history : History) (desk next : Desk) (job : DeckWork) →
-        Runs begun history desk → Steps desk Claim (DeckJob job) next → IsDue job (reverse history) }
+        Runs begun history desk → Steps desk (Do Claim) (DeckJob job) next → IsDue job (reverse history) }
     ensures once { (begun : ℕ) (history : History) (desk : Desk) (deck : ℕ) →
         Runs begun history desk → IsPartOf (accepted_edits deck (reverse history)) (handed_edits deck (reverse history)) }
 {}
@@ -53,9 +53,9 @@ pub fn jobs_once()
 /// lease. So a claim that is answered AllOut shows that a lease is out.
 pub fn work_is_handed_out()
     ensures deck { (desk next : Desk) (reply : Reply) →
-        Steps desk Claim reply next → has_leases desk ≡ false → has_work desk ≡ true → hands_a_deck reply ≡ true }
+        Steps desk (Do Claim) reply next → has_leases desk ≡ false → has_work desk ≡ true → hands_a_deck reply ≡ true }
     ensures link { (desk next : Desk) (reply : Reply) →
-        Steps desk Claim reply next → has_leases desk ≡ false → has_work desk ≡ false → hands_a_link reply ≡ true }
+        Steps desk (Do Claim) reply next → has_leases desk ≡ false → has_work desk ≡ false → hands_a_link reply ≡ true }
 {}
 
 /// Work ends: from each desk that is reached and of which no lease is out, rounds of one who works
@@ -66,14 +66,14 @@ pub fn work_is_handed_out()
 pub fn work_ends()
     ensures { (begun : ℕ) (history : History) (desk : Desk) →
         Runs begun history desk → has_leases desk ≡ false → desk.leases + most_rounds desk ≤ greatest_number →
-        (answer Claim (after_rounds (most_rounds desk) desk)).reply ≡ Idle desk.version }
+        (answer (Do Claim) (after_rounds (most_rounds desk) desk)).reply ≡ Idle desk.version }
 {}
 
 /// What a desk publishes of its own decks, where none is behind, is what is published where they are delivered under
 /// its version: the desk is the same after both. So who has the desk publish does what the link job is for.
 pub fn published_is_delivered()
     ensures { (lease : ℕ) (desk : Desk) → has_work desk ≡ false →
-        (answer (Publish lease) desk).desk ≡ (answer (DeliverLink lease (own_publication desk)) desk).desk }
+        (answer (Do (Publish lease)) desk).desk ≡ (answer (Do (DeliverLink lease (own_publication desk))) desk).desk }
 {}
 
 /// An undo takes back what the change did: made on the cards that a deck had at a version, what takes the
@@ -84,10 +84,10 @@ pub fn published_is_delivered()
 pub fn undo_takes_back()
     ensures back { (version : ℕ) (deck : DeskDeck) → edited_by (backs_at version deck) (cards_of version deck) ≡ cards_of (version - 1) deck }
     ensures latest { (desk next : Desk) (name who : List ℕ) (version : ℕ) (deck : DeskDeck) (made before : ℕ) (edits : List Edit) →
-        deck_named name desk ≡ Some deck → edits_behind version deck ≡ [] → Steps desk (Undo name version who) (Carried made before edits) next → HasCards name (cards_of (version - 1) deck) next }
+        deck_named name desk ≡ Some deck → edits_behind version deck ≡ [] → Steps desk (Make who (Undo name version)) (Carried made before edits) next → HasCards name (cards_of (version - 1) deck) next }
     ensures undone { (begun : ℕ) (history : History) (desk next last : Desk) (made : Entry Call Reply) (name who : List ℕ) (deck : DeskDeck) (edits moved : List Edit) (version before : ℕ) →
         Runs begun history desk → deck_named name desk ≡ Some deck → Steps desk made.call made.reply next → change_in made ≡ Some (Edited name edits) →
-        Steps next (Undo name next.version who) (Carried version before moved) last → HasCards name deck.cards last }
+        Steps next (Make who (Undo name next.version)) (Carried version before moved) last → HasCards name deck.cards last }
 {}
 
 /// What is kept of a deck's changes is what happened, in every run: from the version on behind which all is
@@ -101,19 +101,17 @@ pub fn kept_changes()
     ensures led { InEachRun (λ begun history desk. (name : List ℕ) (deck : DeskDeck) (version : ℕ) →
         deck_named name desk ≡ Some deck → HaveLed (cards_of version deck) (edits_behind version deck) deck.cards) }
     ensures shown { InEachRun (λ begun history desk. (next : Desk) (name : List ℕ) (version told : ℕ) (cards : List Card) (backs : List Edit) →
-        Steps desk (CardsAt name version) (CardsBefore told cards backs) next → HadCards begun history name version (edited_by backs cards)) }
+        Steps desk (Ask (CardsAt name version)) (CardsBefore told cards backs) next → HadCards begun history name version (edited_by backs cards)) }
     ensures told { InEachRun (λ begun history desk. (next : Desk) (name : List ℕ) (version last : ℕ) (edits : List KeptEdit) →
-        Steps desk (Changes name version) (ChangesAre last edits) next → LedSince begun history name version edits desk) }
+        Steps desk (Ask (Changes name version)) (ChangesAre last edits) next → LedSince begun history name version edits desk) }
 {}
 
 /// Who edits by a version that he saw, or takes a change back, undoes nothing of others: in every run the edits
 /// that are made converge with those that others made behind that version. They do to the cards of now what they
 /// would have done to those of that version, and every edit of others is still made.
 pub fn nobody_is_undone()
-    ensures edit { InEachRun (λ begun history desk. (next : Desk) (name who : List ℕ) (deck : DeskDeck) (edit : Edit) (moved : List Edit) (seen version before : ℕ) →
-        deck_named name desk ≡ Some deck → Steps desk (EditSince name seen edit who) (Carried version before moved) next → LosesNothing seen deck (edit ∷ []) moved) }
-    ensures batch { InEachRun (λ begun history desk. (next : Desk) (name who : List ℕ) (deck : DeskDeck) (edits moved : List Edit) (seen version before : ℕ) →
-        deck_named name desk ≡ Some deck → Steps desk (BatchSince name seen edits who) (Carried version before moved) next → LosesNothing seen deck edits moved) }
+    ensures edit { InEachRun (λ begun history desk. (next : Desk) (name who : List ℕ) (deck : DeskDeck) (edits : Edits) (moved : List Edit) (seen version before : ℕ) →
+        deck_named name desk ≡ Some deck → Steps desk (Make who (EditDeck name (Since seen) edits)) (Carried version before moved) next → LosesNothing seen deck (edits_of edits) moved) }
     ensures undo { InEachRun (λ begun history desk. (next : Desk) (name who : List ℕ) (deck : DeskDeck) (moved : List Edit) (seen version before : ℕ) →
-        deck_named name desk ≡ Some deck → Steps desk (Undo name seen who) (Carried version before moved) next → LosesNothing seen deck (backs_at seen deck) moved) }
+        deck_named name desk ≡ Some deck → Steps desk (Make who (Undo name seen)) (Carried version before moved) next → LosesNothing seen deck (backs_at seen deck) moved) }
 {}

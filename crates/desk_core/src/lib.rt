@@ -55,7 +55,7 @@ mod undoing;
 mod laws;
 
 pub use accepted::Accepted;
-pub use calls::{Call, Done};
+pub use calls::{Call, Change, Done, Edits, Question, Work};
 pub use deck_cards::DeckCards;
 pub use desk::Desk;
 pub use held::Held;

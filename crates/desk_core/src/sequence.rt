@@ -1,9 +1,14 @@
 //! One step of the desk, and the desk as an object that callers take turns at.
-ghost use Rattle.desk_core.specs.Steps.{Steps};
+ghost use Rattle.desk_core.specs.Carrying.{edit_by, edit_seen};
+ghost use Rattle.desk_core.specs.Joins.Turns.{MayAnswer};
+ghost use Rattle.desk_core.specs.Steps.{Steps, answer_to_question, answer_to_work};
+ghost use Rattle.desk_core.specs.declared.calls.Call.TheVariants.{Make};
 
-use crate::calls::Call;
+use crate::calls::{Call, Change, Edits, Question, Work};
 use crate::desk::Desk;
 use crate::replies::Reply;
+use cards::{DeckName, Edit};
+use session_commands::Seen;
 use turn_office::Sequential;
 
 impl Desk {
@@ -14,49 +19,86 @@ impl Desk {
         ensures { Steps self.old call result self.new }
     {
         match call {
-            Call::AddDeck(deck) => self.add_deck(deck),
-            Call::PutDeck { deck, seen } => self.put_deck(deck, seen),
-            Call::DropDeck { name, seen } => self.drop_deck(&name, seen),
-            Call::EditDeck {
-                name,
-                seen,
-                edit,
-                by,
-            } => self.edit_deck(&name, seen, &edit, &by),
-            Call::Batch {
-                name,
-                seen,
-                edits,
-                by,
-            } => self.batch(&name, seen, edits.as_slice(), &by),
-            Call::EditSince {
-                name,
-                seen,
-                edit,
-                by,
-            } => self.edit_since(&name, seen, edit, &by),
-            Call::BatchSince {
-                name,
-                seen,
-                edits,
-                by,
-            } => self.batch_since(&name, seen, edits, &by),
-            Call::Undo { name, version, by } => self.undo(&name, version, &by),
-            Call::Changes { name, since } => self.changes(&name, since),
-            Call::CardsAt { name, version } => self.earlier_cards(&name, version),
-            Call::Cards(name) => self.cards(&name),
-            Call::Show => self.show(),
-            Call::Status => self.status(),
-            Call::Claim => self.claim(),
-            Call::DeliverDeck(done) => self.deliver_deck(done),
-            Call::DeliverLink { lease, publication } => self.deliver_link(lease, publication),
-            Call::OfferObject {
+            Call::Make { by, change } => self.make(&by, change),
+            Call::Ask(question) => self.tell(question),
+            Call::Do(work) => self.work(work),
+        }
+    }
+
+    /// Makes a change of who has this name.
+    fn make(&mut self, by: &DeckName, change: Change) -> Reply
+        ensures { Steps self.old (Make by.now change) result self.new }
+    {
+        match change {
+            Change::AddDeck(deck) => self.add_deck(deck),
+            Change::PutDeck { deck, seen } => self.put_deck(deck, seen),
+            Change::DropDeck { name, seen } => self.drop_deck(&name, seen),
+            Change::EditDeck { name, seen, edits } => self.edit(&name, seen, edits, by),
+            Change::Undo { name, version } => self.undo(&name, version, by),
+        }
+    }
+
+    /// Makes edits of the deck by who saw a version of it.
+    fn edit(&mut self, name: &DeckName, seen: Seen, edits: Edits, by: &DeckName) -> Reply
+        ensures { MayAnswer self.old (edit_seen name.now seen edits by.now self.old) result self.new }
+    {
+        match edits {
+            Edits::Batch(edits) => {
+                let mut edits = edits.into_items();
+                self.edit_by(false, name, seen, &mut edits, by)
+            }
+            Edits::One(edit) => {
+                let mut edits = [edit];
+                self.edit_by(true, name, seen, &mut edits, by)
+            }
+        }
+    }
+
+    /// Makes edits in their order, by who saw a version of the deck: one alone, or a batch.
+    fn edit_by(
+        &mut self,
+        single: bool,
+        name: &DeckName,
+        seen: Seen,
+        edits: &mut [Edit],
+        by: &DeckName,
+    ) -> Reply
+        ensures { MayAnswer self.old (edit_by single name.now seen edits.old by.now self.old) result self.new }
+    {
+        match seen {
+            Seen::Exactly(seen) => self.edit_deck(single, name, seen, edits, by),
+            Seen::Since(seen) => self.edit_since(single, name, seen, edits, by),
+        }
+    }
+
+    /// Answers a question.
+    fn tell(&self, question: Question) -> Reply
+        ensures { MayAnswer self.now (answer_to_question question self.now) result self.now }
+    {
+        match question {
+            Question::Changes { name, since } => self.changes(&name, since),
+            Question::CardsAt { name, version } => self.earlier_cards(&name, version),
+            Question::Cards(name) => self.cards(&name),
+            Question::Show => self.show(),
+            Question::Status => self.status(),
+        }
+    }
+
+    /// Answers a worker.
+    fn work(&mut self, work: Work) -> Reply
+        ensures { MayAnswer self.old (answer_to_work work self.old) result self.new }
+    {
+        match work {
+            Work::Claim => self.claim(),
+            Work::DeliverDeck(done) => self.deliver_deck(done),
+            Work::DeliverLink { lease, publication } => self.deliver_link(lease, publication),
+            Work::OfferObject {
                 lease,
                 place,
                 object,
             } => self.offer_object(lease, place, object),
-            Call::Publish(lease) => self.publish(lease),
-            Call::GiveUp(lease) => self.give_up(lease),
+            Work::Publish(lease) => self.publish(lease),
+            Work::GiveUp(lease) => self.give_up(lease),
         }
     }
 }

@@ -2,13 +2,13 @@
 ghost use Rattle.std.specs.Prelude.{◌≡◌, ◌≤◌, ◌||◌, ◌&&◌, length, None, Some, [], ◌∷◌, is_ok, is_some, option_map, Ok, true, IfOk, if◌then◌else◌};
 ghost use Rattle.desk_core.specs.Desks.{is_named, is_leased, deck_of};
 ghost use Rattle.desk_core.specs.Joins.Edits.{fault_of, first_fault};
-ghost use Rattle.desk_core.specs.Changing.{added_deck, replaced_deck, edited_deck};
+ghost use Rattle.desk_core.specs.Changing.{added_deck, bad_edit, replaced_deck, edited_deck};
 ghost use Rattle.desk_core.specs.Claiming.{is_behind, is_free, given, deck_work};
 ghost use Rattle.desk_core.specs.Delivering.{is_for, same_deck, lost, given_back, stored};
 ghost use Rattle.desk_core.specs.Past.{backs_of};
 ghost use Rattle.desk_core.specs.Joins.Causes.{first_cause};
 ghost use Rattle.desk_core.specs.Earlier.{edits_behind};
-ghost use Rattle.desk_core.specs.Carrying.{cards_of, carried_since, bad_edit, against_carried};
+ghost use Rattle.desk_core.specs.Carrying.{cards_of, carried_since, against_carried};
 ghost use Rattle.desk_core.specs.Undoing.{backs_at};
 ghost use Rattle.desk_core.specs.Joins.Stored.{backs_from};
 ghost use Rattle.desk_core.specs.Reading.{decks_behind_of, row_of, state_of};
@@ -121,9 +121,27 @@ impl StoredDeck {
         self.kept.is_some() || self.lease.is_some()
     }
 
+    /// Makes edits of which each applies, as one change of this version by who has this name: one alone where it
+    /// lies. Without memory nothing changes.
+    pub(crate) fn edit(
+        &mut self,
+        alloc: Global,
+        version: u64,
+        by: &DeckName,
+        edits: &[Edit],
+    ) -> Result<(), AllocError>
+        requires { first_fault edits.now self.old.cards ≡ None }
+        ensures { self.new ≡ (if is_ok result then edited_deck version by.now edits.now self.old else self.old) }
+    {
+        match edits {
+            [edit] => self.edit_one(alloc, version, by, edit),
+            _ => self.edit_all(alloc, version, by, edits),
+        }
+    }
+
     /// Makes an edit that applies, as the change of this version by who has this name. Without memory
     /// nothing changes.
-    pub(crate) fn edit(
+    fn edit_one(
         &mut self,
         alloc: Global,
         version: u64,
@@ -152,7 +170,7 @@ impl StoredDeck {
 
     /// Makes edits of which each applies, as one change of this version by who has this name. Without
     /// memory nothing changes.
-    pub(crate) fn edit_all(
+    fn edit_all(
         &mut self,
         alloc: Global,
         version: u64,

@@ -1,6 +1,5 @@
-//! A call that takes a change back.
+//! A change that takes another back.
 ghost use Rattle.std.specs.Prelude.{◌≡◌};
-ghost use Rattle.desk_core.specs.Carrying.{batch_since};
 ghost use Rattle.desk_core.specs.Undoing.{against_change, undo};
 ghost use Rattle.desk_core.specs.Joins.Turns.{MayAnswer};
 
@@ -29,7 +28,7 @@ impl Desk {
         let mut room: [Edit; MOST_EDITS] = from_fn(|_| Edit::Remove { at: 0 });
         let edits = room.split_at_mut(backs.len()).0;
         put_backs(backs, edits);
-        self.batch_of(name, version, edits, by)
+        self.edit_since(false, name, version, edits, by)
     }
 }
 

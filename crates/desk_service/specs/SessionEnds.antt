@@ -1,9 +1,9 @@
 -- The ends that a session has at its service (ours): what its calls answer.
 use Rattle.std.specs.Prelude.{ℕ, ◌≡◌, ⊤, ◌⊎◌, List, Bool, true, false, Option, Some, None, Result, Ok, Err}
 use Rattle.cards.specs.declared.edits.Edit.{Edit}
-use Rattle.desk_core.specs.declared.{calls.Call.Call, replies.Refusal.Refusal, replies.Refusal.TheVariants.{NotKept, OutOfMemory}, replies.Reply.Reply, replies.Reply.TheVariants.{Changed, Carried}}
+use Rattle.desk_core.specs.declared.{calls.Change.Change, calls.Call.{Call, TheVariants.Make}, replies.Refusal.Refusal, replies.Refusal.TheVariants.{NotKept, OutOfMemory}, replies.Reply.Reply, replies.Reply.TheVariants.{Changed, Carried}}
 use Rattle.desk_service.specs.{declared.journals.News.News, declared.journals.News.TheVariants.{Fails, GoesOn}, Company.AreListed}
-use Rattle.journal.specs.{declared.changes.Carry.Carry, declared.changes.Change.Change, declared.changes.Change.TheVariants.Batch, declared.drafts.Stamp.Stamp, Asking.{call_of_carry, carried_deck}, Drafts.takes_memory, Names.session_name, Queues.{Queue, all_shown}, Records.text_behind_version, Replaying.call_of}
+use Rattle.journal.specs.{declared.drafted.Drafted.Drafted, Drafted.drafted, Drafts.{carried_deck, change_carried, takes_memory}, Names.session_name, Queues.{Queue, all_shown}, Records.text_behind_version}
 use Rattle.journal.specs.JournalFiles.{Step, IsKept, IsKeptAs, Batch as KeptBatch}
 use Rattle.kept_desk.specs.EndsRelations.{EndsRelations}
 
@@ -34,9 +34,9 @@ abbrev pub queue_behind : Option KeptBatch → Queue → Queue
 queue_behind (Some kept) queue = record queue { first = kept.first; next = kept.next; shown = all_shown queue.places kept.from kept.drafts queue.shown }
 queue_behind None queue = record queue { told = queue.behind }
 
--- the record of a change that a session of this name asks for at some moment
-abbrev pub IsDraft : List ℕ → Change → List ℕ → Type 0
-IsDraft name change draft = (moment : List ℕ) × (draft ≡ text_behind_version moment name change)
+-- what is known of the record of a change that a session of this name asks for at some moment
+abbrev pub IsDrafted : List ℕ → Change → Drafted → Type 0
+IsDrafted name change known = (moment : List ℕ) × (known ≡ drafted (record { moment = moment; by = name }) change)
 
 module _ {F : Type 0} (has_done : F → List Step → Type 0) where
   -- the record of this change is kept with this version, as who has this name asked for it at some moment; with all before it, in the order of versions
@@ -48,15 +48,10 @@ module _ {F : Type 0} (has_done : F → List Step → Type 0) where
   IsMadeUp None = ⊤
   IsMadeUp (Some version) = IsKept has_done version
 
-  -- what is answered where a change is asked for: its record, once what was reported to the session as not kept is kept; or a refusal, which reports want of memory of no drop
-  abbrev pub BeginsRecord : SessionEnds → Change → Result (List ℕ) Refusal → SessionEnds → Type 0
-  BeginsRecord old change (Ok draft) new = (new ≡ old) × (old.journaled ≡ true → IsMadeUp old.missed × IsDraft old.name change draft)
+  -- what is answered where a change is asked for: what is known of its record, once what was reported to the session as not kept is kept; or a refusal, which reports want of memory of no drop, and of none that is carried
+  abbrev pub BeginsRecord : SessionEnds → Change → Result Drafted Refusal → SessionEnds → Type 0
+  BeginsRecord old change (Ok known) new = (new ≡ old) × (old.journaled ≡ true → IsMadeUp old.missed × IsDrafted old.name change known)
   BeginsRecord old change (Err refusal) new = (new ≡ old) × ((refusal ≡ NotKept) ⊎ ((refusal ≡ OutOfMemory) × (takes_memory change ≡ true)))
-
-  -- what is answered where a change is asked for whose record is known once it is made: the name of the session, once what was reported to it as not kept is kept; or a refusal
-  abbrev pub OpensRecord : SessionEnds → Result Stamp Refusal → SessionEnds → Type 0
-  OpensRecord old (Ok stamp) new = (new ≡ old) × (old.journaled ≡ true → IsMadeUp old.missed × (stamp.by ≡ old.name))
-  OpensRecord old (Err refusal) new = (new ≡ old) × (refusal ≡ NotKept)
 
   -- what is answered where a change was made: that its record is kept, this one with this version, or that it is not, which the session remembers
   abbrev pub KeepsRecord : SessionEnds → ℕ → List ℕ → Bool → SessionEnds → Type 0
@@ -67,7 +62,6 @@ module _ {F : Type 0} (has_done : F → List Step → Type 0) where
   abbrev pub ends_relations : EndsRelations SessionEnds
   ends_relations = record {
     begins = BeginsRecord;
-    opens = OpensRecord;
     rings = λ old new. new ≡ old;
     keeps = KeepsRecord;
     sleeps = λ old version woken new. new ≡ old;
@@ -76,14 +70,8 @@ module _ {F : Type 0} (has_done : F → List Step → Type 0) where
     who = asking_name;
   }
 
-  -- the desk makes a change that who has a name asks for, with this version, and the record of just that change is kept
-  pub record IsMadeAndKept {C : Type 0} (makes : C → Call → Reply → C → Type 0) (name : List ℕ) (change : Change) (version : ℕ) (old new : C) : Type 0 where
-    pub made : makes old (call_of name change) (Changed version) new
-    pub kept : IsChangeKept version name change
-
-  -- the desk makes a change that is carried, with this version and these edits, and the record of just these edits is kept
-  pub record IsCarriedAndKept {C : Type 0} (makes : C → Call → Reply → C → Type 0) (name : List ℕ) (carry : Carry) (version : ℕ) (old new : C) : Type 0 where
-    pub seen : ℕ
-    pub edits : List Edit
-    pub made : makes old (call_of_carry name carry) (Carried version seen edits) new
-    pub kept : IsChangeKept version name (Batch (carried_deck carry) seen edits)
+  -- the desk makes a change that who has a name asks for, with this version, and the record of just that change is kept; or, where it is carried, with these edits, and the record of just these is kept
+  pub data IsMadeAndKept {C : Type 0} (makes : C → Call → Reply → C → Type 0) (name : List ℕ) (change : Change) (version : ℕ) (old new : C) : Type 0 where
+    as_asked : carried_deck change ≡ None → makes old (Make name change) (Changed version) new → IsChangeKept version name change → IsMadeAndKept makes name change version old new
+    as_carried : (deck : List ℕ) (seen : ℕ) (edits : List Edit) → carried_deck change ≡ Some deck → makes old (Make name change) (Carried version seen edits) new →
+        IsChangeKept version name (change_carried deck seen edits) → IsMadeAndKept makes name change version old new

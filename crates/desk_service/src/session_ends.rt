@@ -9,8 +9,8 @@ use crate::service_end::ServiceEnd;
 use cards::DeckName;
 use crossbeam_channel::Sender;
 use deck_workers::Bell;
-use desk_core::Refusal;
-use journal::{Change, Draft, RecordsFile, Stamp, draft_change, session_name};
+use desk_core::{Change, Refusal};
+use journal::{Draft, Drafted, RecordsFile, Stamp, draft_change, draft_nothing, session_name};
 use kept_desk::{Ends, Woken};
 use session_line::Connected;
 use std::alloc::{AllocError, Global};
@@ -126,30 +126,23 @@ impl<R: Wait + Clock + Eprint, F: RecordsFile + Drop> Ends for SessionEnds<'_, R
 
     ghost relations = { ends_relations F.has_done };
 
-    fn begin(&mut self, change: &Change) -> Result<Draft, Refusal> {
-        let Some(journal) = self.journal else {
-            return Ok(Draft::empty());
-        };
-        if !journal.may_change(self.rt, self.missed) {
-            return Err(Refusal::NotKept);
-        }
-        let moment = moment_now(self.rt);
-        match draft_change(self.alloc, &moment, &self.name, change) {
-            Ok(draft) => Ok(draft),
-            Err(_) => Err(Refusal::OutOfMemory),
-        }
-    }
-
-    fn open(&mut self) -> Result<Stamp, Refusal> {
+    fn begin(&mut self, change: &Change) -> Result<Drafted, Refusal> {
         if let Some(journal) = self.journal {
             if !journal.may_change(self.rt, self.missed) {
                 return Err(Refusal::NotKept);
             }
         }
-        Ok(Stamp {
+        let stamp = Stamp {
             moment: moment_now(self.rt),
             by: self.name.copied(),
-        })
+        };
+        if self.journal.is_none() {
+            return Ok(draft_nothing(stamp, change));
+        }
+        match draft_change(self.alloc, stamp, change) {
+            Ok(known) => Ok(known),
+            Err(_) => Err(Refusal::OutOfMemory),
+        }
     }
 
     /// A bell that finds no memory is not sent.

@@ -4,7 +4,7 @@ use Rattle.definitions.specs.Build.{listing_of, image_of}
 use Rattle.turn_office.specs.Histories.{Leads, entry}
 use Rattle.desk_core.{specs.Desks.{Desk, Publication, decks_of}, specs.Changes.{Change, decks_after}, specs.Steps.Steps, specs.Runs.{History, Runs, changes_in}, proofs.Outcomes.{Outcome, by_staying, by_changing, by_publishing}, proofs.Publishing.step_comes, proofs.Told.IsTold, proofs.EveryRun.{told_last, told_through}, proofs.IdleClaims.idle_is_published}
 use Rattle.desk_core.specs.declared.replies.Reply.TheVariants as reply
-use Rattle.deck_workers.specs.{Joins.Language.{Call, Claim, Reply, Refusal}, Rounds.{Round, Resting, Working, entries_of, entries_in}}
+use Rattle.deck_workers.specs.{Joins.Language.{Claim, Call, Do, Reply, Refusal}, Rounds.{Round, Resting, Working, entries_of, entries_in}}
 use Rattle.desk_tests.specs.{Settling.{Settles, used_up, ended, end_of, end_of_claim, refusal_in, IsIdleAt, IsSettled}, declared.settling.Settled.Settled, declared.settling.Settled.TheVariants.{Idle, Refused, Waiting, Turns}}
 
 -- a publication of the desk's own version is of its present decks
@@ -15,16 +15,16 @@ present-decks begun changes desk publication told shown same =
     (told.published publication shown).2 ∙ (ap decks_after (ap (λ (n : ℕ). take n changes) all ∙ take-length changes) ∙ sym told.decks)
 
 -- a claim that is answered Idle leaves the publication
-publication-stays : (desk next : Desk) (version : ℕ) → Outcome desk Claim (reply.Idle version) next → (next.version ≡ desk.version) × (next.publication ≡ desk.publication)
+publication-stays : (desk next : Desk) (version : ℕ) → Outcome desk (Do Claim) (reply.Idle version) next → (next.version ≡ desk.version) × (next.publication ≡ desk.publication)
 publication-stays desk next version (by_staying by) = (by.unchanged.version, by.unchanged.publication)
 publication-stays desk next version (by_changing by) = let told = by.told in cc
 publication-stays desk next version (by_publishing by) = let stored = by.stored in cc
 
 -- a desk after steps of which the last is a claim that is answered Idle
-pub idle-at : (version : ℕ) (first desk last : Desk) (steps : History) → Steps desk Claim (reply.Idle version) last → Leads Steps first steps last → IsIdleAt version first last
+pub idle-at : (version : ℕ) (first desk last : Desk) (steps : History) → Steps desk (Do Claim) (reply.Idle version) last → Leads Steps first steps last → IsIdleAt version first last
 idle-at version first desk last steps step leads =
     let told = idle_is_published desk last version step in
-    let stays = publication-stays desk last version (step_comes desk Claim (reply.Idle version) last step) in
+    let stays = publication-stays desk last version (step_comes desk (Do Claim) (reply.Idle version) last step) in
     let publication = told.1.publication in
     let shown : last.publication ≡ Some publication = stays.1 ∙ told.1.shown in
     let version_is : last.version ≡ version = stays.0 ∙ sym told.0 in
@@ -73,8 +73,8 @@ not-idle (Some refusal) version e = cc
 -- a round that ends settling idle
 idle-by : (version : ℕ) (first last : Desk) (before : History) (round : Round) → end_of round ≡ Some (Idle version) → Leads Steps first (before ++ entries_of 0 round) last → IsIdleAt version first last
 idle-by version first last before (Resting claimed) end leads =
-    let there = last-step first last before 0 Claim claimed leads in
-    idle-at version first there.0 last _ (subst (λ (told : Reply). Steps there.0 Claim told last) (idle-claimed claimed version end) there.1) leads
+    let there = last-step first last before 0 (Do Claim) claimed leads in
+    idle-at version first there.0 last _ (subst (λ (told : Reply). Steps there.0 (Do Claim) told last) (idle-claimed claimed version end) there.1) leads
 idle-by version first last before (Working claimed result answered) end leads = absurd (not-idle (refusal_in answered) version end)
 
 -- a round that ends settling

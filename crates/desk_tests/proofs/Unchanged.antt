@@ -2,7 +2,7 @@
 use Rattle.std.proofs.Common.{◌≡◌, ℕ, List, [], ◌∷◌, ◌++◌, None, refl, sym, ap, ◌∙◌, subst}
 use Rattle.turn_office.specs.Histories.{Leads}
 use Rattle.desk_core.{specs.Desks.{Desk, decks_of}, specs.Steps.Steps, specs.Runs.{History, change_asked}, proofs.Outcomes.{Outcome, by_staying, by_changing, by_publishing}, proofs.Publishing.step_comes}
-use Rattle.deck_workers.specs.{Joins.Language.{Call, Claim, Reply}, declared.made.Made.Made, Rounds.{Round, Resting, Working, call_of, entries_of, entries_in}}
+use Rattle.deck_workers.specs.{Joins.Language.{Claim, Call, Do, Reply}, declared.made.Made.Made, Rounds.{Round, Resting, Working, call_of, entries_of, entries_in}}
 use Rattle.deck_workers.specs.declared.made.Made.TheVariants as made
 use Rattle.desk_tests.{specs.Settling.{Settles, used_up, ended}, specs.declared.settling.Settled.Settled, proofs.Turns.entries-more}
 
@@ -32,10 +32,10 @@ ends-silently (made.Lost lease fault) reply = refl
 -- a round, and what comes behind it
 keeps-round : (number : ℕ) (round : Round) (behind : History) (first last : Desk) → Leads Steps first (entries_of number round ++ behind) last →
     ((middle : Desk) → Leads Steps middle behind last → Keeps middle last) → Keeps first last
-keeps-round number (Resting claimed) behind first last leads rest = keeps-trans first leads.0 last (keeps-step first leads.0 Claim claimed refl leads.1) (rest leads.0 leads.2)
+keeps-round number (Resting claimed) behind first last leads rest = keeps-trans first leads.0 last (keeps-step first leads.0 (Do Claim) claimed refl leads.1) (rest leads.0 leads.2)
 keeps-round number (Working claimed result answered) behind first last leads rest =
     let next = leads.2 in
-    keeps-trans first leads.0 last (keeps-step first leads.0 Claim claimed refl leads.1)
+    keeps-trans first leads.0 last (keeps-step first leads.0 (Do Claim) claimed refl leads.1)
     (keeps-trans leads.0 next.0 last (keeps-step leads.0 next.0 (call_of result) answered (ends-silently result answered) next.1) (rest next.0 next.2))
 
 -- rounds

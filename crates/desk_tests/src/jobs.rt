@@ -13,10 +13,11 @@ use deck_linker::{ListedPublication, publish};
 use deck_listing::ListedObject;
 use deck_workers::{Job, Made, Runs, job_in};
 use desk_core::{
-    Call, DeckCards, DeckWork, Desk, Done, Held, Listed, NewDeck, PublicationBefore, Reply,
-    SharedPublication, Start,
+    Call, Change, DeckCards, DeckWork, Desk, Done, Edits, Held, Listed, NewDeck, PublicationBefore,
+    Question, Reply, SharedPublication, Start, Work,
 };
-use session_line::Calls;
+use session_commands::Seen;
+use session_line::Called;
 use std::alloc::{AllocError, Global};
 use std::hash::RandomState;
 use test_parts::{
@@ -71,7 +72,7 @@ impl Jobs {
 
     /// Claims a job, which is out then.
     fn claim(&mut self, desk: &mut Desk, answer: &mut Answer) {
-        let reply = ask(desk, Call::Claim);
+        let reply = ask(desk, Call::Do(Work::Claim));
         push_reply(answer, &reply);
         if let Some(job) = job_in(reply) {
             drop(self.out.replace(job));
@@ -93,11 +94,11 @@ impl Jobs {
 /// The call that these words say, if they say one.
 fn call_of(alloc: Global, word: &str, rest: &str) -> Option<Got<Call>> {
     let call = match word {
-        "giveup" => Ok(Call::GiveUp(number(rest))),
+        "giveup" => Ok(Call::Do(Work::GiveUp(number(rest)))),
         "result" => result_of(alloc, rest),
         "link" => link_of(alloc, rest),
         "offer" => offer_of(alloc, rest),
-        "publish" => Ok(Call::Publish(number(rest))),
+        "publish" => Ok(Call::Do(Work::Publish(number(rest)))),
         "batch" => batch_of(alloc, rest),
         _ => return None,
     };
@@ -111,20 +112,26 @@ fn push_call(desk: &mut Desk, call: Got<Call>, answer: &mut Answer) {
     }
 }
 
+/// The call that makes a change of who has given no name.
+pub fn asked(change: Change) -> Got<Call> {
+    let by = name_of("0")?;
+    Ok(Call::Make { by, change })
+}
+
 /// The call that adds a deck of these lines.
 pub fn addition(alloc: Global, of: &str, lines: &str) -> Got<Call> {
     let name = name_of(of)?;
     let cards = cards_of(alloc, lines)?;
-    Ok(Call::AddDeck(NewDeck::new(name, cards)))
+    asked(Change::AddDeck(NewDeck::new(name, cards)))
 }
 
 /// Asks a desk, or from a seat. What it answers is looked at and no contract of it, and so who asks has no facts of it.
-pub fn ask<C: Calls>(desk: &mut C, call: Call) -> Reply {
+pub fn ask<D: Called>(desk: &mut D, call: Call) -> Reply {
     desk.call(call)
 }
 
 /// Asks a desk, or from a seat, and shows what it answers.
-pub fn push_asked<C: Calls>(desk: &mut C, call: Call, answer: &mut Answer) {
+pub fn push_asked<D: Called>(desk: &mut D, call: Call, answer: &mut Answer) {
     push_told(answer, ask(desk, call));
 }
 
@@ -141,7 +148,7 @@ fn push_publication(answer: &mut Answer, publication: &ListedPublication) {
 
 /// The publication that a desk shows.
 fn push_image(desk: &mut Desk, answer: &mut Answer) {
-    let reply = ask(desk, Call::Show);
+    let reply = ask(desk, Call::Ask(Question::Show));
     match &reply {
         Reply::Shown(shown) => push_publication(answer, shown.publication()),
         other => push_reply(answer, other),
@@ -260,13 +267,13 @@ fn result_of(alloc: Global, text: &str) -> Got<Call> {
     let (record, object) = cut(rest);
     let kept = held_of(alloc, record)?;
     match listed_of(alloc, object) {
-        Ok(object) => Ok(Call::DeliverDeck(Done {
+        Ok(object) => Ok(Call::Do(Work::DeliverDeck(Done {
             lease,
             deck,
             version,
             kept,
             object,
-        })),
+        }))),
         Err(error) => {
             drop(kept);
             Err(error)
@@ -289,7 +296,7 @@ fn link_of(alloc: Global, text: &str) -> Got<Call> {
     let (version, lines) = cut_number(rest);
     let publication = publish(alloc, fixed_keys()?, objects_of(alloc, lines)?, version)?;
     let publication = SharedPublication::new(alloc, publication)?;
-    Ok(Call::DeliverLink { lease, publication })
+    Ok(Call::Do(Work::DeliverLink { lease, publication }))
 }
 
 /// The offer of an object of these cards, for the deck at a place.
@@ -297,11 +304,11 @@ fn offer_of(alloc: Global, text: &str) -> Got<Call> {
     let (lease, rest) = cut_number(text);
     let (place, line) = cut_number(rest);
     let object = listed_of(alloc, line)?;
-    Ok(Call::OfferObject {
+    Ok(Call::Do(Work::OfferObject {
         lease,
         place: place as usize,
         object,
-    })
+    }))
 }
 
 /// Edits by which the second card of a deck goes and comes again, so many in all.
@@ -322,13 +329,12 @@ fn edits_of(alloc: Global, count: u64) -> Got<Listed<Edit>> {
 /// So many edits of M.
 fn batch_of(alloc: Global, text: &str) -> Got<Call> {
     let (seen, count) = cut_number(text);
-    let (name, by) = (name_of("M")?, name_of("0")?);
-    let edits = edits_of(alloc, number(count))?;
-    Ok(Call::Batch {
+    let name = name_of("M")?;
+    let (seen, edits) = (Seen::Exactly(seen), edits_of(alloc, number(count))?);
+    asked(Change::EditDeck {
         name,
         seen,
-        edits,
-        by,
+        edits: Edits::Batch(edits),
     })
 }
 

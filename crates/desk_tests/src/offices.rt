@@ -11,7 +11,7 @@ ghost use Rattle.turn_office.specs.Seats.{AreOf};
 use crate::jobs::{addition, push_told};
 use crate::memory_shelf::MemoryShelf;
 use crate::place::serve_ports;
-use desk_core::{Call, Desk, Reply};
+use desk_core::{Call, Desk, Question, Reply};
 use session_line::SeatCalls;
 use std::alloc::{AllocError, AllocGlobal, Global};
 use std::mem::size_of;
@@ -229,7 +229,10 @@ fn add_and_show<R: Wait>(
     push_told(answer, ask_from(rt, office, first, call));
     answer.push(", ");
     second.meet(rt, office, first)?;
-    push_told(answer, ask_from(rt, office, second, Call::Cards(name)));
+    push_told(
+        answer,
+        ask_from(rt, office, second, Call::Ask(Question::Cards(name))),
+    );
     Ok(())
 }
 

@@ -7,7 +7,7 @@ ghost use Rattle.deck_workers.specs.Rounds.{call_of};
 ghost use Rattle.desk_tests.specs.Settling.{SettlesOn, IsSettled, IsTurn, end_of_claim, refusal_in};
 
 use deck_workers::{Made, Runs, job_in};
-use desk_core::{Call, Desk, Refusal, Reply};
+use desk_core::{Call, Desk, Refusal, Reply, Work};
 use std::alloc::Global;
 use std::hash::RandomState;
 use work_meter::Meter;
@@ -58,7 +58,7 @@ fn settle_turn(
 ) -> Option<Settled>
     ensures { IsTurn desk.old result desk.new meter.old meter.new }
 {
-    let claimed = desk.step(Call::Claim);
+    let claimed = desk.step(Call::Do(Work::Claim));
     let end = end_of_claim(&claimed);
     match job_in(claimed) {
         None => end,

@@ -10,8 +10,8 @@ use crate::jobs::{addition, ask, push_asked};
 use crate::offices::open;
 use crossbeam_channel::Receiver;
 use deck_workers::{Bell, Gate, NoSubscriber, OpenGate, worker};
-use desk_core::{Call, Desk};
-use session_line::{Calls, SeatCalls};
+use desk_core::{Call, Desk, Question, Work};
+use session_line::{Called, SeatCalls};
 use std::alloc::{AllocError, AllocGlobal, Global};
 use std::hash::RandomState;
 use std::sync::Wait;
@@ -130,7 +130,7 @@ const CARD: &str = "          BX6    X1";
 const MANY: u32 = 10_001;
 
 /// Adds the decks A and B.
-fn add_two<C: Calls>(desk: &mut C, alloc: Global, lines: &str) -> Got<()> {
+fn add_two<D: Called>(desk: &mut D, alloc: Global, lines: &str) -> Got<()> {
     for of in &["A", "B"] {
         let call = addition(alloc, of, lines)?;
         drop(ask(desk, call));
@@ -139,10 +139,10 @@ fn add_two<C: Calls>(desk: &mut C, alloc: Global, lines: &str) -> Got<()> {
 }
 
 /// What a claim finds to do, and how many decks the publication has.
-fn push_published<C: Calls>(desk: &mut C, answer: &mut Answer) {
-    push_asked(desk, Call::Claim, answer);
+fn push_published<D: Called>(desk: &mut D, answer: &mut Answer) {
+    push_asked(desk, Call::Do(Work::Claim), answer);
     answer.push(", ");
-    push_asked(desk, Call::Show, answer);
+    push_asked(desk, Call::Ask(Question::Show), answer);
 }
 
 /// The end of a channel with this bell, so many times.

@@ -2,8 +2,9 @@
 use Rattle.std.{proofs.Common.{ℕ, ◌≡◌, ◌+◌, ◌≤◌, List, [], ◌++◌, true, length, refl, arith, length-append, codes}, specs.Prelude.{decimal, nat_le}, proofs.lemmas.Bool.{and_parts, leb-true}}
 use Rattle.definitions.specs.{Cards.{Card, IsCard, card_of}, DeckInput.is_deck_name}
 use Rattle.cards.specs.declared.edits.Edit.{Edit, TheVariants.{Insert, Replace, Remove}}
-use Rattle.session_commands.specs.{Words.greatest_number, Commands.{is_batch_size, is_put_size}, declared.words.Seen.TheVariants.Exactly, Lines.{behind_a_blank, name_and_number, line_of_edit, line_in_batch, IsLawfulEdit}}
-use Rattle.journal.{specs.declared.changes.Change.Change, specs.declared.changes.Change.TheVariants.{Added, Put, Dropped, Edited, Batch}, specs.declared.records.Entry.Entry, specs.declared.records.Entry.TheVariants.{Begun, Made}, specs.declared.records.Record.Record, specs.Records.{line_of_change, line_of_entry, first_line, sum_line}, specs.Lawful.{IsLawfulChange, IsLawfulEntry, IsLawful}, proofs.LineChains.IsLine, proofs.PlainTexts.{ArePlain, plain-append, plain-unbroken, decimal-plain, decimal-short, name-plain, name-short, moment-plain, moment-short, card-text}}
+use Rattle.session_commands.specs.{Words.greatest_number, Commands.{is_batch_size, is_put_size}, declared.words.Seen.TheVariants.{Exactly, Since}, Lines.{behind_a_blank, name_and_number, line_of_edit, line_in_batch, IsLawfulEdit}}
+use Rattle.desk_core.specs.declared.calls.{Change.Change, Change.TheVariants.{AddDeck, PutDeck, DropDeck, EditDeck, Undo}, Edits.TheVariants.{One, Batch}}
+use Rattle.journal.{specs.declared.records.Entry.Entry, specs.declared.records.Entry.TheVariants.{Begun, Made}, specs.declared.records.Record.Record, specs.Records.{line_of_change, line_of_entry, first_line, sum_line}, specs.Lawful.{IsLawfulChange, IsLawfulEntry, IsLawful}, proofs.LineChains.IsLine, proofs.PlainTexts.{ArePlain, plain-append, plain-unbroken, decimal-plain, decimal-short, name-plain, name-short, moment-plain, moment-short, card-text}}
 
 -- a text without line feeds, of at most so many bytes
 pub record Fits (most : ℕ) (text : List ℕ) : Type 0 where
@@ -89,17 +90,19 @@ cards-told : (count : ℕ) → is_put_size count ≡ true → count ≤ greatest
 cards-told count size = let few : count ≤ 20000 = leb-true count 20000 size in omega (arith, few)
 
 change-fits : (change : Change) → IsLawfulChange change → Fits 135 (line_of_change change)
-change-fits (Added deck) lawful = fits-more 14 135 (line_of_change (Added deck)) (omega arith) (fits-word 8 (codes "ADD") (behind_a_blank (deck.name ++ [])) (record { plain = refl; short = omega arith }) (fits-only_name deck.name lawful.0))
-change-fits (Put deck seen) lawful =
+change-fits (AddDeck deck) lawful = fits-more 14 135 (line_of_change (AddDeck deck)) (omega arith) (fits-word 8 (codes "ADD") (behind_a_blank (deck.name ++ [])) (record { plain = refl; short = omega arith }) (fits-only_name deck.name lawful.0))
+change-fits (PutDeck deck seen) lawful =
     let rest = behind_a_blank (decimal (length deck.cards) ++ []) in
-    fits-more 54 135 (line_of_change (Put deck seen)) (omega arith)
+    fits-more 54 135 (line_of_change (PutDeck deck seen)) (omega arith)
     (fits-word 48 (codes "PUT") (name_and_number deck.name seen rest) (record { plain = refl; short = omega arith }) (fits-target 20 deck.name seen rest lawful.0.0 lawful.1 (fits-last (length deck.cards) (cards-told (length deck.cards) lawful.2))))
-change-fits (Dropped name seen) lawful = fits-more 34 135 (line_of_change (Dropped name seen)) (omega arith) (fits-word 28 (codes "DROP") (name_and_number name seen []) (record { plain = refl; short = omega arith }) (fits-target 0 name seen [] lawful.0 lawful.1 fits-nothing))
-change-fits (Edited name seen edit) lawful = edit_of-fits name seen edit lawful.0 lawful.1 lawful.2
-change-fits (Batch name seen edits) lawful =
+change-fits (DropDeck name seen) lawful = fits-more 34 135 (line_of_change (DropDeck name seen)) (omega arith) (fits-word 28 (codes "DROP") (name_and_number name seen []) (record { plain = refl; short = omega arith }) (fits-target 0 name seen [] lawful.0 lawful.1 fits-nothing))
+change-fits (EditDeck name (Exactly seen) (One edit)) lawful = edit_of-fits name seen edit lawful.0 lawful.1 lawful.2
+change-fits (EditDeck name (Exactly seen) (Batch edits)) lawful =
     let rest = behind_a_blank (decimal (length edits) ++ []) in
-    fits-more 54 135 (line_of_change (Batch name seen edits)) (omega arith)
-    (fits-word 48 (codes "BATCH") (name_and_number name seen rest) (record { plain = refl; short = omega arith }) (fits-target 20 name seen rest lawful.0 lawful.1 (fits-last (length edits) (size-told (length edits) lawful.2))))
+    fits-more 54 135 (line_of_change (EditDeck name (Exactly seen) (Batch edits))) (omega arith)
+    (fits-word 48 (codes "BATCH") (name_and_number name seen rest) (record { plain = refl; short = omega arith }) (fits-target 20 name seen rest lawful.0 lawful.1 (fits-last (length edits) (size-told (length edits) lawful.2.0))))
+change-fits (EditDeck name (Since seen) edits) lawful = absurd lawful
+change-fits (Undo name version) lawful = absurd lawful
 
 entry-fits : (entry : Entry) → IsLawfulEntry entry → Fits 135 (line_of_entry entry)
 entry-fits Begun lawful = record { plain = refl; short = omega arith }

@@ -3,22 +3,24 @@ use Rattle.std.{proofs.Common.{ℕ, ◌≡◌, ◌*◌, ◌%◌, ◌<◌, ◌≤
 use Rattle.definitions.specs.{Cards.{Card, CardRead, IsCard, card_of}, DeckInput.{Deck, is_deck_name}}
 use Rattle.cards.specs.declared.edits.Edit.{Edit, TheVariants.{Insert, Replace, Remove}}
 use Rattle.session_commands.specs.declared.commands.Command.TheVariants as command
-use Rattle.session_commands.{specs.declared.refusals.Refusal.Refusal, specs.Words.{first_word, first_number, behind_word, greatest_number}, specs.Edits.is_end, specs.declared.words.Seen.TheVariants.Exactly, specs.Lines.{behind_a_blank, line_of_edit, line_in_batch, IsLawfulEdit}, proofs.ReadBack.{word-decimal, word-name, first-word, behind-word, first-number}, proofs.LineLaws.{line-back, batch_line-back}}
-use Rattle.journal.{specs.declared.changes.Change.TheVariants.{Added, Put, Dropped, Edited, Batch}, specs.declared.records.Entry.Entry, specs.declared.records.Record.Record, specs.declared.beginning.Begun.Begun, specs.declared.beginning.Open.Open, specs.declared.steps.Step.TheVariants.{Ends, Wrong}, specs.CheckSums.{first_sum, sum_after, sum_over, check_sum}, specs.Records.{ended, text_of_lines, line_of_entry, lines_behind, first_line, lines_of_record, sum_line}, specs.Begun.{given, begun_by, begun_of, name_of, open_with, opened}, specs.Steps.{deck_with_card, deck_with, edits_with, entry_with, inner_step, has_all, sum_in, end_step, first_step, line_step}, specs.Lawful.{IsLawfulEntry, IsLawful}, proofs.LineChains.{IsLine, IsChain}, proofs.LineSizes.{first-line, card-line, edit-line}, proofs.PlainTexts.moment-word}
+use Rattle.session_commands.{specs.declared.refusals.Refusal.Refusal, specs.Words.{first_word, first_number, behind_word, greatest_number}, specs.Edits.is_end, specs.declared.words.Seen.TheVariants.{Exactly, Since}, specs.Lines.{behind_a_blank, line_of_edit, line_in_batch, IsLawfulEdit}, proofs.ReadBack.{word-decimal, word-name, first-word, behind-word, first-number}, proofs.LineLaws.{line-back, batch_line-back}}
+use Rattle.desk_core.specs.declared.calls.{Change.TheVariants.{AddDeck, PutDeck, DropDeck, EditDeck, Undo}, Edits.TheVariants.{One, Batch}}
+use Rattle.journal.{specs.declared.records.Entry.Entry, specs.declared.records.Record.Record, specs.declared.beginning.Begun.Begun, specs.declared.beginning.Open.Open, specs.declared.steps.Step.TheVariants.{Ends, Wrong}, specs.CheckSums.{first_sum, sum_after, sum_over, check_sum}, specs.Records.{ended, text_of_lines, line_of_entry, lines_behind, first_line, lines_of_record, sum_line}, specs.Begun.{given, begun_by, begun_of, name_of, open_with, opened}, specs.Steps.{deck_with_card, deck_with, edits_with, entry_with, inner_step, has_all, sum_in, end_step, first_step, line_step}, specs.Lawful.{IsLawfulEntry, IsLawful}, proofs.LineChains.{IsLine, IsChain}, proofs.LineSizes.{first-line, card-line, edit-line}, proofs.PlainTexts.moment-word}
 use Rattle.journal.specs.declared.records.Entry.TheVariants as entry
 use Rattle.deck_files.specs.Moments.{moment_of}
 
 -- what the first line of a record shows
 abbrev pub bare : Entry → Begun
 bare entry.Begun = record { entry = entry.Begun; lines = 0 }
-bare (entry.Made (Added deck)) = record { entry = entry.Made (Added (record { name = deck.name; cards = [] })); lines = 0 }
-bare (entry.Made (Put deck seen)) = record { entry = entry.Made (Put (record { name = deck.name; cards = [] }) seen); lines = length deck.cards }
-bare (entry.Made (Dropped name seen)) = record { entry = entry.Made (Dropped name seen); lines = 0 }
-bare (entry.Made (Edited name seen edit)) = record { entry = entry.Made (Edited name seen edit); lines = 0 }
-bare (entry.Made (Batch name seen edits)) = record { entry = entry.Made (Batch name seen []); lines = length edits }
+bare (entry.Made (AddDeck deck)) = record { entry = entry.Made (AddDeck (record { name = deck.name; cards = [] })); lines = 0 }
+bare (entry.Made (PutDeck deck seen)) = record { entry = entry.Made (PutDeck (record { name = deck.name; cards = [] }) seen); lines = length deck.cards }
+bare (entry.Made (DropDeck name seen)) = record { entry = entry.Made (DropDeck name seen); lines = 0 }
+bare (entry.Made (EditDeck name seen (One edit))) = record { entry = entry.Made (EditDeck name seen (One edit)); lines = 0 }
+bare (entry.Made (EditDeck name seen (Batch edits))) = record { entry = entry.Made (EditDeck name seen (Batch [])); lines = length edits }
+bare (entry.Made (Undo name version)) = record { entry = entry.Made (Undo name version); lines = 0 }
 
 bare-edit : (name : List ℕ) (seen : ℕ) (edit : Edit) → is_deck_name name ≡ true → seen ≤ greatest_number → IsLawfulEdit edit →
-    begun_of (line_of_edit name (Exactly seen) edit) ≡ Some (bare (entry.Made (Edited name seen edit)))
+    begun_of (line_of_edit name (Exactly seen) edit) ≡ Some (bare (entry.Made (EditDeck name (Exactly seen) (One edit))))
 bare-edit name seen (Insert at card) is within lawful = ap begun_by (line-back (command.Edit name (Exactly seen) (Insert at card)) (is, within, lawful))
 bare-edit name seen (Replace at card) is within lawful = ap begun_by (line-back (command.Edit name (Exactly seen) (Replace at card)) (is, within, lawful))
 bare-edit name seen (Remove at) is within lawful = ap begun_by (line-back (command.Edit name (Exactly seen) (Remove at)) (is, within, lawful))
@@ -26,13 +28,15 @@ bare-edit name seen (Remove at) is within lawful = ap begun_by (line-back (comma
 -- what a record shows reads back from its first line
 bare-back : (entry : Entry) → IsLawfulEntry entry → begun_of (line_of_entry entry) ≡ Some (bare entry)
 bare-back entry.Begun lawful = refl
-bare-back (entry.Made (Added deck)) lawful = ap begun_by (line-back (command.Add deck.name) lawful.0)
-bare-back (entry.Made (Put deck seen)) lawful =
+bare-back (entry.Made (AddDeck deck)) lawful = ap begun_by (line-back (command.Add deck.name) lawful.0)
+bare-back (entry.Made (PutDeck deck seen)) lawful =
     ap begun_by (line-back (command.Put (record { name = Ok deck.name; version = seen; count = length deck.cards })) (lawful.0.0, lawful.1, lawful.2))
-bare-back (entry.Made (Dropped name seen)) lawful = ap begun_by (line-back (command.Drop name seen) lawful)
-bare-back (entry.Made (Edited name seen edit)) lawful = bare-edit name seen edit lawful.0 lawful.1 lawful.2
-bare-back (entry.Made (Batch name seen edits)) lawful =
-    ap begun_by (line-back (command.Batch (record { name = Ok name; seen = Exactly seen; count = length edits })) (lawful.0, lawful.1, lawful.2))
+bare-back (entry.Made (DropDeck name seen)) lawful = ap begun_by (line-back (command.Drop name seen) lawful)
+bare-back (entry.Made (EditDeck name (Exactly seen) (One edit))) lawful = bare-edit name seen edit lawful.0 lawful.1 lawful.2
+bare-back (entry.Made (EditDeck name (Exactly seen) (Batch edits))) lawful =
+    ap begun_by (line-back (command.Batch (record { name = Ok name; seen = Exactly seen; count = length edits })) (lawful.0, lawful.1, lawful.2.0))
+bare-back (entry.Made (EditDeck name (Since seen) edits)) lawful = absurd lawful
+bare-back (entry.Made (Undo name version)) lawful = absurd lawful
 
 parts-given : (line : List ℕ) (first : Option ℕ) (second : Option (List ℕ)) (third : Option (List ℕ)) (fourth : Option Begun) (version : ℕ) (moment : List ℕ) (by : List ℕ) (begun : Begun) →
     first ≡ Some version → second ≡ Some moment → third ≡ Some by → fourth ≡ Some begun →
@@ -117,28 +121,30 @@ behind-chain : (r : Record) (told : Entry) (sum : ℕ) → IsLawfulEntry told �
     IsChain (Some (open_at r (bare told).lines (bare told).entry sum)) (map behind_a_blank (lines_behind told))
     (open_at r (bare told).lines told (sum_over sum (text_of_lines (map behind_a_blank (lines_behind told)))))
 behind-chain r entry.Begun sum lawful = refl
-behind-chain r (entry.Made (Added deck)) sum lawful = cards-chain (λ (d : Deck). entry.Made (Added d)) added-with r 0 deck sum lawful.1
+behind-chain r (entry.Made (AddDeck deck)) sum lawful = cards-chain (λ (d : Deck). entry.Made (AddDeck d)) added-with r 0 deck sum lawful.1
   where
-    added-with : (deck : Deck) (text : List ℕ) → entry_with (entry.Made (Added deck)) text ≡ option_map (λ (d : Deck). entry.Made (Added d)) (deck_with deck text)
+    added-with : (deck : Deck) (text : List ℕ) → entry_with (entry.Made (AddDeck deck)) text ≡ option_map (λ (d : Deck). entry.Made (AddDeck d)) (deck_with deck text)
     added-with deck text = by (deck_with deck text)
       where
-        by : (o : Option Deck) → option_map entry.Made (option_map Added o) ≡ option_map (λ (d : Deck). entry.Made (Added d)) o
+        by : (o : Option Deck) → option_map entry.Made (option_map AddDeck o) ≡ option_map (λ (d : Deck). entry.Made (AddDeck d)) o
         by None = refl
         by (Some d) = refl
-behind-chain r (entry.Made (Put deck seen)) sum lawful = cards-chain (λ (d : Deck). entry.Made (Put d seen)) put-with r (length deck.cards) deck sum lawful.0.1
+behind-chain r (entry.Made (PutDeck deck seen)) sum lawful = cards-chain (λ (d : Deck). entry.Made (PutDeck d seen)) put-with r (length deck.cards) deck sum lawful.0.1
   where
-    put-with : (deck : Deck) (text : List ℕ) → entry_with (entry.Made (Put deck seen)) text ≡ option_map (λ (d : Deck). entry.Made (Put d seen)) (deck_with deck text)
+    put-with : (deck : Deck) (text : List ℕ) → entry_with (entry.Made (PutDeck deck seen)) text ≡ option_map (λ (d : Deck). entry.Made (PutDeck d seen)) (deck_with deck text)
     put-with deck text = by (deck_with deck text)
       where
-        by : (o : Option Deck) → option_map entry.Made (option_map (λ (with : Deck). Put with seen) o) ≡ option_map (λ (d : Deck). entry.Made (Put d seen)) o
+        by : (o : Option Deck) → option_map entry.Made (option_map (λ (with : Deck). PutDeck with seen) o) ≡ option_map (λ (d : Deck). entry.Made (PutDeck d seen)) o
         by None = refl
         by (Some d) = refl
-behind-chain r (entry.Made (Dropped name seen)) sum lawful = refl
-behind-chain r (entry.Made (Edited name seen edit)) sum lawful = refl
-behind-chain r (entry.Made (Batch name seen edits)) sum lawful =
-    inner-chain IsLawfulEdit line_in_batch (λ (done : List Edit). entry.Made (Batch name seen done))
-    (λ done edit is. ap (λ (read : Result Edit Refusal). option_map entry.Made (option_map (Batch name seen) (edits_with done read))) (batch_line-back edit is))
-    edit-line r (length edits) [] edits sum lawful.3
+behind-chain r (entry.Made (DropDeck name seen)) sum lawful = refl
+behind-chain r (entry.Made (EditDeck name (Exactly seen) (One edit))) sum lawful = refl
+behind-chain r (entry.Made (EditDeck name (Exactly seen) (Batch edits))) sum lawful =
+    inner-chain IsLawfulEdit line_in_batch (λ (done : List Edit). entry.Made (EditDeck name (Exactly seen) (Batch done)))
+    (λ done edit is. ap (λ (read : Result Edit Refusal). option_map entry.Made (option_map (EditDeck name (Exactly seen)) (option_map Batch (edits_with done read)))) (batch_line-back edit is))
+    edit-line r (length edits) [] edits sum lawful.2.1
+behind-chain r (entry.Made (EditDeck name (Since seen) edits)) sum lawful = absurd lawful
+behind-chain r (entry.Made (Undo name version)) sum lawful = absurd lawful
 
 -- the open record behind its last line before the check sum
 abbrev pub open_whole : Record → Open
@@ -176,11 +182,12 @@ sum-back n within =
 
 all-there : (told : Entry) → has_all told (bare told).lines ≡ true
 all-there entry.Begun = refl
-all-there (entry.Made (Added deck)) = refl
-all-there (entry.Made (Put deck seen)) = eq-eqb (length deck.cards) (length deck.cards) refl
-all-there (entry.Made (Dropped name seen)) = refl
-all-there (entry.Made (Edited name seen edit)) = refl
-all-there (entry.Made (Batch name seen edits)) = eq-eqb (length edits) (length edits) refl
+all-there (entry.Made (AddDeck deck)) = refl
+all-there (entry.Made (PutDeck deck seen)) = eq-eqb (length deck.cards) (length deck.cards) refl
+all-there (entry.Made (DropDeck name seen)) = refl
+all-there (entry.Made (EditDeck name seen (One edit))) = refl
+all-there (entry.Made (EditDeck name seen (Batch edits))) = eq-eqb (length edits) (length edits) refl
+all-there (entry.Made (Undo name version)) = refl
 
 -- the line of its check sum ends a record
 pub record-ends : (r : Record) → line_step (Some (open_whole r)) (sum_line (open_whole r).sum) ≡ Ends r

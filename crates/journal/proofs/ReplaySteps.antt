@@ -3,9 +3,8 @@ use Rattle.std.{proofs.Common.{ℕ, ◌≡◌, ◌+◌, ◌-◌, ◌^◌, ◌<�
 use Rattle.text_ports.specs.Faults.{count_up}
 use Rattle.turn_office.specs.Histories.{Leads, entry}
 use Rattle.desk_core.specs.Changes as changes
-use Rattle.desk_core.{specs.Changes.decks_after, specs.Desks.{Desk, new_desk_at}, specs.declared.calls.Call.Call, specs.declared.replies.Reply.Reply, specs.declared.replies.Reply.TheVariants.Changed, specs.Steps.Steps, specs.Runs.{History, Runs, change_asked, change_in, changes_in}, proofs.EveryRun.is_of_its_changes}
-use Rattle.journal.specs.{declared.changes.Change.Change, declared.records.Entry.Entry, declared.records.Entry.TheVariants.{Begun, Made}, declared.records.Record.Record, declared.places.Place.Place, declared.places.Ending.Ending, declared.places.Ending.TheVariants.{Whole, Cut, Faulty}, declared.reading.Next.TheVariants.{Found, Ended}, declared.reading.JournalFault.JournalFault, declared.replaying.ReplayFault.ReplayFault, Places.at_start, Journals.{Journal, in_front, journal_from, journal_of}, Reading.{Tells, TellsEnd, ReadsNext, GivesTooMuch, StopsReading}, Replaying.{replay_fault, call_of, change_of, change_in_entry, change_told, changes_told, begun_at, begun_by, fronted, are_none, IsNotTaken, IsTakenAs, IsTaken, IsReplayed, LeadsTo, StopsReplay, TellsJournal, Replays}}
-use Rattle.journal.specs.declared.changes.Change.TheVariants as change
+use Rattle.desk_core.{specs.Changes.decks_after, specs.Desks.{Desk, new_desk_at}, specs.declared.calls.Change.Change, specs.declared.calls.Call.Call, specs.declared.calls.Call.TheVariants.Make, specs.declared.replies.Reply.Reply, specs.declared.replies.Reply.TheVariants.Changed, specs.Steps.Steps, specs.Runs.{History, Runs, change_in, changes_in}, proofs.EveryRun.is_of_its_changes}
+use Rattle.journal.specs.{declared.records.Entry.Entry, declared.records.Entry.TheVariants.{Begun, Made}, declared.records.Record.Record, declared.places.Place.Place, declared.places.Ending.Ending, declared.places.Ending.TheVariants.{Whole, Cut, Faulty}, declared.reading.Next.TheVariants.{Found, Ended}, declared.reading.JournalFault.JournalFault, declared.replaying.ReplayFault.ReplayFault, Places.at_start, Journals.{Journal, in_front, journal_from, journal_of}, Reading.{Tells, TellsEnd, ReadsNext, GivesTooMuch, StopsReading}, Replaying.{replay_fault, change_in_entry, change_told, changes_told, begun_at, begun_by, fronted, are_none, IsNotTaken, IsTakenAs, IsTaken, IsReplayed, LeadsTo, StopsReplay, TellsJournal, Replays}}
 use Rattle.journal.specs.declared.reading.JournalFault.TheVariants as fault
 use Rattle.journal.specs.declared.replaying.ReplayFault.TheVariants as replay
 
@@ -47,21 +46,13 @@ leads-more : (desk mid last : Desk) (history : History) (call : Call) (reply : R
 leads-more desk mid last [] call reply leads step = (last, subst (λ (d : Desk). Steps d call reply last) (sym leads) step, refl)
 leads-more desk mid last (first ∷ history) call reply leads step = (leads.0, leads.1, leads-more leads.0 mid last history call reply leads.2 step)
 
--- the change that its call asks for
-asked-is : (by : List ℕ) (asked : Change) (version : ℕ) → change_asked (call_of by asked) (Changed version) ≡ Some (change_of asked)
-asked-is by (change.Added deck) version = refl
-asked-is by (change.Put deck seen) version = refl
-asked-is by (change.Dropped name seen) version = refl
-asked-is by (change.Edited name seen edit) version = refl
-asked-is by (change.Batch name seen edits) version = refl
-
 -- what is accepted with one change more
 accepted-more : (history : History) (records : List Record) (r : Record) (by : List ℕ) (asked : Change) → r.entry ≡ Made asked → changes_in history ≡ changes_told records →
-    changes_in (history ++ entry 0 (call_of by asked) (Changed r.version) ∷ []) ≡ changes_told (records ++ r ∷ [])
+    changes_in (history ++ entry 0 (Make by asked) (Changed r.version) ∷ []) ≡ changes_told (records ++ r ∷ [])
 accepted-more history records r by asked told same =
-    filter_map-append change_in history (entry 0 (call_of by asked) (Changed r.version) ∷ [])
-    ∙ ap (λ (cs : List changes.Change). cs ++ changes_in (entry 0 (call_of by asked) (Changed r.version) ∷ [])) same
-    ∙ ap (λ (o : Option changes.Change). changes_told records ++ cons_option o []) (asked-is by asked r.version ∙ sym (ap change_in_entry told))
+    filter_map-append change_in history (entry 0 (Make by asked) (Changed r.version) ∷ [])
+    ∙ ap (λ (cs : List changes.Change). cs ++ changes_in (entry 0 (Make by asked) (Changed r.version) ∷ [])) same
+    ∙ ap (λ (o : Option changes.Change). changes_told records ++ cons_option o []) (sym (ap (change_in_entry r.version) told))
     ∙ sym (filter_map-append change_told records (r ∷ []))
 
 -- the journal behind one record more
@@ -112,7 +103,7 @@ AreMade-more old mid new first desk next place after count r so_far read taken =
           first_is = some-are so_far.records r;
           history = [];
           runs = ap new_desk_at (ap begun_by only ∙ ap (begun_at r.version) told) ∙ sym is.1;
-          accepted = sym (ap changes_told only ∙ ap (λ (o : Option changes.Change). cons_option o []) (ap change_in_entry told));
+          accepted = sym (ap changes_told only ∙ ap (λ (o : Option changes.Change). cons_option o []) (ap (change_in_entry r.version) told));
           taken = bytes;
           consumed = consumed;
           many = many;
@@ -120,12 +111,12 @@ AreMade-more old mid new first desk next place after count r so_far read taken =
         }
     told-by (Made asked) told is =
         let by = r.by in
-        let P : ℕ → Type 0 = λ (begun : ℕ). Runs begun (so_far.history ++ entry 0 (call_of by asked) (Changed r.version) ∷ []) next in
+        let P : ℕ → Type 0 = λ (begun : ℕ). Runs begun (so_far.history ++ entry 0 (Make by asked) (Changed r.version) ∷ []) next in
         record {
           records = so_far.records ++ r ∷ [];
           first_is = some-are so_far.records r;
-          history = so_far.history ++ entry 0 (call_of by asked) (Changed r.version) ∷ [];
-          runs = subst P (sym (begun-more so_far.records r asked told)) (leads-more (new_desk_at (begun_by so_far.records)) desk next so_far.history (call_of by asked) (Changed r.version) so_far.runs is);
+          history = so_far.history ++ entry 0 (Make by asked) (Changed r.version) ∷ [];
+          runs = subst P (sym (begun-more so_far.records r asked told)) (leads-more (new_desk_at (begun_by so_far.records)) desk next so_far.history (Make by asked) (Changed r.version) so_far.runs is);
           accepted = accepted-more so_far.history so_far.records r by asked told so_far.accepted;
           taken = bytes;
           consumed = consumed;

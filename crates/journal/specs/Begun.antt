@@ -4,7 +4,8 @@ use Rattle.definitions.specs.{Characters.same_text, DeckInput.is_deck_name, Fiel
 use Rattle.session_commands.specs.{declared.commands.Command.Command, declared.refusals.Refusal.Refusal, declared.words.Seen.Seen, declared.words.Seen.TheVariants.{Exactly, Since}, Words.{from_blank, first_word, first_number, behind_word}, Commands.command_of}
 use Rattle.session_commands.specs.declared.commands.Command.TheVariants as command
 use Rattle.cards.specs.declared.edits.Edit.{Edit}
-use Rattle.journal.specs.{declared.changes.Change.TheVariants.{Added, Put, Dropped, Edited, Batch}, declared.records.Entry.Entry, declared.records.Entry.TheVariants.Made, declared.beginning.Begun.Begun, declared.beginning.Open.Open, CheckSums.{first_sum, sum_over}, Records.ended}
+use Rattle.desk_core.specs.declared.calls.{Change.TheVariants.{AddDeck, PutDeck, DropDeck, EditDeck}, Edits.TheVariants.{One, Batch}}
+use Rattle.journal.specs.{declared.records.Entry.Entry, declared.records.Entry.TheVariants.Made, declared.beginning.Begun.Begun, declared.beginning.Open.Open, CheckSums.{first_sum, sum_over}, Records.ended}
 use Rattle.journal.specs.declared.records.Entry.TheVariants as entry
 use Rattle.deck_files.specs.Moments.{moment_of}
 
@@ -19,12 +20,12 @@ alone entry = Some (record { entry = entry; lines = 0 })
 
 -- a batch, without its edits
 abbrev pub batch_named : Result (List ℕ) Refusal → ℕ → ℕ → Option Begun
-batch_named (Ok name) seen count = Some (record { entry = Made (Batch name seen []); lines = count })
+batch_named (Ok name) seen count = Some (record { entry = Made (EditDeck name (Exactly seen) (Batch [])); lines = count })
 batch_named (Err refusal) seen count = None
 
 -- an edit by who has seen a version and no other
 abbrev pub edit_seen : List ℕ → Seen → Edit → Option Begun
-edit_seen name (Exactly seen) edit = alone (Made (Edited name seen edit))
+edit_seen name (Exactly seen) edit = alone (Made (EditDeck name (Exactly seen) (One edit)))
 edit_seen name (Since seen) edit = None
 
 -- a batch by who has seen a version and no other, without its edits
@@ -34,13 +35,13 @@ batch_seen name (Since seen) count = None
 
 -- a put, without its cards
 abbrev pub put_named : Result (List ℕ) Refusal → ℕ → ℕ → Option Begun
-put_named (Ok name) seen count = Some (record { entry = Made (Put (record { name = name; cards = [] }) seen); lines = count })
+put_named (Ok name) seen count = Some (record { entry = Made (PutDeck (record { name = name; cards = [] }) seen); lines = count })
 put_named (Err refusal) seen count = None
 
 -- the change that a command asks for, without what stands on further lines
 abbrev pub begun_by : Result Command Refusal → Option Begun
-begun_by (Ok (command.Add name)) = alone (Made (Added (record { name = name; cards = [] })))
-begun_by (Ok (command.Drop name seen)) = alone (Made (Dropped name seen))
+begun_by (Ok (command.Add name)) = alone (Made (AddDeck (record { name = name; cards = [] })))
+begun_by (Ok (command.Drop name seen)) = alone (Made (DropDeck name seen))
 begun_by (Ok (command.Edit name seen edit)) = edit_seen name seen edit
 begun_by (Ok (command.Batch head)) = batch_seen head.name head.seen head.count
 begun_by (Ok (command.Put head)) = put_named head.name head.version head.count

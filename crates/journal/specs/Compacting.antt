@@ -1,11 +1,12 @@
 -- A journal that begins with decks, in place of the changes that led to them (ours).
 use Rattle.std.specs.Prelude.{ℕ, ◌+◌, List, [], ◌∷◌}
 use Rattle.definitions.specs.DeckInput.{Deck}
-use Rattle.journal.specs.{declared.changes.Change.TheVariants.Added, declared.records.Entry.TheVariants.{Begun, Made}, declared.records.Record.Record, Names.session_name}
+use Rattle.desk_core.specs.declared.calls.Change.TheVariants.{AddDeck}
+use Rattle.journal.specs.{declared.records.Entry.TheVariants.{Begun, Made}, declared.records.Record.Record, Names.session_name}
 
 -- the record of a deck that is added
 abbrev pub added_record : List ℕ → ℕ → Deck → Record
-added_record moment version deck = record { version = version; moment = moment; by = session_name 0; entry = Made (Added deck) }
+added_record moment version deck = record { version = version; moment = moment; by = session_name 0; entry = Made (AddDeck deck) }
 
 -- the records of decks that are added one after the other, behind a version
 abbrev pub added_records : List ℕ → ℕ → List Deck → List Record

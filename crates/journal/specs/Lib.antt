@@ -3,7 +3,7 @@ pub mod Marks
 pub mod Names
 pub mod Records
 pub mod Drafts
-pub mod Asking
+pub mod Drafted
 pub mod Queues
 pub mod JournalFiles
 pub mod Places

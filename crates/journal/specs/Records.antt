@@ -1,8 +1,9 @@
 -- The text of a record (ours): a line that shows what was done, a line for each card or edit that belongs to it, behind a blank, and a line with the check sum of the lines before it.
 use Rattle.std.specs.Prelude.{ℕ, List, [], ◌∷◌, ◌++◌, length, map, flat_map, codes, decimal}
 use Rattle.definitions.specs.Characters.{line_feed}
-use Rattle.session_commands.specs.{declared.words.Seen.TheVariants.Exactly, Lines.{behind_a_blank, name_and_number, line_of_edit, line_in_batch}}
-use Rattle.journal.specs.{declared.changes.Change.Change, declared.changes.Change.TheVariants.{Added, Put, Dropped, Edited, Batch}, declared.records.Entry.Entry, declared.records.Entry.TheVariants.{Begun, Made}, declared.records.Record.Record, CheckSums.check_sum}
+use Rattle.session_commands.specs.{declared.words.Seen.Seen, Lines.{behind_a_blank, name_and_number, name_and_seen, line_of_edit, line_in_batch}}
+use Rattle.desk_core.specs.declared.calls.{Change.Change, Change.TheVariants.{AddDeck, PutDeck, DropDeck, EditDeck, Undo}, Edits.Edits, Edits.TheVariants.{One, Batch}}
+use Rattle.journal.specs.{declared.records.Entry.Entry, declared.records.Entry.TheVariants.{Begun, Made}, declared.records.Record.Record, CheckSums.check_sum}
 
 -- a line and its line feed
 abbrev pub ended : List ℕ → List ℕ
@@ -12,25 +13,36 @@ ended line = line ++ line_feed ∷ []
 abbrev pub text_of_lines : List (List ℕ) → List ℕ
 text_of_lines lines = flat_map ended lines
 
+-- edits of a deck as the line that asked for them
+abbrev pub line_of_edits : List ℕ → Seen → Edits → List ℕ
+line_of_edits name seen (One edit) = line_of_edit name seen edit
+line_of_edits name seen (Batch edits) = codes "BATCH" ++ name_and_seen name seen (behind_a_blank (decimal (length edits) ++ []))
+
 -- a change as the line that asked for it
 abbrev pub line_of_change : Change → List ℕ
-line_of_change (Added deck) = codes "ADD" ++ behind_a_blank (deck.name ++ [])
-line_of_change (Put deck seen) = codes "PUT" ++ name_and_number deck.name seen (behind_a_blank (decimal (length deck.cards) ++ []))
-line_of_change (Dropped name seen) = codes "DROP" ++ name_and_number name seen []
-line_of_change (Edited name seen edit) = line_of_edit name (Exactly seen) edit
-line_of_change (Batch name seen edits) = codes "BATCH" ++ name_and_number name seen (behind_a_blank (decimal (length edits) ++ []))
+line_of_change (AddDeck deck) = codes "ADD" ++ behind_a_blank (deck.name ++ [])
+line_of_change (PutDeck deck seen) = codes "PUT" ++ name_and_number deck.name seen (behind_a_blank (decimal (length deck.cards) ++ []))
+line_of_change (DropDeck name seen) = codes "DROP" ++ name_and_number name seen []
+line_of_change (EditDeck name seen edits) = line_of_edits name seen edits
+line_of_change (Undo name version) = codes "UNDO" ++ name_and_number name version []
 
 -- what a record shows, as a line
 abbrev pub line_of_entry : Entry → List ℕ
 line_of_entry Begun = codes "BEGIN"
 line_of_entry (Made change) = line_of_change change
 
+-- the lines of several edits; one stands on the line that asked for it
+abbrev pub lines_of_edits : Edits → List (List ℕ)
+lines_of_edits (One edit) = []
+lines_of_edits (Batch edits) = map line_in_batch edits
+
 -- the cards, or the edits, that belong to a change
 abbrev pub lines_behind_change : Change → List (List ℕ)
-lines_behind_change (Added deck) = deck.cards
-lines_behind_change (Put deck seen) = deck.cards
-lines_behind_change (Batch name seen edits) = map line_in_batch edits
-lines_behind_change _ = []
+lines_behind_change (AddDeck deck) = deck.cards
+lines_behind_change (PutDeck deck seen) = deck.cards
+lines_behind_change (DropDeck name seen) = []
+lines_behind_change (EditDeck name seen edits) = lines_of_edits edits
+lines_behind_change (Undo name version) = []
 
 -- the cards, or the edits, that belong to what a record shows
 abbrev pub lines_behind : Entry → List (List ℕ)

@@ -1,40 +1,23 @@
 -- The changes of a journal made again, one after the other, on a desk (ours).
 use Rattle.std.specs.{Prelude.{ℕ, ◌≡◌, ◌≢◌, ◌+◌, ⊤, Bool, true, false, List, [], ◌∷◌, ◌++◌, Option, Some, None, length, filter_map}, Io.KnownBytes.{Consumes, IsAtEnd}}
 use Rattle.desk_core.specs.Changes as changes
-use Rattle.desk_core.specs.{declared.calls.Call.Call, declared.calls.Call.TheVariants.{AddDeck, PutDeck, DropDeck, EditDeck, Batch}, declared.replies.Refusal.TheVariants.OutOfMemory, declared.replies.Reply.Reply, declared.replies.Reply.TheVariants.{Changed, Refused}, Desks.{Desk, new_desk_at, decks_of}, Runs.{History, Runs, changes_in}, Steps.Steps}
-use Rattle.journal.specs.{declared.changes.Change.Change, declared.records.Entry.Entry, declared.records.Entry.TheVariants.{Begun, Made}, declared.records.Record.Record, declared.places.Ending.Ending, declared.places.Ending.TheVariants.{Whole, Cut, Faulty}, declared.reading.JournalFault.JournalFault, declared.replaying.ReplayFault.ReplayFault, declared.places.Place.Place, Places.capped, Journals.{Journal, journal_from, journal_of}, Reading.StopsReading}
-use Rattle.journal.specs.declared.changes.Change.TheVariants as change
+use Rattle.desk_core.specs.{declared.calls.Change.Change, declared.calls.Call.TheVariants.Make, declared.replies.Refusal.TheVariants.OutOfMemory, declared.replies.Reply.Reply, declared.replies.Reply.TheVariants.{Changed, Refused}, Desks.{Desk, new_desk_at, decks_of}, Runs.{History, Runs, change_made, changes_in}, Steps.Steps}
+use Rattle.journal.specs.{declared.records.Entry.Entry, declared.records.Entry.TheVariants.{Begun, Made}, declared.records.Record.Record, declared.places.Ending.Ending, declared.places.Ending.TheVariants.{Whole, Cut, Faulty}, declared.reading.JournalFault.JournalFault, declared.replaying.ReplayFault.ReplayFault, declared.places.Place.Place, Places.capped, Journals.{Journal, journal_from, journal_of}, Reading.StopsReading}
 use Rattle.journal.specs.declared.reading.JournalFault.TheVariants as fault
 use Rattle.journal.specs.declared.replaying.ReplayFault.TheVariants as replay
-
--- the call by which who has a name asks for a change
-abbrev pub call_of : List ℕ → Change → Call
-call_of by (change.Added deck) = AddDeck deck
-call_of by (change.Put deck seen) = PutDeck deck seen
-call_of by (change.Dropped name seen) = DropDeck name seen
-call_of by (change.Edited name seen edit) = EditDeck name seen edit by
-call_of by (change.Batch name seen edits) = Batch name seen edits by
 
 -- the fault of a journal as one of making its changes again
 abbrev pub replay_fault : JournalFault → ReplayFault
 replay_fault fault.ReadFault = replay.ReadFault
 replay_fault fault.OutOfMemory = replay.OutOfMemory
 
--- the change that a call made, without the version that was seen
-abbrev pub change_of : Change → changes.Change
-change_of (change.Added deck) = changes.Added deck
-change_of (change.Put deck seen) = changes.Put deck
-change_of (change.Dropped name seen) = changes.Dropped name
-change_of (change.Edited name seen edit) = changes.Edited name (edit ∷ [])
-change_of (change.Batch name seen edits) = changes.Edited name edits
-
--- the change that a record shows, if it shows one
-abbrev pub change_in_entry : Entry → Option changes.Change
-change_in_entry Begun = None
-change_in_entry (Made asked) = Some (change_of asked)
+-- the change of decks that a record of this version shows, if it shows one
+abbrev pub change_in_entry : ℕ → Entry → Option changes.Change
+change_in_entry version Begun = None
+change_in_entry version (Made asked) = change_made asked (Changed version)
 
 abbrev pub change_told : Record → Option changes.Change
-change_told r = change_in_entry r.entry
+change_told r = change_in_entry r.version r.entry
 
 -- the changes that records show, in order
 abbrev pub changes_told : List Record → List changes.Change
@@ -52,7 +35,7 @@ begun_by (r ∷ records) = begun_at r.version r.entry
 
 -- a change of who has a name is made again, and makes the version
 abbrev pub MakesAgain : ℕ → List ℕ → Change → Desk → Desk → Type 0
-MakesAgain version by asked desk next = Steps desk (call_of by asked) (Changed version) next
+MakesAgain version by asked desk next = Steps desk (Make by asked) (Changed version) next
 
 -- what a record shows is taken: it begins the journal, where it is the first; or it has a change, which is made again
 abbrev pub IsTakenAs : Bool → ℕ → List ℕ → Entry → Desk → Desk → Type 0
@@ -66,7 +49,7 @@ IsTaken first r desk next = IsTakenAs first r.version r.by r.entry desk next
 pub record AnswersOtherwise (version : ℕ) (by : List ℕ) (asked : Change) (desk : Desk) : Type 0 where
   pub reply : Reply
   pub next : Desk
-  pub steps : Steps desk (call_of by asked) reply next
+  pub steps : Steps desk (Make by asked) reply next
   pub other : reply ≢ Changed version
   pub memory : reply ≢ Refused OutOfMemory
 

@@ -3,7 +3,8 @@ use Rattle.std.specs.Prelude.{ℕ, ◌==◌, List, [], ◌∷◌, ◌++◌, Opti
 use Rattle.definitions.specs.{Characters.{blank, same_text}, Cards.{CardRead, IsCard, TooWide, BadCharacter, card_of, begins_with}, DeckInput.Deck, Fields.unbroken_front}
 use Rattle.cards.specs.declared.edits.Edit.{Edit}
 use Rattle.session_commands.specs.{declared.refusals.Refusal.Refusal, Words.{from_blank, first_number, behind_word}, Edits.{is_end, edit_in_batch}}
-use Rattle.journal.specs.{declared.changes.Change.Change, declared.changes.Change.TheVariants.{Added, Put, Dropped, Edited, Batch}, declared.records.Entry.Entry, declared.beginning.Open.Open, declared.steps.Step.Step, declared.steps.Step.TheVariants.{Goes, Ends, Wrong, Bad}, CheckSums.sum_over, Records.ended, Begun.opened}
+use Rattle.desk_core.specs.declared.calls.{Change.Change, Change.TheVariants.{AddDeck, PutDeck, DropDeck, EditDeck, Undo}, Edits.Edits, Edits.TheVariants.{One, Batch}}
+use Rattle.journal.specs.{declared.records.Entry.Entry, declared.beginning.Open.Open, declared.steps.Step.Step, declared.steps.Step.TheVariants.{Goes, Ends, Wrong, Bad}, CheckSums.sum_over, Records.ended, Begun.opened}
 use Rattle.journal.specs.declared.records.Entry.TheVariants as entry
 
 -- a deck with a card more, if it is one
@@ -21,13 +22,18 @@ abbrev pub edits_with : List Edit → Result Edit Refusal → Option (List Edit)
 edits_with edits (Ok edit) = Some (edits ++ edit ∷ [])
 edits_with edits (Err refusal) = None
 
+-- several edits with the edit of a text
+abbrev pub more_edits : Edits → List ℕ → Option Edits
+more_edits (One edit) text = None
+more_edits (Batch edits) text = option_map Batch (edits_with edits (edit_in_batch text))
+
 -- a change with the card or the edit of a text
 abbrev pub change_with : Change → List ℕ → Option Change
-change_with (Added deck) text = option_map Added (deck_with deck text)
-change_with (Put deck seen) text = option_map (λ (with : Deck). Put with seen) (deck_with deck text)
-change_with (Batch name seen edits) text = option_map (Batch name seen) (edits_with edits (edit_in_batch text))
-change_with (Dropped name seen) text = None
-change_with (Edited name seen edit) text = None
+change_with (AddDeck deck) text = option_map AddDeck (deck_with deck text)
+change_with (PutDeck deck seen) text = option_map (λ (with : Deck). PutDeck with seen) (deck_with deck text)
+change_with (EditDeck name seen edits) text = option_map (EditDeck name seen) (more_edits edits text)
+change_with (DropDeck name seen) text = None
+change_with (Undo name version) text = None
 
 -- what a record shows with the card or the edit of a text
 abbrev pub entry_with : Entry → List ℕ → Option Entry
@@ -45,8 +51,8 @@ inner_step current line (Some told) = Goes (open_behind current line told)
 
 -- whether a batch or a put has as many edits or cards as it announced
 abbrev pub has_all : Entry → ℕ → Bool
-has_all (entry.Made (Batch name seen edits)) count = length edits == count
-has_all (entry.Made (Put deck seen)) count = length deck.cards == count
+has_all (entry.Made (EditDeck name seen (Batch edits))) count = length edits == count
+has_all (entry.Made (PutDeck deck seen)) count = length deck.cards == count
 has_all _ count = true
 
 -- the number on the line of a check sum

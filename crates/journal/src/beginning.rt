@@ -5,13 +5,12 @@ ghost use Rattle.session_commands.specs.declared.refusals.Refusal.{Refusal as Re
 ghost use Rattle.deck_files.specs.Moments.{moment_of};
 ghost use Rattle.journal.specs.Begun.{alone, begun_by, begun_of, batch_named, batch_seen, edit_seen, name_of, put_named, opened, opened_by};
 
-use crate::changes::Change;
 use crate::check_sums::{FIRST_SUM, sum_over_line};
 use crate::records::{Entry, Record};
 use cards::{DeckName, Edit};
 use deck_files::Moment;
 use definitions::is_same_text;
-use desk_core::{Listed, NewDeck};
+use desk_core::{Change, Edits, Listed, NewDeck};
 use session_commands::{
     Command, Refusal, Seen, behind_blank, behind_word, first_number, first_word, from_blank,
     read_command, to_blank,
@@ -51,10 +50,10 @@ fn batch_named(
 {
     match name {
         Ok(name) => Some(Begun {
-            entry: Entry::Made(Change::Batch {
+            entry: Entry::Made(Change::EditDeck {
                 name,
-                seen,
-                edits: Listed::new(Vec::new(alloc)),
+                seen: Seen::Exactly(seen),
+                edits: Edits::Batch(Listed::new(Vec::new(alloc))),
             }),
             lines: count,
         }),
@@ -67,7 +66,11 @@ fn edit_seen(name: DeckName, seen: Seen, edit: Edit) -> Option<Begun>
     ensures { result ≡ edit_seen name seen edit }
 {
     match seen {
-        Seen::Exactly(seen) => alone(Entry::Made(Change::Edited { name, seen, edit })),
+        Seen::Exactly(_) => alone(Entry::Made(Change::EditDeck {
+            name,
+            seen,
+            edits: Edits::One(edit),
+        })),
         Seen::Since(_) => None,
     }
 }
@@ -93,7 +96,7 @@ fn put_named(alloc: Global, name: Result<DeckName, Refusal>, seen: u64, count: u
 {
     match name {
         Ok(name) => Some(Begun {
-            entry: Entry::Made(Change::Put {
+            entry: Entry::Made(Change::PutDeck {
                 deck: NewDeck::new(name, Vec::new(alloc)),
                 seen,
             }),
@@ -108,11 +111,11 @@ fn begun_by(alloc: Global, command: Result<Command, Refusal>) -> Option<Begun>
     ensures { result ≡ begun_by command }
 {
     match command {
-        Ok(Command::Add { name }) => alone(Entry::Made(Change::Added(NewDeck::new(
+        Ok(Command::Add { name }) => alone(Entry::Made(Change::AddDeck(NewDeck::new(
             name,
             Vec::new(alloc),
         )))),
-        Ok(Command::Drop { name, version }) => alone(Entry::Made(Change::Dropped {
+        Ok(Command::Drop { name, version }) => alone(Entry::Made(Change::DropDeck {
             name,
             seen: version,
         })),

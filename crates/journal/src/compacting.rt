@@ -4,12 +4,11 @@ ghost use Rattle.desk_core.specs.Desks.{deck_of, decks_of};
 ghost use Rattle.journal.specs.Compacting.{added_record, added_records, compacted};
 ghost use Rattle.journal.specs.Records.{text_of_record, text_of_records};
 
-use crate::changes::Change;
 use crate::names::session_name;
 use crate::records::{Entry, Record};
 use crate::writing::record_text;
 use deck_files::Moment;
-use desk_core::{Desk, StoredDeck};
+use desk_core::{Change, Desk, StoredDeck};
 use std::alloc::{AllocError, Global};
 use text_ports::Text;
 
@@ -27,7 +26,7 @@ fn push_added(
         version,
         moment: moment.copied(),
         by: session_name(0),
-        entry: Entry::Made(Change::Added(deck.copied(alloc)?)),
+        entry: Entry::Made(Change::AddDeck(deck.copied(alloc)?)),
     };
     text.append(record_text(alloc, &record)?)
 }

@@ -1,14 +1,14 @@
 //! Records of changes that are asked for, whose versions are not known yet.
-ghost use Rattle.std.specs.Prelude.{◌≡◌, IfOk, IfSome, OnErr, true};
-ghost use Rattle.journal.specs.Drafts.{carried_text, form_text, takes_memory};
-ghost use Rattle.journal.specs.Records.{text_behind_version};
+ghost use Rattle.std.specs.Prelude.{◌≡◌, IfOk, IfSome, OnErr, false};
+ghost use Rattle.desk_core.specs.declared.calls.Change.TheVariants.{DropDeck};
+ghost use Rattle.journal.specs.Drafts.{change_carried, form_text, is_dropped, stamped_text};
 
-use crate::changes::Change;
 use crate::writing::text_behind_version;
 use cards::{DeckName, Edit};
 use deck_files::Moment;
 use deck_listing::SharedText;
-use desk_core::Listed;
+use desk_core::{Change, Edits, Listed};
+use session_commands::Seen;
 use std::alloc::{AllocError, Global};
 use std::marker::Model;
 use text_ports::Text;
@@ -48,34 +48,24 @@ impl Model for Draft {
 }
 
 /// The record of a drop. It takes no memory: its text is made when it is written.
-fn draft_dropped(moment: &Moment, by: &DeckName, name: &DeckName, seen: u64) -> Draft
-    ensures { result ≡ text_behind_version moment.now by.now (Change.Dropped name.now seen) }
+fn draft_dropped(stamp: Stamp, name: &DeckName, seen: u64) -> Draft
+    ensures { result ≡ stamped_text stamp (DropDeck name.now seen) }
 {
-    let stamp = Stamp {
-        moment: moment.copied(),
-        by: by.copied(),
-    };
     let name = name.copied();
     Draft {
-        form: Form::Told(stamp, Change::Dropped { name, seen }),
+        form: Form::Told(stamp, Change::DropDeck { name, seen }),
     }
 }
 
-/// The record of a change that a session of this name asks for at a moment. That of a drop is made also where
-/// no memory is left.
-pub fn draft_change(
-    alloc: Global,
-    moment: &Moment,
-    by: &DeckName,
-    change: &Change,
-) -> Result<Draft, AllocError>
-    ensures text { IfOk result (λ draft. draft ≡ text_behind_version moment.now by.now change.now) }
-    ensures memory { OnErr result (takes_memory change.now ≡ true) }
+/// The record of a change. That of a drop is made also where no memory is left.
+pub(crate) fn draft_whole(alloc: Global, stamp: Stamp, change: &Change) -> Result<Draft, AllocError>
+    ensures text { IfOk result (λ draft. draft ≡ stamped_text stamp change.now) }
+    ensures memory { OnErr result (is_dropped change.now ≡ false) }
 {
-    if let Change::Dropped { name, seen } = change {
-        return Ok(draft_dropped(moment, by, name, *seen));
+    if let Change::DropDeck { name, seen } = change {
+        return Ok(draft_dropped(stamp, name, *seen));
     }
-    let text = text_behind_version(alloc, moment, by, change)?;
+    let text = text_behind_version(alloc, &stamp.moment, &stamp.by, change)?;
     Ok(Draft {
         form: Form::Written(SharedText::new(alloc, text)?),
     })
@@ -84,10 +74,11 @@ pub fn draft_change(
 /// The record of a change that was carried, by its edits as they were made. It takes no memory: its text is
 /// made when it is written.
 pub fn draft_carried(stamp: Stamp, name: DeckName, seen: u64, edits: Listed<Edit>) -> Draft
-    ensures { result ≡ carried_text stamp name seen edits }
+    ensures { result ≡ stamped_text stamp (change_carried name seen edits) }
 {
+    let (seen, edits) = (Seen::Exactly(seen), Edits::Batch(edits));
     Draft {
-        form: Form::Told(stamp, Change::Batch { name, seen, edits }),
+        form: Form::Told(stamp, Change::EditDeck { name, seen, edits }),
     }
 }
 

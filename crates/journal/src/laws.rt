@@ -1,6 +1,6 @@
 //! What a start may rest on, each law as the contract of a function that does nothing.
 ghost use Rattle.std.specs.Prelude.{◌≡◌, ◌++◌, ◌<◌, ℕ, List, All, length, take};
-ghost use Rattle.journal.specs.declared.changes.Change.{Change as Asked};
+ghost use Rattle.desk_core.specs.declared.calls.Change.{Change as Asked};
 ghost use Rattle.journal.specs.declared.records.Entry.TheVariants.{Made};
 ghost use Rattle.journal.specs.declared.records.Record.{Record};
 ghost use Rattle.journal.specs.declared.places.Ending.TheVariants.{Whole, Cut};
@@ -10,7 +10,7 @@ ghost use Rattle.journal.specs.Records.{text_behind_version, text_of_record, tex
 ghost use Rattle.journal.specs.Journals.{journal_of};
 
 /// What is written of lawful records reads back as the same records: each change of each kind, with
-/// all its cards.
+/// all its cards. Of edits that were carried, and of an undo, the batch that was made is the record.
 pub fn records_read_back()
     ensures { (records : List Record) → All IsLawful records →
         journal_of (text_of_records records) ≡ record { records = records; ending = Whole } }

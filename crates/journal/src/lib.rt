@@ -11,19 +11,19 @@
 //! SUM 3248616115
 //! ```
 //!
-//! A deck that was loaded is shown by `ADD` with its cards. A journal may begin with `BEGIN`: its desk
+//! A deck that was loaded is shown by `ADD` with its cards, and edits that were carried by the batch that was made. A journal may begin with `BEGIN`: its desk
 //! goes on behind the version of this record, so its first change makes the next one. The last record
 //! may be cut or damaged: it is left out, and the byte is reported at which it begins. Any other fault ends
 //! the reading, and reports the record and its byte.
 #![tactic(auto)]
 
 // What a record has.
-mod changes;
 mod check_sums;
 mod names;
 mod records;
 
 // Records as text.
+mod drafted;
 mod drafts;
 mod writing;
 
@@ -47,9 +47,9 @@ mod replaying;
 // What a start may rest on.
 mod laws;
 
-pub use changes::{Asked, Carry, Change, asked_of};
 pub use compacting::compacted_text;
-pub use drafts::{Draft, Stamp, draft_carried, draft_change};
+pub use drafted::{Drafted, draft_change, draft_nothing};
+pub use drafts::{Draft, Stamp, draft_carried};
 pub use journal_file::JournalFile;
 pub use kept_records::{KeptBatch, KeptRecords};
 pub use laws::{cut_records_are_left_out, drafts_are_records, records_read_back};

@@ -1,8 +1,8 @@
 //! The records of a journal.
 
-use crate::changes::Change;
 use cards::DeckName;
 use deck_files::Moment;
+use desk_core::Change;
 
 /// What a record shows.
 #[derive(Drop)]

@@ -1,14 +1,13 @@
 //! Makes the changes of a journal again.
 ghost use Rattle.std.specs.Prelude.{◌≡◌, ◌⊎◌, IfErr, IfOk, OnOk};
 ghost use Rattle.desk_core.specs.Desks.{new_desk_at};
-ghost use Rattle.journal.specs.Replaying.{AnswersOtherwise, IsNotTaken, IsTaken, MakesAgain, Replays, StopsReplay, call_of};
+ghost use Rattle.journal.specs.Replaying.{AnswersOtherwise, IsNotTaken, IsTaken, MakesAgain, Replays, StopsReplay};
 
-use crate::changes::Change;
 use crate::places::{Ending, Place};
 use crate::reading::{JournalFault, Next, next_record};
 use crate::records::{Entry, Record};
 use cards::DeckName;
-use desk_core::{Call, Desk, Refusal, Reply};
+use desk_core::{Call, Change, Desk, Refusal, Reply};
 use std::alloc::Global;
 use std::hash::RandomState;
 use std::io::Read;
@@ -53,31 +52,6 @@ impl From<JournalFault> for ReplayFault {
     }
 }
 
-impl Change {
-    /// The call by which who has this name asks for the change.
-    pub fn into_call(self, by: DeckName) -> Call
-        ensures { result ≡ call_of by self }
-    {
-        match self {
-            Change::Added(deck) => Call::AddDeck(deck),
-            Change::Put { deck, seen } => Call::PutDeck { deck, seen },
-            Change::Dropped { name, seen } => Call::DropDeck { name, seen },
-            Change::Edited { name, seen, edit } => Call::EditDeck {
-                name,
-                seen,
-                edit,
-                by,
-            },
-            Change::Batch { name, seen, edits } => Call::Batch {
-                name,
-                seen,
-                edits,
-                by,
-            },
-        }
-    }
-}
-
 /// Makes a change of who has a name again, which made this version; else this is the fault, unless there is
 /// no memory.
 fn make_again(
@@ -90,7 +64,7 @@ fn make_again(
     ensures made { OnOk result (MakesAgain version by change desk.old desk.new) }
     ensures unmade { IfErr result (λ fault. (fault ≡ ReplayFault.OutOfMemory) ⊎ ((fault ≡ unmade) × AnswersOtherwise version by change desk.old)) }
 {
-    match desk.step(change.into_call(by)) {
+    match desk.step(Call::Make { by, change }) {
         Reply::Changed(made) => {
             let found = made.version();
             made.free();

@@ -3,15 +3,14 @@ ghost use Rattle.std.specs.Prelude.{◌≡◌, IfOk, drop};
 ghost use Rattle.definitions.specs.Characters.{blank};
 ghost use Rattle.definitions.specs.Cards.{begins_with};
 ghost use Rattle.session_commands.specs.Edits.{edit_in_batch};
-ghost use Rattle.journal.specs.Steps.{change_with, deck_with, edits_with, end_step, entry_with, has_all, inner_step, line_step, open_behind, sum_in};
+ghost use Rattle.journal.specs.Steps.{change_with, deck_with, edits_with, end_step, entry_with, has_all, inner_step, line_step, more_edits, open_behind, sum_in};
 
 use crate::beginning::{Open, opened};
-use crate::changes::Change;
 use crate::check_sums::sum_over_line;
 use crate::records::{Entry, Record};
 use cards::{Card, Edit};
 use definitions::is_same_text;
-use desk_core::{Listed, NewDeck};
+use desk_core::{Change, Edits, Listed, NewDeck};
 use session_commands::{
     behind_blank, behind_word, first_number, from_blank, read_batch_line, to_blank,
 };
@@ -54,25 +53,38 @@ fn edits_with(edits: Listed<Edit>, text: &[u8]) -> Result<Option<Listed<Edit>>, 
     Ok(Some(Listed::new(edits)))
 }
 
+/// Several edits with the edit of a text, if it shows one.
+fn more_edits(edits: Edits, text: &[u8]) -> Result<Option<Edits>, AllocError>
+    ensures { IfOk result (λ with. with ≡ more_edits edits text.now) }
+{
+    match edits {
+        Edits::One(_) => Ok(None),
+        Edits::Batch(edits) => match edits_with(edits, text)? {
+            Some(edits) => Ok(Some(Edits::Batch(edits))),
+            None => Ok(None),
+        },
+    }
+}
+
 /// A change with the card or the edit of a text.
 fn change_with(change: Change, text: &[u8]) -> Result<Option<Change>, AllocError>
     ensures { IfOk result (λ with. with ≡ change_with change text.now) }
 {
     match change {
-        Change::Added(deck) => match deck_with(deck, text)? {
-            Some(deck) => Ok(Some(Change::Added(deck))),
+        Change::AddDeck(deck) => match deck_with(deck, text)? {
+            Some(deck) => Ok(Some(Change::AddDeck(deck))),
             None => Ok(None),
         },
-        Change::Put { deck, seen } => match deck_with(deck, text)? {
-            Some(deck) => Ok(Some(Change::Put { deck, seen })),
+        Change::PutDeck { deck, seen } => match deck_with(deck, text)? {
+            Some(deck) => Ok(Some(Change::PutDeck { deck, seen })),
             None => Ok(None),
         },
-        Change::Batch { name, seen, edits } => match edits_with(edits, text)? {
-            Some(edits) => Ok(Some(Change::Batch { name, seen, edits })),
+        Change::EditDeck { name, seen, edits } => match more_edits(edits, text)? {
+            Some(edits) => Ok(Some(Change::EditDeck { name, seen, edits })),
             None => Ok(None),
         },
-        Change::Dropped { .. } => Ok(None),
-        Change::Edited { .. } => Ok(None),
+        Change::DropDeck { .. } => Ok(None),
+        Change::Undo { .. } => Ok(None),
     }
 }
 
@@ -118,8 +130,13 @@ fn has_all(entry: &Entry, count: u64) -> bool
     ensures { result ≡ has_all entry.now count }
 {
     match entry {
-        Entry::Made(Change::Batch { edits, .. }) => edits.as_slice().len() as u64 == count,
-        Entry::Made(Change::Put { deck, .. }) => deck.cards.len() as u64 == count,
+        Entry::Made(
+            Change::EditDeck {
+                edits: Edits::Batch(edits),
+                ..
+            },
+        ) => edits.as_slice().len() as u64 == count,
+        Entry::Made(Change::PutDeck { deck, .. }) => deck.cards.len() as u64 == count,
         _ => true,
     }
 }

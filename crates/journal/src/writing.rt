@@ -1,16 +1,16 @@
 //! The text of a record.
 ghost use Rattle.std.specs.Prelude.{◌≡◌, ◌++◌, ◌∷◌, [], IfOk, OnOk, codes, decimal, map, flat_map};
-ghost use Rattle.session_commands.specs.declared.words.Seen.TheVariants.{Exactly};
-ghost use Rattle.session_commands.specs.Lines.{behind_a_blank, line_in_batch, line_of_edit, name_and_number};
+ghost use Rattle.session_commands.specs.Lines.{behind_a_blank, line_in_batch, line_of_edit, name_and_seen, seen_text};
 ghost use Rattle.journal.specs.CheckSums.{check_sum};
-ghost use Rattle.journal.specs.Records.{ended, first_line, line_of_change, line_of_entry, log_line, lines_behind, lines_behind_change, lines_of_record, sum_line, text_behind_version, text_of_lines, text_of_record, text_with_version};
+ghost use Rattle.journal.specs.Records.{ended, first_line, line_of_change, line_of_edits, line_of_entry, log_line, lines_behind, lines_behind_change, lines_of_edits, lines_of_record, sum_line, text_behind_version, text_of_lines, text_of_record, text_with_version};
 
-use crate::changes::Change;
 use crate::check_sums::{FIRST_SUM, sum_over};
 use crate::records::{Entry, Record};
 use cards::{Card, DeckName, Edit};
 use deck_files::Moment;
+use desk_core::{Change, Edits};
 use itoa::Buffer;
+use session_commands::Seen;
 use std::alloc::{AllocError, Global};
 use text_ports::Text;
 
@@ -55,13 +55,26 @@ fn push_verb_and_card(text: &mut Text, verb: &[u8], at: u64, card: &Card) -> Res
     push_word(text, card.as_slice())
 }
 
+/// Appends a blank and a version that was seen.
+fn push_seen(text: &mut Text, seen: Seen) -> Result<(), AllocError>
+    ensures { OnOk result (text.new ≡ text.old ++ behind_a_blank (seen_text seen)) }
+{
+    match seen {
+        Seen::Exactly(version) => push_number(text, version),
+        Seen::Since(version) => {
+            push_number(text, version)?;
+            text.push_byte(b'+')
+        }
+    }
+}
+
 /// Appends a verb, a name and the version that was seen.
-fn push_target(text: &mut Text, verb: &[u8], name: &DeckName, seen: u64) -> Result<(), AllocError>
-    ensures { OnOk result (text.new ≡ text.old ++ (verb.now ++ name_and_number name.now seen [])) }
+fn push_target(text: &mut Text, verb: &[u8], name: &DeckName, seen: Seen) -> Result<(), AllocError>
+    ensures { OnOk result (text.new ≡ text.old ++ (verb.now ++ name_and_seen name.now seen [])) }
 {
     text.push_bytes(verb)?;
     push_word(text, name.as_slice())?;
-    push_number(text, seen)
+    push_seen(text, seen)
 }
 
 /// Appends a verb, a name, the version that was seen, and a number.
@@ -69,10 +82,10 @@ fn push_target_and_number(
     text: &mut Text,
     verb: &[u8],
     name: &DeckName,
-    seen: u64,
+    seen: Seen,
     number: u64,
 ) -> Result<(), AllocError>
-    ensures { OnOk result (text.new ≡ text.old ++ (verb.now ++ name_and_number name.now seen (behind_a_blank (decimal number ++ [])))) }
+    ensures { OnOk result (text.new ≡ text.old ++ (verb.now ++ name_and_seen name.now seen (behind_a_blank (decimal number ++ [])))) }
 {
     push_target(text, verb, name, seen)?;
     push_number(text, number)
@@ -83,11 +96,11 @@ fn push_target_and_card(
     text: &mut Text,
     verb: &[u8],
     name: &DeckName,
-    seen: u64,
+    seen: Seen,
     at: u64,
     card: &Card,
 ) -> Result<(), AllocError>
-    ensures { OnOk result (text.new ≡ text.old ++ (verb.now ++ name_and_number name.now seen (behind_a_blank (decimal at ++ behind_a_blank card.now)))) }
+    ensures { OnOk result (text.new ≡ text.old ++ (verb.now ++ name_and_seen name.now seen (behind_a_blank (decimal at ++ behind_a_blank card.now)))) }
 {
     push_target_and_number(text, verb, name, seen, at)?;
     push_word(text, card.as_slice())
@@ -105,8 +118,8 @@ fn push_line_in_batch(text: &mut Text, edit: &Edit) -> Result<(), AllocError>
 }
 
 /// Appends an edit of a deck.
-fn push_edit(text: &mut Text, name: &DeckName, seen: u64, edit: &Edit) -> Result<(), AllocError>
-    ensures { OnOk result (text.new ≡ text.old ++ line_of_edit name.now (Exactly seen) edit.now) }
+fn push_edit(text: &mut Text, name: &DeckName, seen: Seen, edit: &Edit) -> Result<(), AllocError>
+    ensures { OnOk result (text.new ≡ text.old ++ line_of_edit name.now seen edit.now) }
 {
     match edit {
         Edit::Insert { at, card } => push_target_and_card(text, b"INS", name, seen, *at, card),
@@ -115,20 +128,36 @@ fn push_edit(text: &mut Text, name: &DeckName, seen: u64, edit: &Edit) -> Result
     }
 }
 
+/// Appends edits of a deck as the line that asked for them.
+fn push_edits_asked(
+    text: &mut Text,
+    name: &DeckName,
+    seen: Seen,
+    edits: &Edits,
+) -> Result<(), AllocError>
+    ensures { OnOk result (text.new ≡ text.old ++ line_of_edits name.now seen edits.now) }
+{
+    match edits {
+        Edits::One(edit) => push_edit(text, name, seen, edit),
+        Edits::Batch(edits) => {
+            push_target_and_number(text, b"BATCH", name, seen, edits.as_slice().len() as u64)
+        }
+    }
+}
+
 /// Appends a change as the line that asked for it.
 fn push_change(text: &mut Text, change: &Change) -> Result<(), AllocError>
     ensures { OnOk result (text.new ≡ text.old ++ line_of_change change.now) }
 {
     match change {
-        Change::Added(deck) => push_verb_and_name(text, b"ADD", &deck.name),
-        Change::Put { deck, seen } => {
-            push_target_and_number(text, b"PUT", &deck.name, *seen, deck.cards.len() as u64)
+        Change::AddDeck(deck) => push_verb_and_name(text, b"ADD", &deck.name),
+        Change::PutDeck { deck, seen } => {
+            let (seen, count) = (Seen::Exactly(*seen), deck.cards.len() as u64);
+            push_target_and_number(text, b"PUT", &deck.name, seen, count)
         }
-        Change::Dropped { name, seen } => push_target(text, b"DROP", name, *seen),
-        Change::Edited { name, seen, edit } => push_edit(text, name, *seen, edit),
-        Change::Batch { name, seen, edits } => {
-            push_target_and_number(text, b"BATCH", name, *seen, edits.as_slice().len() as u64)
-        }
+        Change::DropDeck { name, seen } => push_target(text, b"DROP", name, Seen::Exactly(*seen)),
+        Change::EditDeck { name, seen, edits } => push_edits_asked(text, name, *seen, edits),
+        Change::Undo { name, version } => push_target(text, b"UNDO", name, Seen::Exactly(*version)),
     }
 }
 
@@ -196,16 +225,26 @@ fn push_edits(text: &mut Text, edits: &[Edit]) -> Result<(), AllocError>
     Ok(())
 }
 
+/// Appends the lines of several edits; one stands on the line that asked for it.
+fn push_lines_of_edits(text: &mut Text, edits: &Edits) -> Result<(), AllocError>
+    ensures { OnOk result (text.new ≡ text.old ++ text_of_lines (map behind_a_blank (lines_of_edits edits.now))) }
+{
+    match edits {
+        Edits::One(_) => Ok(()),
+        Edits::Batch(edits) => push_edits(text, edits.as_slice()),
+    }
+}
+
 /// Appends the lines that belong to a change.
 fn push_lines_behind_change(text: &mut Text, change: &Change) -> Result<(), AllocError>
     ensures { OnOk result (text.new ≡ text.old ++ text_of_lines (map behind_a_blank (lines_behind_change change.now))) }
 {
     match change {
-        Change::Added(deck) => push_cards(text, deck.cards.as_slice()),
-        Change::Put { deck, .. } => push_cards(text, deck.cards.as_slice()),
-        Change::Batch { edits, .. } => push_edits(text, edits.as_slice()),
-        Change::Dropped { .. } => Ok(()),
-        Change::Edited { .. } => Ok(()),
+        Change::AddDeck(deck) => push_cards(text, deck.cards.as_slice()),
+        Change::PutDeck { deck, .. } => push_cards(text, deck.cards.as_slice()),
+        Change::EditDeck { edits, .. } => push_lines_of_edits(text, edits),
+        Change::DropDeck { .. } => Ok(()),
+        Change::Undo { .. } => Ok(()),
     }
 }
 

@@ -1,21 +1,21 @@
 -- What a call from a seat adds to what the seat has seen.
 use Rattle.std.proofs.{Common.{◌≡◌, ℕ, ◌==◌, Bool, true, cond, List, [], ◌∷◌, ◌++◌, All, refl, sym, ap, subst, ◌∙◌, append_assoc, append-nil, eq-eqb}, lemmas.List.Elements.{All-nil, All-append, All-push, filter-append}}
 use Rattle.turn_office.specs.{declared.history.Entry.Entry, Histories.{Answers, Leads, entry, entries_by}, Seats.{OfficeFacts, SeatFacts}}
-use Rattle.desk_core.specs.{Desks.Desk, Runs.History, Steps.Steps, declared.calls.Call.Call, declared.replies.Reply.Reply}
-use Rattle.session_line.{specs.declared.greetings.Greeting.Greeting, specs.DeskRelations.{AsksSeat, seated}, specs.Joins.Kinds.{fits_call, is_session_call}, proofs.SessionKinds.session_fits}
-use Rattle.kept_desk.{specs.Refused.{LeavesAll, ChangesNothing}, proofs.RefusedChanges.{IsQuiet, session-quiet}}
+use Rattle.desk_core.{specs.Desks.Desk, specs.Runs.History, specs.Steps.Steps, specs.declared.calls.Change.Change, specs.declared.calls.Question.Question, specs.declared.calls.Call.Call, specs.declared.calls.Call.TheVariants.{Make, Ask}, specs.declared.replies.Reply.Reply, proofs.Publishing.{asked_leaves, refused_leaves}}
+use Rattle.session_line.{specs.DeskRelations.{AsksSeat, asks_seat}, specs.Joins.Kinds.fits_change, proofs.SessionKinds.change_fits}
+use Rattle.kept_desk.{specs.Refused.{LeavesAll, ChangesNothing}, proofs.RefusedChanges.IsQuiet}
 
 -- the last of steps
 last-step : (first last : Desk) (before : History) (number : ℕ) (call : Call) (reply : Reply) → Leads Steps first (before ++ entry number call reply ∷ []) last → (desk : Desk) × Steps desk call reply last
 last-step first last [] number call reply leads = (first, subst (λ (desk : Desk). Steps first call reply desk) leads.2 leads.1)
 last-step first last (one ∷ before) number call reply leads = last-step leads.0 last before number call reply leads.2
 
--- a reply from a seat fits its call
-reply-fits : (seats : ℕ) (first : Desk) (number : ℕ) (call : Call) (reply : Reply) (seen now : History) → is_session_call call ≡ true → Answers Steps seats first number call reply seen now → fits_call call reply ≡ true
-reply-fits seats first number call reply seen now session answers =
+-- a reply from a seat to a change fits it
+reply-fits : (seats : ℕ) (first : Desk) (number : ℕ) (by : List ℕ) (change : Change) (reply : Reply) (seen now : History) → Answers Steps seats first number (Make by change) reply seen now → fits_change change reply ≡ true
+reply-fits seats first number by change reply seen now answers =
     let last = answers.legal.last in
-    let made = last-step first last (seen ++ answers.between) number call reply (subst (λ (log : History). Leads Steps first log last) answers.ends answers.legal.leads) in
-    session_fits made.0 last call reply session made.1
+    let made = last-step first last (seen ++ answers.between) number (Make by change) reply (subst (λ (log : History). Leads Steps first log last) answers.ends answers.legal.leads) in
+    change_fits made.0 last by change reply made.1
 
 -- the entries of the seat are those of its call
 own-entries : (number : ℕ) (call : Call) (reply : Reply) (between : History) → entries_by number between ≡ [] → entries_by number (between ++ entry number call reply ∷ []) ≡ entry number call reply ∷ []
@@ -53,13 +53,14 @@ changes-joined first second third one other = record {
 }
 
 -- a seat
-pub seat-quiet : {C : Type 0} (office : C → OfficeFacts Desk) (seat : C → SeatFacts Call Reply) → IsQuiet (seated office seat) (λ (old new : C). ChangesNothing (seat old) (seat new))
+pub seat-quiet : {C : Type 0} (office : C → OfficeFacts Desk) (seat : C → SeatFacts Call Reply) → IsQuiet (asks_seat office seat) (λ (old new : C). ChangesNothing (seat old) (seat new))
 seat-quiet {C} office seat = record {
   same = λ (desk : C). changes-none (seat desk);
   joined = λ (first second third : C). changes-joined (seat first) (seat second) (seat third);
-  fits = λ (desk next : C) (call : Call) (reply : Reply) session made.
-      reply-fits (office desk).seats (office desk).first (seat desk).number call reply (seat desk).seen (seat next).seen session made.3;
-  silent = λ (desk next : C) (call : Call) (reply : Reply) session made silent.
-      changes-one (office desk) (office next) (seat desk) (seat next) call reply made (λ (before after : Desk) steps. session-quiet before after call reply session steps silent);
-  greeted = λ (desk next : C) (name : List ℕ) (greeting : Greeting) greets. greets.0;
+  fits = λ (desk next : C) (by : List ℕ) (change : Change) (reply : Reply) made.
+      reply-fits (office desk).seats (office desk).first (seat desk).number by change reply (seat desk).seen (seat next).seen made.3;
+  silent = λ (desk next : C) (by : List ℕ) (change : Change) (reply : Reply) made silent.
+      changes-one (office desk) (office next) (seat desk) (seat next) (Make by change) reply made (λ (before after : Desk) steps. refused_leaves before after by change reply steps silent);
+  asked = λ (desk next : C) (question : Question) (reply : Reply) made.
+      changes-one (office desk) (office next) (seat desk) (seat next) (Ask question) reply made (λ (before after : Desk) steps. (asked_leaves before after question reply steps).unchanged);
 }

@@ -1,15 +1,13 @@
 -- What the calls of the ends that a session has at its service make of them (ours): each relation has the ends before, what is asked, what is answered, and the ends after.
 use Rattle.std.specs.Prelude.{ℕ, List, Bool, Option, Result}
-use Rattle.desk_core.specs.declared.replies.Refusal.{Refusal}
-use Rattle.journal.specs.declared.{changes.Change.Change, drafts.Stamp.Stamp}
+use Rattle.desk_core.specs.declared.{calls.Change.Change, replies.Refusal.Refusal}
+use Rattle.journal.specs.declared.drafted.Drafted.{Drafted}
 use Rattle.session_line.specs.declared.greetings.Connected.{Connected}
 use Rattle.kept_desk.specs.declared.ends.Woken.{Woken}
 
 pub record EndsRelations (E : Type 0) : Type 1 where
-  -- a change, and its record or why none may be made
-  pub begins : E → Change → Result (List ℕ) Refusal → E → Type 0
-  -- when and by which session a change is made, or why none may be
-  pub opens : E → Result Stamp Refusal → E → Type 0
+  -- a change, and what is known of its record, or why none may be made
+  pub begins : E → Change → Result Drafted Refusal → E → Type 0
   -- the bell of the workers rings once
   pub rings : E → E → Type 0
   -- version and record, and whether the record is kept with all before it

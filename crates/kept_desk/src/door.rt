@@ -1,16 +1,17 @@
 //! The door of a session: a desk whose changes are kept, and the ends that the session has at its service.
 ghost use Rattle.std.specs.Prelude.{◌≡◌, Some};
 ghost use Rattle.desk_core.specs.Runs.{accepts};
-ghost use Rattle.session_line.specs.Greetings.{WhereMet};
+ghost use Rattle.journal.specs.declared.drafted.Drafted.TheVariants.{Open, Whole};
+ghost use Rattle.session_line.specs.Greetings.{WhereMet, is_status_reply};
 ghost use Rattle.kept_desk.specs.Greeting.{GreetsAmong};
-ghost use Rattle.kept_desk.specs.Keeping.{MakesCarried, MakesChange, TellsCarried, TellsKept, told_of};
+ghost use Rattle.kept_desk.specs.Keeping.{MakesChange, TellsKept, told_of};
 ghost use Rattle.kept_desk.specs.Waiting.{AwaitsPublication, is_reached, is_shown};
 
 use crate::ends::{Ends, Woken};
 use cards::DeckName;
-use desk_core::{Accepted, Call, Listed, Refusal, Reply};
-use journal::{Asked, Carry, Change, Draft, Stamp, asked_of, draft_carried};
-use session_line::{Calls, Greeting};
+use desk_core::{Accepted, Call, Change, Listed, Question, Refusal, Reply};
+use journal::{Draft, Drafted, Stamp, draft_carried};
+use session_line::{Called, Calls, Greeting};
 use std::alloc::Global;
 use std::marker::Model;
 use std::sync::Wait;
@@ -19,20 +20,20 @@ use std::sync::Wait;
 /// journal does not take, is not asked of the desk. One that the desk makes is reported as made where its record is kept,
 /// and else as `Unkept`. Contracts see the two as a pair.
 #[derive(Drop)]
-pub struct Door<'a, R, C, E> {
+pub struct Door<'a, R, D, E> {
     rt: &'a R,
-    desk: C,
+    desk: D,
     ends: E,
 }
 
-impl<'a, R, C, E> Model for Door<'a, R, C, E> {
-    ghost Value = { C × E };
+impl<'a, R, D, E> Model for Door<'a, R, D, E> {
+    ghost Value = { D × E };
 
     ghost view = { λ d. (d.desk, d.ends) };
 }
 
-impl<'a, R, C, E> Door<'a, R, C, E> {
-    pub fn new(rt: &'a R, desk: C, ends: E) -> Door<'a, R, C, E>
+impl<'a, R, D, E> Door<'a, R, D, E> {
+    pub fn new(rt: &'a R, desk: D, ends: E) -> Door<'a, R, D, E>
         ensures { result ≡ (desk, ends) }
     {
         Door { rt, desk, ends }
@@ -62,9 +63,9 @@ fn told_of(made: Accepted, kept: bool) -> Reply
     }
 }
 
-/// What is reported of a call that asked for a change, whose record this is.
-fn kept_reply<E: Ends>(ends: &mut E, reply: Reply, draft: Draft) -> Reply
-    ensures { TellsKept E.relations draft reply ends.old result ends.new }
+/// What is reported of a change whose record was known.
+fn whole_reply<E: Ends>(ends: &mut E, reply: Reply, draft: Draft) -> Reply
+    ensures { TellsKept E.relations (Whole draft) reply ends.old result ends.new }
 {
     match reply {
         Reply::Changed(made) => {
@@ -84,9 +85,9 @@ fn kept_reply<E: Ends>(ends: &mut E, reply: Reply, draft: Draft) -> Reply
     }
 }
 
-/// What is reported of a call that asked for a change of this deck that is carried.
+/// What is reported of a change of this deck that was carried: its record has the edits as they were made.
 fn carried_reply<E: Ends>(ends: &mut E, reply: Reply, stamp: Stamp, name: DeckName) -> Reply
-    ensures { TellsCarried E.relations stamp name reply ends.old result ends.new }
+    ensures { TellsKept E.relations (Open stamp name) reply ends.old result ends.new }
 {
     match reply {
         Reply::Carried {
@@ -106,37 +107,30 @@ fn carried_reply<E: Ends>(ends: &mut E, reply: Reply, stamp: Stamp, name: DeckNa
     }
 }
 
-/// Makes a change, in five steps: may the journal take it; the desk makes it; the bell rings; the record is kept; it is
-/// reported.
-fn make_change<C: Calls, E: Ends>(desk: &mut C, ends: &mut E, change: Change) -> Reply
-    ensures { MakesChange C.relations.makes E.relations change desk.old ends.old result desk.new ends.new }
+/// What is reported of a change, by what was known of its record.
+fn kept_reply<E: Ends>(ends: &mut E, reply: Reply, known: Drafted) -> Reply
+    ensures { TellsKept E.relations known reply ends.old result ends.new }
 {
-    match ends.begin(&change) {
-        Ok(draft) => {
-            let reply = desk.call(change.into_call(ends.who()));
-            ring_after(ends, &reply);
-            kept_reply(ends, reply, draft)
-        }
-        Err(refusal) => {
-            drop(change);
-            Reply::Refused(refusal)
-        }
+    match known {
+        Drafted::Whole(draft) => whole_reply(ends, reply, draft),
+        Drafted::Open(stamp, name) => carried_reply(ends, reply, stamp, name),
     }
 }
 
-/// Makes a change that is carried, in the same steps: its record has the edits as the desk made them.
-fn make_carried<C: Calls, E: Ends>(desk: &mut C, ends: &mut E, carry: Carry) -> Reply
-    ensures { MakesCarried C.relations.makes E.relations carry desk.old ends.old result desk.new ends.new }
+/// Makes a change, in five steps: may the journal take it; the desk makes it; the bell rings; the record is kept; it is
+/// reported.
+fn make_change<D: Called, E: Ends>(desk: &mut D, ends: &mut E, change: Change) -> Reply
+    ensures { MakesChange D.makes E.relations change desk.old ends.old result desk.new ends.new }
 {
-    match ends.open() {
-        Ok(stamp) => {
-            let name = carry.deck_name().copied();
-            let carried = desk.call(carry.into_call(ends.who()));
-            ring_after(ends, &carried);
-            carried_reply(ends, carried, stamp, name)
+    match ends.begin(&change) {
+        Ok(known) => {
+            let by = ends.who();
+            let reply = desk.call(Call::Make { by, change });
+            ring_after(ends, &reply);
+            kept_reply(ends, reply, known)
         }
         Err(refusal) => {
-            drop(carry);
+            change.free();
             Reply::Refused(refusal)
         }
     }
@@ -163,23 +157,23 @@ fn is_shown(version: u64, reply: &Reply) -> bool
 }
 
 /// The status of a desk once a version or a later one is published, or when a sleep's time is up.
-fn await_publication<R: Wait, C: Calls, E: Ends>(
+fn await_publication<R: Wait, D: Called, E: Ends>(
     rt: &R,
-    desk: &mut C,
+    desk: &mut D,
     ends: &mut E,
     version: u64,
 ) -> Reply
-    ensures { AwaitsPublication C.relations.makes E.relations.sleeps version desk.old ends.old result desk.new ends.new }
+    ensures { AwaitsPublication D.makes E.relations.sleeps version desk.old ends.old result desk.new ends.new }
 {
     for _ in rt.forever() {
-        let reply = desk.call(Call::Status);
+        let reply = desk.call(Call::Ask(Question::Status));
         if is_shown(version, &reply) {
             return reply;
         }
         reply.free();
         let woken = ends.sleep(version);
         if let Woken::TimeUp = woken {
-            return desk.call(Call::Status);
+            return desk.call(Call::Ask(Question::Status));
         }
     }
     unreachable!()
@@ -194,44 +188,46 @@ fn name_where<E: Ends>(ends: &mut E, holds: bool, name: &DeckName)
     }
 }
 
+/// Whether a reply shows a status.
+fn is_status(reply: &Reply) -> bool
+    ensures { result ≡ is_status_reply reply.now }
+{
+    matches!(reply, Reply::StatusIs(..))
+}
+
 /// Greets a desk among others.
-fn greet_among<C: Calls, E: Ends>(
+fn greet_among<D: Called, E: Ends>(
     alloc: Global,
-    desk: &mut C,
+    desk: &mut D,
     ends: &mut E,
     name: &DeckName,
 ) -> Greeting
-    ensures { GreetsAmong C.relations.greets E.relations name.now desk.old ends.old result desk.new ends.new }
+    ensures { GreetsAmong D.makes E.relations name.now desk.old ends.old result desk.new ends.new }
 {
     let Ok(sessions) = ends.list(alloc, name) else {
         return Greeting::alone(alloc, Reply::Refused(Refusal::OutOfMemory));
     };
-    let greeting = desk.greet(alloc, name);
-    name_where(ends, greeting.is_met(), name);
-    let Greeting {
-        status,
-        sessions: others,
-    } = greeting;
-    drop(others);
+    let status = desk.call(Call::Ask(Question::Status));
+    name_where(ends, is_status(&status), name);
     Greeting {
         status,
         sessions: Listed::new(sessions),
     }
 }
 
-/// The calls are the desk's, but for changes that are refused, or not kept. Who waits asks the desk for the status,
-/// and sleeps between two questions; who greets is shown who is connected, and the name is noted where it holds.
-impl<R: Wait, C: Calls, E: Ends> Calls for Door<'_, R, C, E> {
+/// Questions are the desk's; changes are, but for those that are refused, or not kept. Who waits asks the desk for the
+/// status, and sleeps between two questions; who greets is shown who is connected, and the name is noted where it holds.
+impl<R: Wait, D: Called, E: Ends> Calls for Door<'_, R, D, E> {
     ghost use Rattle.kept_desk.specs.Doors.{door_of};
 
-    ghost relations = { door_of C.relations E.relations };
+    ghost relations = { door_of D.makes E.relations };
 
-    fn call(&mut self, call: Call) -> Reply {
-        match asked_of(call) {
-            Asked::Change(change) => make_change(&mut self.desk, &mut self.ends, change),
-            Asked::Carry(carry) => make_carried(&mut self.desk, &mut self.ends, carry),
-            Asked::Other(call) => self.desk.call(call),
-        }
+    fn change(&mut self, change: Change) -> Reply {
+        make_change(&mut self.desk, &mut self.ends, change)
+    }
+
+    fn ask(&mut self, question: Question) -> Reply {
+        self.desk.call(Call::Ask(question))
     }
 
     fn await_version(&mut self, version: u64) -> Reply {
@@ -243,7 +239,6 @@ impl<R: Wait, C: Calls, E: Ends> Calls for Door<'_, R, C, E> {
     }
 
     fn begin_session(&mut self) {
-        self.desk.begin_session();
         self.ends.be_named(None);
     }
 }

@@ -1,8 +1,8 @@
 //! The ends that a session has at its service.
 
 use cards::DeckName;
-use desk_core::Refusal;
-use journal::{Change, Draft, Stamp};
+use desk_core::{Change, Refusal};
+use journal::{Draft, Drafted};
 use session_line::Connected;
 use std::alloc::{AllocError, Global};
 
@@ -18,18 +18,18 @@ pub enum Woken {
 /// The ends that a session has at its service, but for the desk: its place in the journal, the bell of the workers,
 /// where publications are heard of, and who is connected. The relations say what its calls make of them.
 pub trait Ends {
-    ghost use Rattle.std.specs.Prelude.{◌≡◌, IfOk, OnErr, option_map};
+    ghost use Rattle.std.specs.Prelude.{◌≡◌, IfOk, OnErr, is_none, option_map};
+    ghost use Rattle.journal.specs.Drafted.{is_whole};
+    ghost use Rattle.journal.specs.Drafts.{carried_deck};
     ghost use Rattle.kept_desk.specs.EndsRelations.{EndsRelations};
 
     ghost relations: { EndsRelations Self };
 
-    /// Makes the record of a change that is asked for, or refuses the change.
-    fn begin(&mut self, change: &Change) -> Result<Draft, Refusal>
-        ensures { relations.begins self.old change.now result self.new };
-
-    /// When and by which session a change is made whose record is known once it is; or refuses the change.
-    fn open(&mut self) -> Result<Stamp, Refusal>
-        ensures { relations.opens self.old result self.new };
+    /// What is known of the record of a change that is asked for: the record, but where the change is carried; or
+    /// refuses the change.
+    fn begin(&mut self, change: &Change) -> Result<Drafted, Refusal>
+        ensures begins { relations.begins self.old change.now result self.new }
+        ensures form { IfOk result (λ known. is_whole known ≡ is_none (carried_deck change.now)) };
 
     /// Rings the bell of the workers, once.
     fn ring(&mut self)

@@ -4,7 +4,8 @@ ghost use Rattle.desk_core.specs.Desks.{Desk};
 ghost use Rattle.desk_core.specs.Runs.{IsUnchanged};
 ghost use Rattle.desk_core.specs.declared.calls.Call.{Call};
 ghost use Rattle.desk_core.specs.declared.replies.Reply.{Reply};
-ghost use Rattle.session_line.specs.DeskRelations.{desk_alone, seated};
+ghost use Rattle.desk_core.specs.Steps.{Steps};
+ghost use Rattle.session_line.specs.DeskRelations.{asks_seat};
 ghost use Rattle.session_line.specs.Refusing.{RefusesCommand};
 ghost use Rattle.session_line.specs.Serving.{Sides};
 ghost use Rattle.session_line.specs.declared.rights.Rights.{Rights};
@@ -20,7 +21,7 @@ use deck_files::Shelf;
 /// `Unkept`.
 pub fn refusals_change_nothing<E: Ends, S: Shelf>()
     ensures { (rights : Rights) (old new : Sides (Desk × E) S) →
-        RefusesCommand rights (door_of desk_alone E.relations) S.relations old new →
+        RefusesCommand rights (door_of Steps E.relations) S.relations old new →
         IsUnchanged old.desk.0 new.desk.0 }
 {}
 
@@ -28,6 +29,6 @@ pub fn refusals_change_nothing<E: Ends, S: Shelf>()
 /// and each call of its own behind that left version, cards and publication as they were.
 pub fn refusals_at_a_seat_change_nothing<C, E: Ends, S: Shelf>()
     ensures { (office : C → OfficeFacts Desk) (seat : C → SeatFacts Call Reply) (rights : Rights) (old new : Sides (C × E) S) →
-        RefusesCommand rights (door_of (seated office seat) E.relations) S.relations old new →
+        RefusesCommand rights (door_of (asks_seat office seat) E.relations) S.relations old new →
         ChangesNothing (seat old.desk.0) (seat new.desk.0) }
 {}

@@ -4,7 +4,10 @@
 
 use cards::{Card, DeckName, Edit};
 use deck_workers::{Job, Made, Runs, job_in};
-use desk_core::{Call, DeckCards, Desk, Listed, NewDeck, Reply, SharedPublication};
+use desk_core::{
+    Call, Change, DeckCards, Desk, Edits, Listed, NewDeck, Question, Reply, SharedPublication, Work,
+};
+use session_commands::Seen;
 use std::alloc::{AllocError, AllocGlobal, Global};
 use std::hash::RandomState;
 use std::io;
@@ -137,7 +140,7 @@ impl Timed {
 
     /// The job that is due next, if one is.
     fn claim<R: CpuClock>(&mut self, rt: &R) -> Option<Job> {
-        job_in(self.ask(rt, "claim", Call::Claim))
+        job_in(self.ask(rt, "claim", Call::Do(Work::Claim)))
     }
 
     /// Does a job, and hands in what is made of it. What the job began with is held until it is answered, as a
@@ -174,14 +177,15 @@ impl Timed {
     ) -> Result<(), AllocError> {
         for (place, object) in publication.publication().objects().iter().enumerate() {
             let object = object.share()?;
-            let offer = Call::OfferObject {
+            let offer = Work::OfferObject {
                 lease,
                 place,
                 object,
             };
-            self.ask(rt, "offer", offer).free();
+            self.ask(rt, "offer", Call::Do(offer)).free();
         }
-        self.ask(rt, "publish", Call::Publish(lease)).free();
+        self.ask(rt, "publish", Call::Do(Work::Publish(lease)))
+            .free();
         Ok(())
     }
 }
@@ -282,46 +286,42 @@ const ROUNDS: [(Asked, &str, usize, usize); 11] = [
 /// What is asked of a deck that has this version.
 fn call_of(alloc: Global, asked: Asked, number: usize, seen: u64) -> Result<Call, AllocError> {
     let name = name_at(alloc, number)?;
-    let by = name_of("KEEPER")?;
+    let before = seen.saturating_sub(1);
     Ok(match asked {
-        Asked::Edit => {
-            let edit = replacement()?;
-            Call::EditDeck {
-                name,
-                seen,
-                edit,
-                by,
-            }
-        }
-        Asked::Batch => {
-            let edits = edits_of(alloc)?;
-            Call::Batch {
-                name,
-                seen,
-                edits,
-                by,
-            }
-        }
-        Asked::Undo => {
-            let version = seen;
-            Call::Undo { name, version, by }
-        }
-        Asked::Cards => Call::Cards(name),
-        Asked::CardsAt => {
-            let version = seen.saturating_sub(1);
-            Call::CardsAt { name, version }
-        }
-        Asked::Changes => {
-            let since = seen.saturating_sub(1);
-            Call::Changes { name, since }
-        }
-        Asked::Status => Call::Status,
+        Asked::Edit => made(edited(name, seen, Edits::One(replacement()?)))?,
+        Asked::Batch => made(edited(name, seen, Edits::Batch(edits_of(alloc)?)))?,
+        Asked::Undo => made(Change::Undo {
+            name,
+            version: seen,
+        })?,
+        Asked::Cards => Call::Ask(Question::Cards(name)),
+        Asked::CardsAt => Call::Ask(Question::CardsAt {
+            name,
+            version: before,
+        }),
+        Asked::Changes => Call::Ask(Question::Changes {
+            name,
+            since: before,
+        }),
+        Asked::Status => Call::Ask(Question::Status),
         Asked::Put => {
             let deck = deck_at(alloc, number)?;
-            Call::PutDeck { deck, seen }
+            made(Change::PutDeck { deck, seen })?
         }
-        Asked::Drop => Call::DropDeck { name, seen },
+        Asked::Drop => made(Change::DropDeck { name, seen })?,
     })
+}
+
+/// Edits of a deck by who saw its version.
+fn edited(name: DeckName, seen: u64, edits: Edits) -> Change {
+    let seen = Seen::Exactly(seen);
+    Change::EditDeck { name, seen, edits }
+}
+
+/// The call that makes a change.
+fn made(change: Change) -> Result<Call, AllocError> {
+    let by = name_of("KEEPER")?;
+    Ok(Call::Make { by, change })
 }
 
 /// Adds all decks, two at a time, and answers the version of each.
@@ -329,7 +329,9 @@ fn add_all<R: CpuClock>(rt: &R, timed: &mut Timed) -> Result<Vec<u64>, AllocErro
     let mut seen = Vec::with_capacity(timed.alloc, DECKS)?;
     for number in 0..DECKS {
         let deck = deck_at(timed.alloc, number)?;
-        timed.ask(rt, "deck added", Call::AddDeck(deck)).free();
+        timed
+            .ask(rt, "deck added", made(Change::AddDeck(deck))?)
+            .free();
         seen.push(timed.desk.version())?;
         if number % 2 == 1 {
             timed.settle(rt)?;

@@ -5,7 +5,7 @@
 //! `compact`: it becomes the one that begins with its decks.
 
 use deck_files::Moment;
-use desk_core::Call;
+use desk_core::{Call, Question};
 use desk_tests::push_asked;
 use journal::{
     Ending, JournalFault, Next, Place, Record, ReplayFault, Replayed, compacted_text, next_record,
@@ -91,7 +91,7 @@ fn push_desk(answer: &mut Answer, replayed: &mut Replayed) -> Result<(), AllocEr
     answer.push(", ");
     answer.debug(&replayed.ending);
     answer.push(", M: ");
-    let call = Call::Cards(name_of("M")?);
+    let call = Call::Ask(Question::Cards(name_of("M")?));
     push_asked(&mut replayed.desk, call, answer);
     Ok(())
 }

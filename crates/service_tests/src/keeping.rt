@@ -6,10 +6,13 @@
 
 use cards::Edit;
 use deck_files::Moment;
-use desk_core::{Call, Desk, NewDeck, Refusal, Reply};
+use desk_core::{Change, Desk, Edits, NewDeck, Refusal, Reply};
 use desk_service::{Journal, SessionEnds, SystemFile};
-use journal::{Batch, Change, Ending, JournalFile, Mark, Queue, RecordsFile, draft_change, replay};
+use journal::{
+    Batch, Drafted, Ending, JournalFile, Mark, Queue, RecordsFile, Stamp, draft_change, replay,
+};
 use kept_desk::Door;
+use session_commands::Seen;
 use session_line::Calls;
 use std::alloc::{AllocError, AllocGlobal, Global};
 use std::fs::{Metadata, OpenFile};
@@ -143,17 +146,16 @@ fn disk_of(alloc: Global, fails_from: u64, fails_to: u64) -> Mutex<Disk> {
 }
 
 /// An edit of deck M that inserts a card in front; the deck first, where nothing was seen.
-fn change(alloc: Global, seen: u64) -> Result<Call, AllocError> {
+fn change(alloc: Global, seen: u64) -> Result<Change, AllocError> {
     let name = name_of("M")?;
     if seen == 0 {
-        return Ok(Call::AddDeck(NewDeck::new(name, Vec::new(alloc))));
+        return Ok(Change::AddDeck(NewDeck::new(name, Vec::new(alloc))));
     }
     let card = card_of("*A")?;
-    Ok(Call::EditDeck {
+    Ok(Change::EditDeck {
         name,
-        seen,
-        edit: Edit::Insert { at: 1, card },
-        by: name_of("0")?,
+        seen: Seen::Exactly(seen),
+        edits: Edits::One(Edit::Insert { at: 1, card }),
     })
 }
 
@@ -200,8 +202,8 @@ fn make_on_disk<R: Wait + Clock + Eprint>(
         if number == 6 {
             disk.lock(rt).fails_to = 0;
         }
-        let call = change(alloc, versions.seen)?;
-        behind(&mut versions, &desk.call(call));
+        let change = change(alloc, versions.seen)?;
+        behind(&mut versions, &desk.change(change));
     }
     Ok(versions)
 }
@@ -265,10 +267,13 @@ fn put_dropped<F: RecordsFile>(
     version: u64,
 ) -> Result<(), AllocError> {
     let (name, by) = (name_of("M")?, name_of("2")?);
-    let change = Change::Dropped { name, seen: 1 };
-    let draft = draft_change(alloc, &Moment::of_seconds(0), &by, &change);
-    drop(change);
-    queue.put(session, version, draft?);
+    let moment = Moment::of_seconds(0);
+    let change = Change::DropDeck { name, seen: 1 };
+    let known = draft_change(alloc, Stamp { moment, by }, &change);
+    change.free();
+    if let Drafted::Whole(draft) = known? {
+        queue.put(session, version, draft);
+    }
     Ok(())
 }
 

@@ -3,8 +3,7 @@ use Rattle.std.{proofs.Common.{ℕ, suc, ◌≡◌, ◌+◌, ◌-◌, ◌<◌, L
 use Rattle.definitions.specs.{Cards.Card, DeckInput.{Deck, Decks}}
 use Rattle.deck_cuts.{specs.Cuts.{input_of_cards, newest_first, TellsFaultOf}, specs.declared.cut_fault.CutFault.CutFault, proofs.DeckLaws.in_input_order-newest_first}
 use Rattle.deck_cuts.specs.declared.cut_fault.CutFault.TheVariants as cutting
-use Rattle.desk_core.specs.declared.{calls.Call.Call, replies.Reply.Reply}
-use Rattle.session_line.specs.{declared.told_decks.ToldDeck.ToldDeck, declared.answers.Answer.Answer, Answers.uncalled, DeckCuts.{decks_in, decks_or_reason}, Reasons.cut_reason, LoadingAll.{AddsAll, AddsCut, AddsDeck, AddsDecks, AddsFile, cut, no_deck, next_deck, uncut}}
+use Rattle.session_line.specs.{DeskRelations.DeskRelations, declared.told_decks.ToldDeck.ToldDeck, declared.answers.Answer.Answer, Answers.uncalled, DeckCuts.{decks_in, decks_or_reason}, Reasons.cut_reason, LoadingAll.{AddsAll, AddsCut, AddsDeck, AddsDecks, AddsFile, cut, no_deck, next_deck, uncut}}
 use Rattle.session_line.specs.declared.answers.Told.TheVariants as told
 use Rattle.session_commands.specs.declared.refusals.Refusal.{Refusal, TheVariants.OutOfMemory}
 
@@ -56,24 +55,24 @@ reason-cut cards cutting.NameTaken told = inl (ap decks_or_reason told)
 reason-cut cards cutting.TooManyDecks told = inl (ap decks_or_reason told)
 reason-cut cards (cutting.BadName number) told = inl (ap decks_or_reason told)
 
-module _ {C : Type 0} (makes : C → Call → Reply → C → Type 0) where
+module _ {C : Type 0} (calls : DeskRelations C) where
   -- none was added
-  pub adds-none : (first : C) (decks : List Deck) (lines : List ToldDeck) → lines ≡ [] → AddsDecks makes first (take (length lines) decks) lines first
-  adds-none first decks lines none = subst (λ (l : List ToldDeck). AddsDecks makes first (take (length l) decks) l first) (sym none) no_deck
+  pub adds-none : (first : C) (decks : List Deck) (lines : List ToldDeck) → lines ≡ [] → AddsDecks calls first (take (length lines) decks) lines first
+  adds-none first decks lines none = subst (λ (l : List ToldDeck). AddsDecks calls first (take (length l) decks) l first) (sym none) no_deck
 
   -- one more was
-  pub adds-more : (first desk next : C) (decks : List Deck) (lines after : List ToldDeck) (deck : Deck) (behind : List Deck) (line : ToldDeck) → AddsDecks makes first (take (length lines) decks) lines desk → AddsDeck makes deck desk next line →
-      deck ∷ behind ≡ drop (length lines) decks → after ≡ lines ++ line ∷ [] → AddsDecks makes first (take (length after) decks) after next
+  pub adds-more : (first desk next : C) (decks : List Deck) (lines after : List ToldDeck) (deck : Deck) (behind : List Deck) (line : ToldDeck) → AddsDecks calls first (take (length lines) decks) lines desk → AddsDeck calls deck desk next line →
+      deck ∷ behind ≡ drop (length lines) decks → after ≡ lines ++ line ∷ [] → AddsDecks calls first (take (length after) decks) after next
   adds-more first desk next decks lines after deck behind line sofar one is put =
-      subst (λ (d : List Deck). AddsDecks makes first d after next) (sym (ap (λ (n : ℕ). take n decks) (longer lines after line put) ∙ take-left decks (length lines) deck behind (sym is)))
-      (subst (λ (l : List ToldDeck). AddsDecks makes first (take (length lines) decks ++ deck ∷ []) l next) (sym put) (next_deck (take (length lines) decks) lines desk next deck line sofar one))
+      subst (λ (d : List Deck). AddsDecks calls first d after next) (sym (ap (λ (n : ℕ). take n decks) (longer lines after line put) ∙ take-left decks (length lines) deck behind (sym is)))
+      (subst (λ (l : List ToldDeck). AddsDecks calls first (take (length lines) decks ++ deck ∷ []) l next) (sym put) (next_deck (take (length lines) decks) lines desk next deck line sofar one))
 
   -- the decks of a file were added
-  pub file-cut : (cards : List Card) (decks : List Deck) (desk next : C) (answer : Answer) → decks_in cards ≡ Ok decks → AddsAll makes decks desk next answer → AddsFile makes cards desk next answer
-  file-cut cards decks desk next answer is adds = cut (subst (λ (result : Result (List Deck) Refusal). AddsCut makes result desk next answer) (sym is) adds)
+  pub file-cut : (cards : List Card) (decks : List Deck) (desk next : C) (answer : Answer) → decks_in cards ≡ Ok decks → AddsAll calls decks desk next answer → AddsFile calls cards desk next answer
+  file-cut cards decks desk next answer is adds = cut (subst (λ (result : Result (List Deck) Refusal). AddsCut calls result desk next answer) (sym is) adds)
 
   -- or it has none, or there was no memory for them
-  pub file-refused : (cards : List Card) (refusal : Refusal) (desk : C) (answer : Answer) → (decks_in cards ≡ Err refusal) ⊎ (refusal ≡ OutOfMemory) → answer ≡ uncalled (told.Refused refusal) → AddsFile makes cards desk desk answer
+  pub file-refused : (cards : List Card) (refusal : Refusal) (desk : C) (answer : Answer) → (decks_in cards ≡ Err refusal) ⊎ (refusal ≡ OutOfMemory) → answer ≡ uncalled (told.Refused refusal) → AddsFile calls cards desk desk answer
   file-refused cards refusal desk answer why is =
-      ⊎_elim (λ (none : decks_in cards ≡ Err refusal). cut (subst (λ (result : Result (List Deck) Refusal). AddsCut makes result desk desk answer) (sym none) (refl, is)))
+      ⊎_elim (λ (none : decks_in cards ≡ Err refusal). cut (subst (λ (result : Result (List Deck) Refusal). AddsCut calls result desk desk answer) (sym none) (refl, is)))
       (λ (lacking : refusal ≡ OutOfMemory). uncut refl (is ∙ ap (λ r. uncalled (told.Refused r)) lacking)) why

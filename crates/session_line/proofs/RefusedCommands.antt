@@ -1,35 +1,20 @@
 -- A command of a session that is refused changes nothing of a desk of which no refused call, no question, no wait and no greeting changes anything.
-use Rattle.std.proofs.Common.{ℕ, ◌≡◌, Bool, true, false, cond, inl, inr, List, Option, Result, Ok, Err, refl, sym, ap, subst, ◌∙◌}
+use Rattle.std.proofs.Common.{ℕ, ◌≡◌, true, false, List, Option, Result, Ok, Err, sym, ap, subst, ◌∙◌}
 use Rattle.definitions.specs.{Cards.Card, DeckInput.Deck}
 use Rattle.deck_files.specs.{declared.deck_shelf.ShelfLoadFault.ShelfLoadFault, ShelfRelations.ShelfRelations}
-use Rattle.desk_core.specs.declared.{calls.Call.Call, calls.Call.TheVariants.{AddDeck, Cards, CardsAt, PutDeck, Show, Status}, replies.Reply.Reply, replies.Row.Row}
-use Rattle.session_line.specs.{declared.answers.Answer.Answer, declared.answers.Told.Told, declared.greetings.Greeting.Greeting, declared.told_decks.ToldDeck.ToldDeck, declared.tasks.Task.Task, declared.tasks.Task.TheVariants.{Ask, AwaitVersion, ShowCards, ShowCardsAt, ShowText, ShowPart, ShowErrors, ShowWords, ShowNames, ShowSymbols, LoadDeck, LoadAll, ReloadDeck, SaveDeck, SaveAll, ShowFiles, ShowFileStatus, Greet, ShowHelp, Leave, Refuse}, Answers.{WhereStatus, told_of_call, called}, Asking.Asks, Executing.{AddsLoaded, Executes}, Reloading.{PutsBy, PutsLoaded, version_told}, Rights.{allowed, changes}, Joins.Kinds.is_session_call, Taking.IsTaskFor, Tasks.{task_by, task_of, task_of_command, batch_named, batch_call, put_named, edit_call, edits_of, cards_of}, declared.rights.Rights.Rights, declared.rights.Rights.TheVariants.{Edits, Reads}, Refusing.{is_refusal, tells_refusal, RefusesCommand}, Serving.Sides, DeckCuts.decks_in, LoadingAll.{TellsAdds, added_all, not_added, no_memory, AddsTold, AddsCut, AddsFile, cut, uncut, AddsLoadedDecks}, SavingAll.{SavesRow, SavesRows, is_saved, unsaved, no_row, next_row, TellsSaves, told_all, lacking, SavesAllTold}, DeskRelations.DeskRelations}
+use Rattle.desk_core.specs.declared.{calls.Change.Change, calls.Change.TheVariants.{AddDeck, PutDeck}, calls.Question.Question, calls.Question.TheVariants.{Cards, CardsAt, Show, Status}, replies.Reply.Reply, replies.Row.Row}
+use Rattle.session_line.specs.{declared.answers.Answer.Answer, declared.answers.Told.Told, declared.greetings.Greeting.Greeting, declared.told_decks.ToldDeck.ToldDeck, declared.tasks.Task.Task, declared.tasks.Task.TheVariants.{Make, Ask, AwaitVersion, ShowCards, ShowCardsAt, ShowText, ShowPart, ShowErrors, ShowWords, ShowNames, ShowSymbols, LoadDeck, LoadAll, ReloadDeck, SaveDeck, SaveAll, ShowFiles, ShowFileStatus, Greet, ShowHelp, Leave, Refuse}, Answers.{WhereStatus, told_of_call, called}, Asking.Asks, Executing.{AddsLoaded, Executes}, Reloading.{PutsBy, PutsLoaded, version_told}, Rights.allowed, declared.rights.Rights.Rights, Refusing.{is_refusal, tells_refusal, RefusesCommand}, Serving.Sides, DeckCuts.decks_in, LoadingAll.{TellsAdds, added_all, not_added, no_memory, AddsTold, AddsCut, AddsFile, cut, uncut, AddsLoadedDecks}, SavingAll.{SavesRow, SavesRows, is_saved, unsaved, no_row, next_row, TellsSaves, told_all, lacking, SavesAllTold}, DeskRelations.DeskRelations}
 use Rattle.session_line.specs.declared.answers.Told.TheVariants as told
-use Rattle.session_commands.specs.{declared.refusals.Refusal.Refusal, Commands.command_of, declared.commands.Command.Command, declared.refusals.Refusal.TheVariants.ReadOnly, declared.words.Seen.Seen, declared.words.Seen.TheVariants.{Exactly, Since}}
-use Rattle.session_commands.specs.declared.commands.Command.TheVariants as command
-use Rattle.cards.specs.declared.edits.Edit.{Edit}
+use Rattle.session_commands.specs.declared.refusals.Refusal.{Refusal}
 
--- a question of a session
-abbrev pub is_question : Call → Bool
-is_question (CardsAt name version) = true
-is_question (Cards name) = true
-is_question Show = true
-is_question Status = true
-is_question _ = false
-
--- in a sense in which two states of a desk are the same, no call of a session changes it that is reported as refused, and no question, wait or greeting does
+-- in a sense in which two states of a desk are the same, no change leaves another that is reported as refused, and no question, wait or greeting does
 pub record IsSteady {C : Type 0} (calls : DeskRelations C) (IsSame : C → C → Type 0) : Type 0 where
   pub same : (desk : C) → IsSame desk desk
   pub joined : (first second third : C) → IsSame first second → IsSame second third → IsSame first third
-  pub refused : (desk next : C) (call : Call) (reply : Reply) → is_session_call call ≡ true → calls.makes desk call reply next → tells_refusal reply ≡ true → IsSame desk next
-  pub asked : (desk next : C) (call : Call) (reply : Reply) → is_question call ≡ true → calls.makes desk call reply next → IsSame desk next
+  pub refused : (desk next : C) (change : Change) (reply : Reply) → calls.changes desk change reply next → tells_refusal reply ≡ true → IsSame desk next
+  pub asked : (desk next : C) (question : Question) (reply : Reply) → calls.asks desk question reply next → IsSame desk next
   pub awaited : (desk next : C) (version : ℕ) (reply : Reply) → calls.awaits desk version reply next → IsSame desk next
   pub greeted : (desk next : C) (name : List ℕ) (greeting : Greeting) → calls.greets desk name greeting next → IsSame desk next
-
--- whether a task asks the desk only for what a session asks
-abbrev asks_session : Task → Bool
-asks_session (Ask call) = is_session_call call
-asks_session _ = true
 
 -- what holds of a status and of anything else holds of all that is shown
 where-same : (what : Told) (Made : ℕ → Option ℕ → List Row → Type 0) (Other P : Type 0) → ((version : ℕ) (published : Option ℕ) (rows : List Row) → Made version published rows → P) → (Other → P) → WhereStatus what Made Other → P
@@ -57,159 +42,93 @@ module _ {C S : Type 0} (calls : DeskRelations C) (files : ShelfRelations S)
   uncalled-same : (desk next : C) → next ≡ desk → IsSame desk next
   uncalled-same desk next is = subst (λ (d : C). IsSame desk d) (sym is) (steady.same desk)
 
-  -- one call, of which a refusal is shown
-  asks-same : (call : Call) (desk next : C) (answer : Answer) → is_session_call call ≡ true → Asks calls.makes call told_of_call desk next answer → is_refusal answer.told ≡ true → IsSame desk next
-  asks-same call desk next answer session asks refused = steady.refused desk next call asks.reply session asks.made (sym (ap (λ (a : Answer). is_refusal a.told) asks.answered) ∙ refused)
+  -- a change, of which a refusal is shown
+  made-same : (change : Change) (desk next : C) (answer : Answer) → Asks calls.changes change told_of_call desk next answer → is_refusal answer.told ≡ true → IsSame desk next
+  made-same change desk next answer asks refused = steady.refused desk next change asks.reply asks.made (sym (ap (λ (a : Answer). is_refusal a.told) asks.answered) ∙ refused)
 
-  adds-same : (name : List ℕ) (loaded : Result (List Card) ShelfLoadFault) (desk next : C) (answer : Answer) → AddsLoaded calls.makes name loaded desk next answer → is_refusal answer.told ≡ true → IsSame desk next
-  adds-same name (Ok cards) desk next answer adds refused = asks-same (AddDeck (record { name = name; cards = cards })) desk next answer refl adds refused
+  adds-same : (name : List ℕ) (loaded : Result (List Card) ShelfLoadFault) (desk next : C) (answer : Answer) → AddsLoaded calls.changes name loaded desk next answer → is_refusal answer.told ≡ true → IsSame desk next
+  adds-same name (Ok cards) desk next answer adds refused = made-same (AddDeck (record { name = name; cards = cards })) desk next answer adds refused
   adds-same name (Err fault) desk next answer adds refused = uncalled-same desk next adds.0
 
   -- a deck that was put over another, of which a refusal is shown
-  put-same : (deck : Deck) (version : Result ℕ Refusal) (desk next : C) (answer : Answer) → PutsBy calls.makes deck version desk next answer → is_refusal answer.told ≡ true → IsSame desk next
-  put-same deck (Ok version) desk next answer puts refused = asks-same (PutDeck deck version) desk next answer refl puts refused
+  put-same : (deck : Deck) (version : Result ℕ Refusal) (desk next : C) (answer : Answer) → PutsBy calls deck version desk next answer → is_refusal answer.told ≡ true → IsSame desk next
+  put-same deck (Ok version) desk next answer puts refused = made-same (PutDeck deck version) desk next answer puts refused
   put-same deck (Err refusal) desk next answer puts refused = uncalled-same desk next puts.0
 
-  puts-same : (name : List ℕ) (loaded : Result (List Card) ShelfLoadFault) (desk next : C) (answer : Answer) → PutsLoaded calls.makes name loaded desk next answer → is_refusal answer.told ≡ true → IsSame desk next
+  puts-same : (name : List ℕ) (loaded : Result (List Card) ShelfLoadFault) (desk next : C) (answer : Answer) → PutsLoaded calls name loaded desk next answer → is_refusal answer.told ≡ true → IsSame desk next
   puts-same name (Ok cards) desk next answer puts refused =
       let deck : Deck = record { name = name; cards = cards } in
-      steady.joined desk puts.between next (steady.asked desk puts.between Status puts.reply refl puts.made) (put-same deck (version_told name puts.reply) puts.between next answer puts.put refused)
+      steady.joined desk puts.between next (steady.asked desk puts.between Status puts.reply puts.made) (put-same deck (version_told name puts.reply) puts.between next answer puts.put refused)
   puts-same name (Err fault) desk next answer puts refused = uncalled-same desk next puts.0
 
-  row-same : (row : Row) (desk next : C) (shelf after : S) (line : Option ToldDeck) → SavesRow calls.makes files row desk next shelf after line → IsSame desk next
+  row-same : (row : Row) (desk next : C) (shelf after : S) (line : Option ToldDeck) → SavesRow calls.asks files row desk next shelf after line → IsSame desk next
   row-same row desk next shelf after _ (is_saved stays tells) = uncalled-same desk next stays
-  row-same row desk next shelf after _ (unsaved between answer tells saves) = steady.asked desk next (Cards row.name) saves.reply refl saves.made
+  row-same row desk next shelf after _ (unsaved between answer tells saves) = steady.asked desk next (Cards row.name) saves.reply saves.made
 
-  rows-same : (first : C) (start : S) (rows : List Row) (saved : List ToldDeck) (last : C) (end : S) → SavesRows calls.makes files first start rows saved last end → IsSame first last
+  rows-same : (first : C) (start : S) (rows : List Row) (saved : List ToldDeck) (last : C) (end : S) → SavesRows calls.asks files first start rows saved last end → IsSame first last
   rows-same first start _ _ _ _ no_row = steady.same first
   rows-same first start _ _ _ _ (next_row rows saved desk next shelf after row line before now) = steady.joined first desk next (rows-same first start rows saved desk shelf before) (row-same row desk next shelf after line now)
 
-  saves-same : (version : ℕ) (rows : List Row) (desk next : C) (shelf after : S) (answer : Answer) → TellsSaves calls.makes files version rows desk next shelf after answer → IsSame desk next
+  saves-same : (version : ℕ) (rows : List Row) (desk next : C) (shelf after : S) (answer : Answer) → TellsSaves calls.asks files version rows desk next shelf after answer → IsSame desk next
   saves-same version rows desk next shelf after answer (told_all saved each answered) = rows-same desk shelf rows saved next after each
   saves-same version rows desk next shelf after answer (lacking stays same answered) = uncalled-same desk next stays
 
-  all-same : (what : Told) (desk next : C) (shelf after : S) (answer : Answer) → SavesAllTold calls.makes files what desk next shelf after answer → IsSame desk next
+  all-same : (what : Told) (desk next : C) (shelf after : S) (answer : Answer) → SavesAllTold calls.asks files what desk next shelf after answer → IsSame desk next
   all-same what desk next shelf after answer =
-      where-same what (λ version published rows. TellsSaves calls.makes files version rows desk next shelf after answer) ((next ≡ desk) × (after ≡ shelf) × (answer ≡ called what)) (IsSame desk next)
+      where-same what (λ version published rows. TellsSaves calls.asks files version rows desk next shelf after answer) ((next ≡ desk) × (after ≡ shelf) × (answer ≡ called what)) (IsSame desk next)
       (λ version published rows saves. saves-same version rows desk next shelf after answer saves) (λ same. uncalled-same desk next same.0)
 
   -- decks of which a refusal is shown were not added
-  adds-told-same : (version : ℕ) (rows : List Row) (decks : List Deck) (desk next : C) (answer : Answer) → TellsAdds calls.makes version rows decks desk next answer → is_refusal answer.told ≡ true → IsSame desk next
+  adds-told-same : (version : ℕ) (rows : List Row) (decks : List Deck) (desk next : C) (answer : Answer) → TellsAdds calls version rows decks desk next answer → is_refusal answer.told ≡ true → IsSame desk next
   adds-told-same version rows decks desk next answer (added_all lines room each answered) refused = let not : false ≡ true = sym (ap (λ (a : Answer). is_refusal a.told) answered) ∙ refused in cc
   adds-told-same version rows decks desk next answer (not_added refusal why stays answered) refused = uncalled-same desk next stays
   adds-told-same version rows decks desk next answer (no_memory stays answered) refused = uncalled-same desk next stays
 
-  adds-all-same : (what : Told) (decks : List Deck) (desk next : C) (answer : Answer) → AddsTold calls.makes decks what desk next answer → is_refusal answer.told ≡ true → IsSame desk next
+  adds-all-same : (what : Told) (decks : List Deck) (desk next : C) (answer : Answer) → AddsTold calls decks what desk next answer → is_refusal answer.told ≡ true → IsSame desk next
   adds-all-same what decks desk next answer adds refused =
-      where-same what (λ version published rows. TellsAdds calls.makes version rows decks desk next answer) ((next ≡ desk) × (answer ≡ called what)) (IsSame desk next)
+      where-same what (λ version published rows. TellsAdds calls version rows decks desk next answer) ((next ≡ desk) × (answer ≡ called what)) (IsSame desk next)
       (λ version published rows adds. adds-told-same version rows decks desk next answer adds refused) (λ same. uncalled-same desk next same.0) adds
 
-  cut-same : (decks : Result (List Deck) Refusal) (desk next : C) (answer : Answer) → AddsCut calls.makes decks desk next answer → is_refusal answer.told ≡ true → IsSame desk next
+  cut-same : (decks : Result (List Deck) Refusal) (desk next : C) (answer : Answer) → AddsCut calls decks desk next answer → is_refusal answer.told ≡ true → IsSame desk next
   cut-same (Ok decks) desk next answer adds refused =
-      steady.joined desk adds.between next (steady.asked desk adds.between Status adds.reply refl adds.made) (adds-all-same (told_of_call adds.reply) decks adds.between next answer adds.kept refused)
+      steady.joined desk adds.between next (steady.asked desk adds.between Status adds.reply adds.made) (adds-all-same (told_of_call adds.reply) decks adds.between next answer adds.kept refused)
   cut-same (Err refusal) desk next answer adds refused = uncalled-same desk next adds.0
 
-  file-same : (cards : List Card) (desk next : C) (answer : Answer) → AddsFile calls.makes cards desk next answer → is_refusal answer.told ≡ true → IsSame desk next
+  file-same : (cards : List Card) (desk next : C) (answer : Answer) → AddsFile calls cards desk next answer → is_refusal answer.told ≡ true → IsSame desk next
   file-same cards desk next answer (cut adds) refused = cut-same (decks_in cards) desk next answer adds refused
   file-same cards desk next answer (uncut stays answered) refused = uncalled-same desk next stays
 
-  loaded-same : (loaded : Result (List Card) ShelfLoadFault) (desk next : C) (answer : Answer) → AddsLoadedDecks calls.makes loaded desk next answer → is_refusal answer.told ≡ true → IsSame desk next
+  loaded-same : (loaded : Result (List Card) ShelfLoadFault) (desk next : C) (answer : Answer) → AddsLoadedDecks calls loaded desk next answer → is_refusal answer.told ≡ true → IsSame desk next
   loaded-same (Ok cards) desk next answer adds refused = file-same cards desk next answer adds refused
   loaded-same (Err fault) desk next answer adds refused = uncalled-same desk next adds.0
 
-  refused-same : (task : Task) (desk next : C) (shelf after : S) (answer : Answer) → asks_session task ≡ true →
+  refused-same : (task : Task) (desk next : C) (shelf after : S) (answer : Answer) →
       Executes calls files task desk next shelf after answer → is_refusal answer.told ≡ true → IsSame desk next
-  refused-same (Ask call) desk next shelf after answer session is refused = asks-same call desk next answer session is.0 refused
-  refused-same (AwaitVersion version) desk next shelf after answer session is refused = steady.awaited desk next version is.0.reply is.0.awaited
-  refused-same (ShowCards name view) desk next shelf after answer session is refused = steady.asked desk next (Cards name) is.0.reply refl is.0.made
-  refused-same (ShowCardsAt name version) desk next shelf after answer session is refused = steady.asked desk next (CardsAt name version) is.0.reply refl is.0.made
-  refused-same (ShowText text) desk next shelf after answer session is refused = steady.asked desk next Show is.0.reply refl is.0.made
-  refused-same (ShowPart text name) desk next shelf after answer session is refused = steady.asked desk next Show is.0.reply refl is.0.made
-  refused-same (ShowErrors view) desk next shelf after answer session is refused = steady.asked desk next Show is.0.reply refl is.0.made
-  refused-same (ShowWords name) desk next shelf after answer session is refused = steady.asked desk next Show is.0.reply refl is.0.made
-  refused-same ShowNames desk next shelf after answer session is refused = steady.asked desk next Show is.0.reply refl is.0.made
-  refused-same (ShowSymbols name) desk next shelf after answer session is refused = steady.asked desk next Show is.0.reply refl is.0.made
-  refused-same (LoadDeck name) desk next shelf after answer session is refused = adds-same name is.loaded desk next answer is.added refused
-  refused-same (LoadAll name) desk next shelf after answer session is refused = loaded-same is.loaded desk next answer is.added refused
-  refused-same (ReloadDeck name) desk next shelf after answer session is refused = puts-same name is.loaded desk next answer is.put refused
-  refused-same (SaveDeck name over) desk next shelf after answer session is refused = steady.asked desk next (Cards name) is.reply refl is.made
-  refused-same SaveAll desk next shelf after answer session is refused =
-      steady.joined desk is.between next (steady.asked desk is.between Status is.reply refl is.made) (all-same (told_of_call is.reply) is.between next shelf after answer is.kept)
-  refused-same ShowFiles desk next shelf after answer session is refused = steady.asked desk next Status is.reply refl is.made
-  refused-same ShowFileStatus desk next shelf after answer session is refused = steady.asked desk next Status is.reply refl is.made
-  refused-same (Greet name) desk next shelf after answer session is refused = steady.greeted desk next name is.0.greeting is.0.greeted
-  refused-same ShowHelp desk next shelf after answer session is refused = steady.asked desk next Status is.0.reply refl is.0.made
-  refused-same Leave desk next shelf after answer session is refused = uncalled-same desk next is.0
-  refused-same (Refuse why) desk next shelf after answer session is refused = uncalled-same desk next is.0
-
-edit_call-session : (name : List ℕ) (seen : Seen) (edit : Edit) → is_session_call (edit_call name seen edit) ≡ true
-edit_call-session name (Exactly version) edit = refl
-edit_call-session name (Since version) edit = refl
-
-batch_call-session : (name : List ℕ) (seen : Seen) (edits : List Edit) → is_session_call (batch_call name seen edits) ≡ true
-batch_call-session name (Exactly version) edits = refl
-batch_call-session name (Since version) edits = refl
-
-batch-session : (name : Result (List ℕ) Refusal) (seen : Seen) (edits : Result (List Edit) Refusal) → asks_session (batch_named name seen edits) ≡ true
-batch-session (Ok name) seen (Ok edits) = batch_call-session name seen edits
-batch-session (Ok name) seen (Err refusal) = refl
-batch-session (Err refusal) seen edits = refl
-
-put-session : (name : Result (List ℕ) Refusal) (version : ℕ) (cards : Result (List Card) Refusal) → asks_session (put_named name version cards) ≡ true
-put-session (Ok name) version (Ok cards) = refl
-put-session (Ok name) version (Err refusal) = refl
-put-session (Err refusal) version cards = refl
-
-command-session : (command : Command) (lines : List (List ℕ)) → asks_session (task_of_command command lines) ≡ true
-command-session (command.Add name) lines = refl
-command-session (command.Load name) lines = refl
-command-session (command.LoadAll name) lines = refl
-command-session (command.Reload name) lines = refl
-command-session (command.Drop name version) lines = refl
-command-session (command.Edit name seen edit) lines = edit_call-session name seen edit
-command-session (command.Cards name view) lines = refl
-command-session (command.CardsAt name version) lines = refl
-command-session (command.Changes name version) lines = refl
-command-session (command.Save name over) lines = refl
-command-session command.SaveAll lines = refl
-command-session command.Image lines = refl
-command-session command.List lines = refl
-command-session command.Map lines = refl
-command-session (command.ImageOf name) lines = refl
-command-session (command.ListOf name) lines = refl
-command-session (command.Errors view) lines = refl
-command-session (command.Words name) lines = refl
-command-session command.Names lines = refl
-command-session (command.Symbols name) lines = refl
-command-session command.Status lines = refl
-command-session command.FileStatus lines = refl
-command-session command.Files lines = refl
-command-session (command.Wait version) lines = refl
-command-session (command.Batch head) lines = batch-session head.name head.seen (edits_of lines)
-command-session (command.Put head) lines = put-session head.name head.version (cards_of lines)
-command-session (command.Undo name version) lines = refl
-command-session (command.Hello name) lines = refl
-command-session command.Help lines = refl
-command-session command.Bye lines = refl
-
-task-session : (command : Result Command Refusal) (lines : List (List ℕ)) → asks_session (task_by command lines) ≡ true
-task-session (Ok command) lines = command-session command lines
-task-session (Err refusal) lines = refl
-
-taken-session : (asked task : Task) → asks_session asked ≡ true → IsTaskFor asked task → asks_session task ≡ true
-taken-session asked task session (inl same) = ap asks_session same ∙ session
-taken-session asked task session (inr none) = ap asks_session none.1
-
-either-session : (test : Bool) (task : Task) → asks_session task ≡ true → asks_session (cond test (Refuse ReadOnly) task) ≡ true
-either-session true task session = refl
-either-session false task session = session
-
-allowed-session : (rights : Rights) (task : Task) → asks_session task ≡ true → asks_session (allowed rights task) ≡ true
-allowed-session Edits task session = session
-allowed-session Reads task session = either-session (changes task) task session
+  refused-same (Make change) desk next shelf after answer is refused = made-same change desk next answer is.0 refused
+  refused-same (Ask question) desk next shelf after answer is refused = steady.asked desk next question is.0.reply is.0.made
+  refused-same (AwaitVersion version) desk next shelf after answer is refused = steady.awaited desk next version is.0.reply is.0.awaited
+  refused-same (ShowCards name view) desk next shelf after answer is refused = steady.asked desk next (Cards name) is.0.reply is.0.made
+  refused-same (ShowCardsAt name version) desk next shelf after answer is refused = steady.asked desk next (CardsAt name version) is.0.reply is.0.made
+  refused-same (ShowText text) desk next shelf after answer is refused = steady.asked desk next Show is.0.reply is.0.made
+  refused-same (ShowPart text name) desk next shelf after answer is refused = steady.asked desk next Show is.0.reply is.0.made
+  refused-same (ShowErrors view) desk next shelf after answer is refused = steady.asked desk next Show is.0.reply is.0.made
+  refused-same (ShowWords name) desk next shelf after answer is refused = steady.asked desk next Show is.0.reply is.0.made
+  refused-same ShowNames desk next shelf after answer is refused = steady.asked desk next Show is.0.reply is.0.made
+  refused-same (ShowSymbols name) desk next shelf after answer is refused = steady.asked desk next Show is.0.reply is.0.made
+  refused-same (LoadDeck name) desk next shelf after answer is refused = adds-same name is.loaded desk next answer is.added refused
+  refused-same (LoadAll name) desk next shelf after answer is refused = loaded-same is.loaded desk next answer is.added refused
+  refused-same (ReloadDeck name) desk next shelf after answer is refused = puts-same name is.loaded desk next answer is.put refused
+  refused-same (SaveDeck name over) desk next shelf after answer is refused = steady.asked desk next (Cards name) is.reply is.made
+  refused-same SaveAll desk next shelf after answer is refused =
+      steady.joined desk is.between next (steady.asked desk is.between Status is.reply is.made) (all-same (told_of_call is.reply) is.between next shelf after answer is.kept)
+  refused-same ShowFiles desk next shelf after answer is refused = steady.asked desk next Status is.reply is.made
+  refused-same ShowFileStatus desk next shelf after answer is refused = steady.asked desk next Status is.reply is.made
+  refused-same (Greet name) desk next shelf after answer is refused = steady.greeted desk next name is.0.greeting is.0.greeted
+  refused-same ShowHelp desk next shelf after answer is refused = steady.asked desk next Status is.0.reply is.0.made
+  refused-same Leave desk next shelf after answer is refused = uncalled-same desk next is.0
+  refused-same (Refuse why) desk next shelf after answer is refused = uncalled-same desk next is.0
 
 module _ {C S : Type 0} (calls : DeskRelations C) (files : ShelfRelations S)
     (IsSame : C → C → Type 0) (steady : IsSteady calls IsSame) where
   pub command-same : (rights : Rights) (old new : Sides C S) → RefusesCommand rights calls files old new → IsSame old.desk new.desk
-  command-same rights old new is = refused-same calls files IsSame steady (allowed rights is.task) old.desk new.desk old.shelf new.shelf is.answer
-      (allowed-session rights is.task (taken-session (task_of is.first is.others) is.task (task-session (command_of is.first) is.others) is.asked)) is.executed is.refused
+  command-same rights old new is = refused-same calls files IsSame steady (allowed rights is.task) old.desk new.desk old.shelf new.shelf is.answer is.executed is.refused

@@ -1,9 +1,9 @@
--- The replies of a desk to the calls of sessions, call by call.
-use Rattle.std.proofs.Common.{ℕ, List, [], ◌∷◌, ◌≡◌, true, Result, Ok, Err, Option, None, Some, inl, inr, refl, ap, ◌∙◌}
-use Rattle.desk_core.specs.{Desks.{Desk, DeskDeck, Publication, deck_named}, Answers.{Answer, answers, unless}, Changing.{accepted, against_add, against_put, against_drop, against_edit, against_batch}, Reading.{cards_reply, show_reply}, declared.past.KeptEdit.KeptEdit, Past.backs_of, Carrying.{carried_since, accept_carried, edit_since_of, batch_since_of}, Undoing.{backs_at, against_change, undo_where}, Earlier.{against_since, edits_behind, changes_of, cards_at_of}, Joins.Edits.Edit, Joins.Language.Card, Steps.{Steps, answer}, declared.calls.Call.Call, declared.replies.Reply.Reply, declared.replies.Reply.TheVariants.{ChangesAre, CardsBefore, Refused}, declared.replies.Refusal.Refusal}
+-- The replies of a desk to changes and questions, one by one.
+use Rattle.std.proofs.Common.{ℕ, List, ◌≡◌, Bool, true, false, Result, Ok, Err, Option, None, Some, inl, inr, refl, ap, ◌∙◌}
+use Rattle.session_commands.specs.declared.words.Seen.TheVariants.{Exactly, Since}
+use Rattle.desk_core.specs.{Desks.{Desk, DeskDeck, Publication, deck_named}, Answers.{Answer, answers, unless}, Changing.{accepted, against_add, against_put, against_drop}, Reading.{cards_reply, show_reply}, declared.past.KeptEdit.KeptEdit, Past.backs_of, Carrying.{carried_since, accept_carried, edit_since_of, is_alone, edits_of}, Undoing.{backs_at, against_change, undo_where}, Earlier.{against_since, edits_behind, changes_of, cards_at_of}, Joins.Edits.Edit, Joins.Language.Card, Steps.{Steps, answer_to_change, answer_to_question}, declared.calls.Change.Change, declared.calls.Change.TheVariants.{AddDeck, PutDeck, DropDeck, EditDeck, Undo}, declared.calls.Question.Question, declared.calls.Question.TheVariants.{Changes, CardsAt, Cards, Show, Status}, declared.calls.Call.TheVariants.{Make, Ask}, declared.replies.Reply.Reply, declared.replies.Reply.TheVariants.{ChangesAre, CardsBefore, Refused}, declared.replies.Refusal.Refusal, declared.replies.Refusal.TheVariants.OutOfMemory}
 use Rattle.cards.specs.declared.carrying.Touched.{Touched}
-use Rattle.desk_core.specs.declared.calls.Call.TheVariants as call
-use Rattle.session_line.specs.Joins.Kinds.{is_session_call, is_change, is_carried, is_changes, is_cards, is_cards_before, is_publication, fits_call}
+use Rattle.session_line.specs.Joins.Kinds.{is_change, is_carried, is_changes, is_cards, is_cards_before, is_publication, fits_change, fits_question}
 
 -- a change is accepted or refused
 unless-change : (cause : Option Refusal) (desk changed : Desk) → is_change (unless cause desk (accepted changed)).reply ≡ true
@@ -40,66 +40,54 @@ accept-fits : (name by : List ℕ) (desk : Desk) (deck : DeskDeck) (edits : Resu
 accept-fits name by desk deck (Ok edits) = refl
 accept-fits name by desk deck (Err touched) = refl
 
-edit_since-fits : (name : List ℕ) (seen : ℕ) (edit : Edit) (by : List ℕ) (desk : Desk) (deck : Option DeskDeck) → is_carried (edit_since_of name seen edit by desk deck).reply ≡ true
-edit_since-fits name seen edit by desk None = refl
-edit_since-fits name seen edit by desk (Some deck) = unless-carried _ desk _ (accept-fits name by desk deck (carried_since seen (edit ∷ []) deck))
-
-batch_since-fits : (name : List ℕ) (seen : ℕ) (edits : List Edit) (by : List ℕ) (desk : Desk) (deck : Option DeskDeck) → is_carried (batch_since_of name seen edits by desk deck).reply ≡ true
-batch_since-fits name seen edits by desk None = refl
-batch_since-fits name seen edits by desk (Some deck) = unless-carried _ desk _ (accept-fits name by desk deck (carried_since seen edits deck))
+since-fits : (single : Bool) (name : List ℕ) (seen : ℕ) (edits : List Edit) (by : List ℕ) (desk : Desk) (deck : Option DeskDeck) → is_carried (edit_since_of single name seen edits by desk deck).reply ≡ true
+since-fits single name seen edits by desk None = refl
+since-fits single name seen edits by desk (Some deck) = unless-carried _ desk _ (accept-fits name by desk deck (carried_since seen edits deck))
 
 undo-fits : (name : List ℕ) (version : ℕ) (by : List ℕ) (desk : Desk) (deck : Option DeskDeck) → is_carried (undo_where name version by desk deck).reply ≡ true
 undo-fits name version by desk None = refl
-undo-fits name version by desk (Some deck) = unless-carried (against_change version deck) desk _ (batch_since-fits name version (backs_at version deck) by desk (Some deck))
+undo-fits name version by desk (Some deck) = unless-carried (against_change version deck) desk _ (since-fits false name version (backs_at version deck) by desk (Some deck))
 
 show_reply-fits : (publication : Option Publication) → is_publication (show_reply publication) ≡ true
 show_reply-fits None = refl
 show_reply-fits (Some publication) = refl
 
-answer-fits : (asked : Call) (desk : Desk) → is_session_call asked ≡ true → fits_call asked (answer asked desk).reply ≡ true
-answer-fits (call.AddDeck deck) desk h = unless-change (against_add deck desk) desk _
-answer-fits (call.PutDeck deck seen) desk h = unless-change (against_put seen deck desk (deck_named deck.name desk)) desk _
-answer-fits (call.DropDeck name seen) desk h = unless-change (against_drop seen desk (deck_named name desk)) desk _
-answer-fits (call.EditDeck name seen edit by) desk h = unless-change (against_edit seen edit desk (deck_named name desk)) desk _
-answer-fits (call.Batch name seen edits by) desk h = unless-change (against_batch seen edits desk (deck_named name desk)) desk _
-answer-fits (call.EditSince name seen edit by) desk h = edit_since-fits name seen edit by desk (deck_named name desk)
-answer-fits (call.BatchSince name seen edits by) desk h = batch_since-fits name seen edits by desk (deck_named name desk)
-answer-fits (call.Undo name version by) desk h = undo-fits name version by desk (deck_named name desk)
-answer-fits (call.Changes name since) desk h = changes_of-fits since desk (deck_named name desk)
-answer-fits (call.CardsAt name version) desk h = cards_at_of-fits version desk (deck_named name desk)
-answer-fits (call.Cards name) desk h = cards_reply-fits (deck_named name desk)
-answer-fits call.Show desk h = show_reply-fits desk.publication
-answer-fits call.Status desk h = refl
-answer-fits call.Claim desk h = cc
-answer-fits (call.DeliverDeck done) desk h = cc
-answer-fits (call.DeliverLink lease publication) desk h = cc
-answer-fits (call.OfferObject lease place object) desk h = cc
-answer-fits (call.Publish lease) desk h = cc
-answer-fits (call.GiveUp lease) desk h = cc
+change-fits : (by : List ℕ) (change : Change) (desk : Desk) → fits_change change (answer_to_change by change desk).reply ≡ true
+change-fits by (AddDeck deck) desk = unless-change (against_add deck desk) desk _
+change-fits by (PutDeck deck seen) desk = unless-change (against_put seen deck desk (deck_named deck.name desk)) desk _
+change-fits by (DropDeck name seen) desk = unless-change (against_drop seen desk (deck_named name desk)) desk _
+change-fits by (EditDeck name (Exactly seen) edits) desk = unless-change _ desk _
+change-fits by (EditDeck name (Since seen) edits) desk = since-fits (is_alone edits) name seen (edits_of edits) by desk (deck_named name desk)
+change-fits by (Undo name version) desk = undo-fits name version by desk (deck_named name desk)
 
--- a refusal fits each call
-refused-fits : (asked : Call) (reason : Refusal) → is_session_call asked ≡ true → fits_call asked (Refused reason) ≡ true
-refused-fits (call.AddDeck deck) reason h = refl
-refused-fits (call.PutDeck deck seen) reason h = refl
-refused-fits (call.DropDeck name seen) reason h = refl
-refused-fits (call.EditDeck name seen edit by) reason h = refl
-refused-fits (call.Batch name seen edits by) reason h = refl
-refused-fits (call.EditSince name seen edit by) reason h = refl
-refused-fits (call.BatchSince name seen edits by) reason h = refl
-refused-fits (call.Undo name version by) reason h = refl
-refused-fits (call.Changes name since) reason h = refl
-refused-fits (call.CardsAt name version) reason h = refl
-refused-fits (call.Cards name) reason h = refl
-refused-fits call.Show reason h = refl
-refused-fits call.Status reason h = refl
-refused-fits call.Claim reason h = cc
-refused-fits (call.DeliverDeck done) reason h = cc
-refused-fits (call.DeliverLink lease publication) reason h = cc
-refused-fits (call.OfferObject lease place object) reason h = cc
-refused-fits (call.Publish lease) reason h = cc
-refused-fits (call.GiveUp lease) reason h = cc
+question-fits : (question : Question) (desk : Desk) → fits_question question (answer_to_question question desk).reply ≡ true
+question-fits (Changes name since) desk = changes_of-fits since desk (deck_named name desk)
+question-fits (CardsAt name version) desk = cards_at_of-fits version desk (deck_named name desk)
+question-fits (Cards name) desk = cards_reply-fits (deck_named name desk)
+question-fits Show desk = show_reply-fits desk.publication
+question-fits Status desk = refl
+
+-- a refusal fits each
+change-refused : (change : Change) (reason : Refusal) → fits_change change (Refused reason) ≡ true
+change-refused (AddDeck deck) reason = refl
+change-refused (PutDeck deck seen) reason = refl
+change-refused (DropDeck name seen) reason = refl
+change-refused (EditDeck name (Exactly seen) edits) reason = refl
+change-refused (EditDeck name (Since seen) edits) reason = refl
+change-refused (Undo name version) reason = refl
+
+question-refused : (question : Question) (reason : Refusal) → fits_question question (Refused reason) ≡ true
+question-refused (Changes name since) reason = refl
+question-refused (CardsAt name version) reason = refl
+question-refused (Cards name) reason = refl
+question-refused Show reason = refl
+question-refused Status reason = refl
 
 -- each step
-pub session_fits : (desk next : Desk) (asked : Call) (reply : Reply) → is_session_call asked ≡ true → Steps desk asked reply next → fits_call asked reply ≡ true
-session_fits desk next asked reply h (inl s) = ap (fits_call asked) s.0 ∙ answer-fits asked desk h
-session_fits desk next asked reply h (inr s) = ap (fits_call asked) s.1 ∙ refused-fits asked _ h
+pub change_fits : (desk next : Desk) (by : List ℕ) (change : Change) (reply : Reply) → Steps desk (Make by change) reply next → fits_change change reply ≡ true
+change_fits desk next by change reply (inl s) = ap (fits_change change) s.0 ∙ change-fits by change desk
+change_fits desk next by change reply (inr s) = ap (fits_change change) s.1 ∙ change-refused change OutOfMemory
+
+pub question_fits : (desk next : Desk) (question : Question) (reply : Reply) → Steps desk (Ask question) reply next → fits_question question reply ≡ true
+question_fits desk next question reply (inl s) = ap (fits_question question) s.0 ∙ question-fits question desk
+question_fits desk next question reply (inr s) = ap (fits_question question) s.1 ∙ question-refused question OutOfMemory

@@ -3,25 +3,27 @@ use Rattle.std.{proofs.Common.{ℕ, ◌≡◌, true, false, List, [], ◌∷◌,
 use Rattle.cards.specs.declared.card.CardFault.TheVariants as card
 use Rattle.cards.specs.declared.edits.Edit.TheVariants.{Insert, Replace, Remove}
 use Rattle.cards.specs.declared.edits.EditFault.TheVariants as fault
-use Rattle.desk_core.specs.declared.calls.Call.TheVariants as call
+use Rattle.desk_core.specs.declared.calls.Change.TheVariants as change
+use Rattle.desk_core.specs.declared.calls.Edits.TheVariants.{One, Batch}
+use Rattle.desk_core.specs.declared.calls.Question.TheVariants as question
 use Rattle.desk_core.specs.declared.replies.Reply.TheVariants as reply
 use Rattle.desk_core.specs.declared.replies.State.TheVariants.{Behind}
 use Rattle.desk_core.specs.declared.replies.Refusal.TheVariants as desk
 use Rattle.deck_files.specs.declared.deck_shelf.SaveOver.TheVariants.{Known}
-use Rattle.session_commands.specs.{declared.refusals.Refusal.TheVariants.{BadCommand, UnknownCommand, BadName, BadCard, BadLine, FileExists, NameTaken, ReadOnly}, UnknownWords.told_word, Commands.command_of, declared.views.ErrorsView.TheVariants.{Every, Of}, declared.views.CardsView.TheVariants.{All, From, With}}
+use Rattle.session_commands.specs.{declared.words.Seen.TheVariants.{Exactly, Since}, declared.refusals.Refusal.TheVariants.{BadCommand, UnknownCommand, BadName, BadCard, BadLine, FileExists, NameTaken, ReadOnly}, UnknownWords.told_word, Commands.command_of, declared.views.ErrorsView.TheVariants.{Every, Of}, declared.views.CardsView.TheVariants.{All, From, With}}
 use Rattle.definitions.specs.{Cards.Card, DeckInput.Deck}
 use Rattle.session_line.specs.declared.published_texts.DeckText.TheVariants as part
-use Rattle.session_line.specs.{declared.published_texts.PublishedText.TheVariants.{Image, Listing, Map}, declared.tasks.Task.TheVariants.{Ask, AwaitVersion, ShowCards, ShowCardsAt, ShowText, ShowPart, ShowErrors, ShowWords, LoadDeck, LoadAll, ReloadDeck, SaveDeck, SaveAll, ShowFiles, ShowFileStatus, Greet, ShowHelp, Leave, Refuse}, Tasks.{lines_due, nobody, task_of}, Answers.{told_of_call, told_of_wait, told_of_greeting, told_of_cards, told_of_cards_at, told_of_publication, told_of_part, told_of_errors, told_text}, FileStatus.marked, ToldDecks.told_deck, DeckCuts.decks_in, Greetings.met, Rights.allowed, declared.rights.Rights.TheVariants.{Edits, Reads}}
+use Rattle.session_line.specs.{declared.published_texts.PublishedText.TheVariants.{Image, Listing, Map}, declared.tasks.Task.TheVariants.{Make, Ask, AwaitVersion, ShowCards, ShowCardsAt, ShowText, ShowPart, ShowErrors, ShowWords, LoadDeck, LoadAll, ReloadDeck, SaveDeck, SaveAll, ShowFiles, ShowFileStatus, Greet, ShowHelp, Leave, Refuse}, Tasks.{lines_due, task_of}, Answers.{told_of_call, told_of_wait, told_of_greeting, told_of_cards, told_of_cards_at, told_of_publication, told_of_part, told_of_errors, told_text}, FileStatus.marked, ToldDecks.told_deck, DeckCuts.decks_in, Greetings.met, Rights.allowed, declared.rights.Rights.TheVariants.{Edits, Reads}}
 use Rattle.session_line.specs.declared.answers.Told.TheVariants as told
 
 -- which call of the desk a line is
-pub add : task_of (codes "ADD M") [] ≡ Ask (call.AddDeck (record { name = codes "M"; cards = [] }))
+pub add : task_of (codes "ADD M") [] ≡ Make (change.AddDeck (record { name = codes "M"; cards = [] }))
 add = refl
 
-pub insert : task_of (codes "INS M 2 1 *A") [] ≡ Ask (call.EditDeck (codes "M") 2 (Insert 1 (codes "*A")) nobody)
+pub insert : task_of (codes "INS M 2 1 *A") [] ≡ Make (change.EditDeck (codes "M") (Exactly 2) (One (Insert 1 (codes "*A"))))
 insert = refl
 
-pub insert-since : task_of (codes "INS M 2+ 1 *A") [] ≡ Ask (call.EditSince (codes "M") 2 (Insert 1 (codes "*A")) nobody)
+pub insert-since : task_of (codes "INS M 2+ 1 *A") [] ≡ Make (change.EditDeck (codes "M") (Since 2) (One (Insert 1 (codes "*A"))))
 insert-since = refl
 
 pub load_all : task_of (codes "LOADALL M") [] ≡ LoadAll (codes "M")
@@ -45,10 +47,10 @@ cards_of_deck = refl
 pub cards_at : task_of (codes "CARDS M AT 7") [] ≡ ShowCardsAt (codes "M") 7
 cards_at = refl
 
-pub changes : task_of (codes "CHANGES M 7") [] ≡ Ask (call.Changes (codes "M") 7)
+pub changes : task_of (codes "CHANGES M 7") [] ≡ Ask (question.Changes (codes "M") 7)
 changes = refl
 
-pub undo : task_of (codes "UNDO M 7") [] ≡ Ask (call.Undo (codes "M") 7 nobody)
+pub undo : task_of (codes "UNDO M 7") [] ≡ Make (change.Undo (codes "M") 7)
 undo = refl
 
 pub hello : task_of (codes "HELLO PAT") [] ≡ Greet (codes "PAT")
@@ -92,10 +94,10 @@ bye = refl
 
 -- a batch is one call, whose edits stand in the order of the lines
 pub batch : task_of (codes "BATCH M 3 3") (codes "INS 1 *X" ∷ codes "DEL 3" ∷ codes "REP 2 *Y" ∷ [])
-    ≡ Ask (call.Batch (codes "M") 3 (Insert 1 (codes "*X") ∷ Remove 3 ∷ Replace 2 (codes "*Y") ∷ []) nobody)
+    ≡ Make (change.EditDeck (codes "M") (Exactly 3) (Batch (Insert 1 (codes "*X") ∷ Remove 3 ∷ Replace 2 (codes "*Y") ∷ [])))
 batch = refl
 
-pub batch-since : task_of (codes "BATCH M 3+ 1") (codes "DEL 3" ∷ []) ≡ Ask (call.BatchSince (codes "M") 3 (Remove 3 ∷ []) nobody)
+pub batch-since : task_of (codes "BATCH M 3+ 1") (codes "DEL 3" ∷ []) ≡ Make (change.EditDeck (codes "M") (Since 3) (Batch (Remove 3 ∷ [])))
 batch-since = refl
 
 -- a bad name takes the lines all the same, and counts before them
@@ -122,10 +124,10 @@ lines_of_unknown = refl
 
 -- a put is one call, and each of its lines is a card, one that looks like a command too
 pub put : task_of (codes "PUT M 3 3") (codes "          IDENT  M " ∷ codes "DROP M 3" ∷ codes "" ∷ [])
-    ≡ Ask (call.PutDeck (record { name = codes "M"; cards = codes "          IDENT  M" ∷ codes "DROP M 3" ∷ codes "" ∷ [] }) 3)
+    ≡ Make (change.PutDeck (record { name = codes "M"; cards = codes "          IDENT  M" ∷ codes "DROP M 3" ∷ codes "" ∷ [] }) 3)
 put = refl
 
-pub put-new : task_of (codes "PUT M 0 0") [] ≡ Ask (call.PutDeck (record { name = codes "M"; cards = [] }) 0)
+pub put-new : task_of (codes "PUT M 0 0") [] ≡ Make (change.PutDeck (record { name = codes "M"; cards = [] }) 0)
 put-new = refl
 
 -- its lines are taken whatever its name is, and the name counts before them
@@ -283,10 +285,10 @@ awaited_in_vain = unfold digits in refl
 pub reads_cards : allowed Reads (task_of (codes "CARDS M") []) ≡ ShowCards (codes "M") All
 reads_cards = refl
 
-pub reads_changes : allowed Reads (task_of (codes "CHANGES M 7") []) ≡ Ask (call.Changes (codes "M") 7)
+pub reads_changes : allowed Reads (task_of (codes "CHANGES M 7") []) ≡ Ask (question.Changes (codes "M") 7)
 reads_changes = refl
 
-pub reads_status : allowed Reads (task_of (codes "STATUS") []) ≡ Ask call.Status
+pub reads_status : allowed Reads (task_of (codes "STATUS") []) ≡ Ask question.Status
 reads_status = refl
 
 pub reads_save_all : allowed Reads (task_of (codes "SAVEALL") []) ≡ Refuse ReadOnly
@@ -340,7 +342,7 @@ name_before_rights = refl
 pub card_before_rights : allowed Reads (task_of (codes "BATCH M 2 1") (codes "INS 1 a" ∷ [])) ≡ Refuse (BadCard (card.BadCharacter 1))
 card_before_rights = refl
 
-pub editors_edit : allowed Edits (task_of (codes "ADD M") []) ≡ Ask (call.AddDeck (record { name = codes "M"; cards = [] }))
+pub editors_edit : allowed Edits (task_of (codes "ADD M") []) ≡ Make (change.AddDeck (record { name = codes "M"; cards = [] }))
 editors_edit = refl
 
 -- who greets is shown the service and who is connected; or why there is no status

@@ -1,6 +1,6 @@
 -- STATUS FILES (ours): the desk is asked for its status, and then the shelf, deck by deck, whether its file has its cards.
 use Rattle.std.specs.Prelude.{ℕ, ◌≡◌, Bool, List, [], ◌∷◌, ◌++◌, Option}
-use Rattle.desk_core.specs.declared.{calls.Call.Call, calls.Call.TheVariants.Status, replies.Reply.Reply, replies.Row.Row}
+use Rattle.desk_core.specs.declared.{calls.Question.Question, calls.Question.TheVariants.Status, replies.Reply.Reply, replies.Row.Row}
 use Rattle.session_line.specs.{declared.marked_rows.MarkedRow.MarkedRow, declared.answers.Told.Told, declared.answers.Answer.Answer, Answers.{WhereStatus, told_of_call, called}}
 use Rattle.session_commands.specs.declared.refusals.Refusal.TheVariants.{OutOfMemory}
 use Rattle.session_line.specs.declared.answers.Told.TheVariants as told
@@ -26,9 +26,9 @@ module _ {S : Type 0} (files : ShelfRelations S) where
   abbrev pub MarksTold : Told → S → S → Answer → Type 0
   MarksTold what shelf after answer = WhereStatus what (λ version published rows. TellsMarks version published rows shelf after answer) ((after ≡ shelf) × (answer ≡ called what))
 
-module _ {C S : Type 0} (makes : C → Call → Reply → C → Type 0) (files : ShelfRelations S) where
+module _ {C S : Type 0} (asks : C → Question → Reply → C → Type 0) (files : ShelfRelations S) where
   -- STATUS FILES: one call of the desk for the status, and then one of the shelf for each deck
   pub record ShowsFileStatus (desk next : C) (shelf after : S) (answer : Answer) : Type 0 where
     pub reply : Reply
-    pub made : makes desk Status reply next
+    pub made : asks desk Status reply next
     pub kept : MarksTold files (told_of_call reply) shelf after answer

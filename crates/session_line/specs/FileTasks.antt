@@ -1,7 +1,7 @@
 -- FILES (ours): the desk is asked for its version, and then the shelf for its files.
 use Rattle.std.specs.Prelude.{ℕ, ◌≡◌, List, Result, Ok, Err}
 use Rattle.deck_files.specs.{declared.deck_shelf.ShelfLoadFault.ShelfLoadFault, declared.file_rows.FileRow.FileRow, ShelfRelations.ShelfRelations}
-use Rattle.desk_core.specs.declared.{calls.Call.Call, calls.Call.TheVariants.Status, replies.Reply.Reply}
+use Rattle.desk_core.specs.declared.{calls.Question.Question, calls.Question.TheVariants.Status, replies.Reply.Reply}
 use Rattle.session_line.specs.{declared.answers.Told.Told, declared.answers.Answer.Answer, Reasons.load_reason, Answers.{told_of_wait, called}}
 use Rattle.session_line.specs.declared.answers.Told.TheVariants as told
 
@@ -22,9 +22,9 @@ module _ {S : Type 0} (files : ShelfRelations S) where
   FilesTold (told.Standing version published) shelf after answer = TellsFiles version shelf after answer
   FilesTold what shelf after answer = (after ≡ shelf) × (answer ≡ called what)
 
-module _ {C S : Type 0} (makes : C → Call → Reply → C → Type 0) (files : ShelfRelations S) where
+module _ {C S : Type 0} (asks : C → Question → Reply → C → Type 0) (files : ShelfRelations S) where
   -- FILES: one call of the desk for the status, and then one of the shelf
   pub record ShowsFiles (desk next : C) (shelf after : S) (answer : Answer) : Type 0 where
     pub reply : Reply
-    pub made : makes desk Status reply next
+    pub made : asks desk Status reply next
     pub kept : FilesTold files (told_of_wait reply) shelf after answer

@@ -1,6 +1,6 @@
 -- Who greets, and the lines that it is shown (ours): the service and its version, and who is connected.
 use Rattle.std.specs.Prelude.{ℕ, ◌≡◌, Bool, true, false, List, [], ◌++◌, codes, decimal}
-use Rattle.desk_core.specs.declared.{calls.Call.Call, calls.Call.TheVariants.Status, replies.Reply.Reply, replies.Reply.TheVariants.StatusIs}
+use Rattle.desk_core.specs.declared.{calls.Call.Call, calls.Call.TheVariants.Ask, calls.Question.TheVariants.Status, replies.Reply.Reply, replies.Reply.TheVariants.StatusIs}
 use Rattle.session_line.specs.declared.{greetings.Connected.Connected, greetings.Greeting.Greeting, rights.Rights.Rights, rights.Rights.TheVariants.{Edits, Reads}}
 
 -- the version of the program
@@ -41,4 +41,4 @@ WhereMet does false old new = new ≡ old
 module _ {C : Type 0} (makes : C → Call → Reply → C → Type 0) where
   -- who knows of no session asks for the status
   abbrev pub MeetsAlone : C → Greeting → C → Type 0
-  MeetsAlone old greeting new = makes old Status greeting.status new × (greeting.sessions ≡ [])
+  MeetsAlone old greeting new = makes old (Ask Status) greeting.status new × (greeting.sessions ≡ [])

@@ -2,9 +2,9 @@
 use Rattle.std.specs.{Prelude.{ℕ, ◌≡◌, ◌+◌, Bool, List, [], ◌∷◌, ◌++◌, Option, Some, None, Result, Ok, Err, length, nat_lt, if◌then◌else◌}, List.list_any}
 use Rattle.definitions.specs.{Cards.Card, DeckInput.{Deck, is_taken}}
 use Rattle.deck_files.specs.{declared.deck_shelf.ShelfLoadFault.ShelfLoadFault, ShelfRelations.ShelfRelations}
-use Rattle.desk_core.specs.declared.{calls.Call.Call, calls.Call.TheVariants.{AddDeck, Status}, replies.Reply.Reply, replies.Row.Row}
+use Rattle.desk_core.specs.declared.{calls.Change.TheVariants.AddDeck, calls.Question.TheVariants.Status, replies.Reply.Reply, replies.Row.Row}
 use Rattle.session_commands.specs.declared.refusals.Refusal.{Refusal, TheVariants.{NameTaken, TooManyDecks, OutOfMemory}}
-use Rattle.session_line.specs.{declared.told_decks.ToldDeck.ToldDeck, declared.answers.Told.Told, declared.answers.Answer.Answer, Answers.{WhereStatus, called, most_decks, told_of_call, uncalled}, Asking.ShelfLoads, DeckCuts.decks_in, Reasons.load_reason, ToldDecks.told_deck}
+use Rattle.session_line.specs.{DeskRelations.DeskRelations, declared.told_decks.ToldDeck.ToldDeck, declared.answers.Told.Told, declared.answers.Answer.Answer, Answers.{WhereStatus, called, most_decks, told_of_call, uncalled}, Asking.ShelfLoads, DeckCuts.decks_in, Reasons.load_reason, ToldDecks.told_deck}
 use Rattle.session_line.specs.declared.answers.Told.TheVariants as told
 
 -- whether a desk with these decks has the name of one of others
@@ -15,11 +15,11 @@ is_any_there rows decks = list_any (λ (row : Row). is_taken row.name decks) row
 abbrev pub refusal_to_add : List Row → List Deck → Option Refusal
 refusal_to_add rows decks = if is_any_there rows decks then Some NameTaken else if nat_lt most_decks (length rows + length decks) then Some TooManyDecks else None
 
-module _ {C : Type 0} (makes : C → Call → Reply → C → Type 0) where
+module _ {C : Type 0} (calls : DeskRelations C) where
   -- a deck is added, and what is shown of the reply is shown of it
   pub record AddsDeck (deck : Deck) (desk next : C) (line : ToldDeck) : Type 0 where
     pub reply : Reply
-    pub made : makes desk (AddDeck deck) reply next
+    pub made : calls.changes desk (AddDeck deck) reply next
     pub told : line ≡ told_deck deck.name (told_of_call reply)
 
   -- decks are added one after the other, also behind one that is refused
@@ -41,7 +41,7 @@ module _ {C : Type 0} (makes : C → Call → Reply → C → Type 0) where
   pub record AddsAll (decks : List Deck) (desk next : C) (answer : Answer) : Type 0 where
     pub reply : Reply
     pub between : C
-    pub made : makes desk Status reply between
+    pub made : calls.asks desk Status reply between
     pub kept : AddsTold decks (told_of_call reply) between next answer
 
   -- the decks are added, or why there are none is shown
@@ -59,9 +59,9 @@ module _ {C : Type 0} (makes : C → Call → Reply → C → Type 0) where
   AddsLoadedDecks (Ok cards) desk next answer = AddsFile cards desk next answer
   AddsLoadedDecks (Err fault) desk next answer = (next ≡ desk) × (answer ≡ uncalled (told.Refused (load_reason fault)))
 
-module _ {C S : Type 0} (makes : C → Call → Reply → C → Type 0) (files : ShelfRelations S) where
+module _ {C S : Type 0} (calls : DeskRelations C) (files : ShelfRelations S) where
   -- LOADALL: one load of the shelf, and then the calls of the desk; the shelf knows nothing of it afterwards
   pub record LoadsAll (name : List ℕ) (desk next : C) (shelf after : S) (answer : Answer) : Type 0 where
     pub loaded : Result (List Card) ShelfLoadFault
     pub shelved : ShelfLoads files name shelf loaded after
-    pub added : AddsLoadedDecks makes loaded desk next answer
+    pub added : AddsLoadedDecks calls loaded desk next answer

@@ -1,25 +1,11 @@
 -- What a session may do (ours): one that may only ask is refused whatever changes a deck or a file, behind what its lines are refused for, and nothing is called.
 use Rattle.std.specs.Prelude.{Bool, true, false, if◌then◌else◌}
-use Rattle.desk_core.specs.declared.calls.Call.{Call}
-use Rattle.desk_core.specs.declared.calls.Call.TheVariants as call
 use Rattle.session_commands.specs.declared.refusals.Refusal.TheVariants.{ReadOnly}
-use Rattle.session_line.specs.declared.{rights.Rights.Rights, rights.Rights.TheVariants.{Edits, Reads}, tasks.Task.Task, tasks.Task.TheVariants.{Ask, LoadDeck, LoadAll, ReloadDeck, SaveDeck, SaveAll, Refuse}}
-
--- whether a call changes decks
-abbrev pub makes_change : Call → Bool
-makes_change (call.AddDeck deck) = true
-makes_change (call.PutDeck deck seen) = true
-makes_change (call.DropDeck name seen) = true
-makes_change (call.EditDeck name seen edit by) = true
-makes_change (call.Batch name seen edits by) = true
-makes_change (call.EditSince name seen edit by) = true
-makes_change (call.BatchSince name seen edits by) = true
-makes_change (call.Undo name version by) = true
-makes_change _ = false
+use Rattle.session_line.specs.declared.{rights.Rights.Rights, rights.Rights.TheVariants.{Edits, Reads}, tasks.Task.Task, tasks.Task.TheVariants.{Make, LoadDeck, LoadAll, ReloadDeck, SaveDeck, SaveAll, Refuse}}
 
 -- whether a task changes a deck or a file
 abbrev pub changes : Task → Bool
-changes (Ask call) = makes_change call
+changes (Make change) = true
 changes (LoadDeck name) = true
 changes (LoadAll name) = true
 changes (ReloadDeck name) = true

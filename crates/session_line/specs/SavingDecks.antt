@@ -2,7 +2,7 @@
 use Rattle.std.specs.Prelude.{ℕ, ◌≡◌, List}
 use Rattle.definitions.specs.Cards.{Card}
 use Rattle.deck_files.specs.{declared.deck_shelf.ShelfSaveFault.ShelfSaveFault, declared.deck_shelf.SaveOver.SaveOver, Savings.saving, ShelfRelations.ShelfRelations}
-use Rattle.desk_core.specs.declared.{calls.Call.Call, calls.Call.TheVariants.Cards, replies.Reply.Reply}
+use Rattle.desk_core.specs.declared.{calls.Question.Question, calls.Question.TheVariants.Cards, replies.Reply.Reply}
 use Rattle.session_commands.specs.declared.views.CardsView.TheVariants.{All}
 use Rattle.session_line.specs.{declared.answers.Told.Told, declared.answers.Answer.Answer, Reasons.save_reason, Answers.{told_of_cards, called}}
 use Rattle.session_line.specs.declared.answers.Told.TheVariants as told
@@ -18,9 +18,9 @@ module _ {S : Type 0} (files : ShelfRelations S) where
   SavesTold name over (told.Cards version cards view) shelf after answer = SavesCards name over version cards shelf after answer
   SavesTold name over what shelf after answer = (after ≡ shelf) × (answer ≡ called what)
 
-module _ {C S : Type 0} (makes : C → Call → Reply → C → Type 0) (files : ShelfRelations S) where
+module _ {C S : Type 0} (asks : C → Question → Reply → C → Type 0) (files : ShelfRelations S) where
   -- SAVE: the desk is asked for the cards, and then the shelf saves them
   pub record SavesDeck (name : List ℕ) (over : SaveOver) (desk next : C) (shelf after : S) (answer : Answer) : Type 0 where
     pub reply : Reply
-    pub made : makes desk (Cards name) reply next
+    pub made : asks desk (Cards name) reply next
     pub kept : SavesTold files name over (told_of_cards All reply) shelf after answer

@@ -3,9 +3,9 @@ use Rattle.std.specs.{Prelude.{ℕ, ◌≡◌, ◌⊎◌, ⊤, ◌<◌, Bool, tr
 use Rattle.definitions.specs.InputLines.{Line, lines_of}
 use Rattle.text_ports.specs.{Lines.ReadsLine, Faults.count_up, declared.lines.LineIs.LineIs}
 use Rattle.text_ports.specs.declared.lines.LineIs.TheVariants as line
-use Rattle.desk_core.specs.declared.calls.Call.TheVariants.{Batch, BatchSince, PutDeck}
+use Rattle.desk_core.specs.declared.calls.{Change.TheVariants.{PutDeck, EditDeck}, Edits.TheVariants.Batch}
 use Rattle.session_commands.specs.{Commands.command_of, declared.refusals.Refusal.TheVariants.OutOfMemory}
-use Rattle.session_line.specs.{declared.tasks.Task.Task, declared.tasks.Task.TheVariants.{Ask, Refuse}, declared.reading.Stop.Stop, declared.reading.Stop.TheVariants.{InputEnded, InputFailed}, Tasks.{lines_due, task_of}}
+use Rattle.session_line.specs.{declared.tasks.Task.Task, declared.tasks.Task.TheVariants.{Make, Refuse}, declared.reading.Stop.Stop, declared.reading.Stop.TheVariants.{InputEnded, InputFailed}, Tasks.{lines_due, task_of}}
 
 -- the reader lost exactly these whole lines, whatever follows them
 pub record TakesLines (old new : Option (List ℕ)) (lines : List (List ℕ)) : Type 0 where
@@ -51,9 +51,8 @@ pub record StopsWithin (old new : Option (List ℕ)) (count : ℕ) (stop : Stop)
 
 -- whether a task is a batch or a put, whose edits or cards are a list in memory
 abbrev pub has_list : Task → Bool
-has_list (Ask (Batch name version edits by)) = true
-has_list (Ask (BatchSince name version edits by)) = true
-has_list (Ask (PutDeck deck version)) = true
+has_list (Make (EditDeck name seen (Batch edits))) = true
+has_list (Make (PutDeck deck version)) = true
 has_list _ = false
 
 -- the task of some lines; of a batch or a put also that there is no memory for its list

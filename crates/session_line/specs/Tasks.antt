@@ -1,12 +1,12 @@
 -- What a session asks for: the lines of one command, and the task that they are (ours).
-use Rattle.std.specs.Prelude.{ℕ, ◌+◌, Bool, true, false, List, [], ◌∷◌, codes, Result, Ok, Err}
+use Rattle.std.specs.Prelude.{ℕ, ◌+◌, Bool, true, false, List, [], ◌∷◌, Result, Ok, Err}
 use Rattle.definitions.specs.Cards.{Card}
 use Rattle.cards.specs.declared.edits.Edit.{Edit}
-use Rattle.desk_core.specs.declared.calls.Call.{TheVariants.{AddDeck, PutDeck, DropDeck, EditDeck, Batch, EditSince, BatchSince, Undo, Changes, Status}, Call}
-use Rattle.session_commands.specs.{declared.words.Seen.Seen, declared.words.Seen.TheVariants.{Exactly, Since}, declared.commands.Command.Command, declared.refusals.Refusal.Refusal, Edits.{edit_in_batch, card_in_put}, Commands.command_of}
+use Rattle.desk_core.specs.declared.calls.{Edits.Edits, Change.TheVariants.{AddDeck, PutDeck, DropDeck, EditDeck, Undo}, Edits.TheVariants.{One, Batch}, Question.TheVariants.{Changes, Status}}
+use Rattle.session_commands.specs.{declared.words.Seen.Seen, declared.commands.Command.Command, declared.refusals.Refusal.Refusal, Edits.{edit_in_batch, card_in_put}, Commands.command_of}
 use Rattle.session_commands.specs.declared.commands.Command.TheVariants as command
 use Rattle.session_line.specs.declared.published_texts.DeckText.TheVariants as part
-use Rattle.session_line.specs.declared.{published_texts.PublishedText.TheVariants.{Image, Listing, Map}, tasks.Task.Task, tasks.Task.TheVariants.{Ask, AwaitVersion, ShowCards, ShowCardsAt, ShowText, ShowPart, ShowErrors, ShowWords, ShowNames, ShowSymbols, LoadDeck, LoadAll, ReloadDeck, SaveDeck, SaveAll, ShowFiles, ShowFileStatus, Greet, ShowHelp, Leave, Refuse}}
+use Rattle.session_line.specs.declared.{published_texts.PublishedText.TheVariants.{Image, Listing, Map}, tasks.Task.Task, tasks.Task.TheVariants.{Make, Ask, AwaitVersion, ShowCards, ShowCardsAt, ShowText, ShowPart, ShowErrors, ShowWords, ShowNames, ShowSymbols, LoadDeck, LoadAll, ReloadDeck, SaveDeck, SaveAll, ShowFiles, ShowFileStatus, Greet, ShowHelp, Leave, Refuse}}
 
 -- how many lines belong to a command behind its first
 abbrev pub lines_behind : Command → ℕ
@@ -43,23 +43,13 @@ edits_of lines = items_from (λ number line. edit_in_batch line) 1 lines
 abbrev pub cards_of : List (List ℕ) → Result (List Card) Refusal
 cards_of lines = items_from card_in_put 1 lines
 
--- the name in a call of a session, which knows none: the door that keeps the changes sets it
-abbrev pub nobody : List ℕ
-nobody = codes "0"
-
--- the call that asks for an edit
-abbrev pub edit_call : List ℕ → Seen → Edit → Call
-edit_call name (Exactly version) edit = EditDeck name version edit nobody
-edit_call name (Since version) edit = EditSince name version edit nobody
-
--- the call that asks for a batch of edits
-abbrev pub batch_call : List ℕ → Seen → List Edit → Call
-batch_call name (Exactly version) edits = Batch name version edits nobody
-batch_call name (Since version) edits = BatchSince name version edits nobody
+-- these edits of a deck, by one who has seen this
+abbrev pub edits_asked : List ℕ → Seen → Edits → Task
+edits_asked name seen edits = Make (EditDeck name seen edits)
 
 -- a batch of edits, where its lines are edits
 abbrev pub batch_of : List ℕ → Seen → Result (List Edit) Refusal → Task
-batch_of name seen (Ok edits) = Ask (batch_call name seen edits)
+batch_of name seen (Ok edits) = edits_asked name seen (Batch edits)
 batch_of name seen (Err refusal) = Refuse refusal
 
 -- a batch, where its name is one; the name counts before the lines
@@ -69,7 +59,7 @@ batch_named (Err refusal) seen edits = Refuse refusal
 
 -- a deck of these cards, where its lines are cards
 abbrev pub put_of : List ℕ → ℕ → Result (List Card) Refusal → Task
-put_of name version (Ok cards) = Ask (PutDeck (record { name = name; cards = cards }) version)
+put_of name version (Ok cards) = Make (PutDeck (record { name = name; cards = cards }) version)
 put_of name version (Err refusal) = Refuse refusal
 
 -- a put, where its name is one; the name counts before the lines
@@ -79,12 +69,12 @@ put_named (Err refusal) version cards = Refuse refusal
 
 -- what a command asks for, with the lines behind it
 abbrev pub task_of_command : Command → List (List ℕ) → Task
-task_of_command (command.Add name) lines = Ask (AddDeck (record { name = name; cards = [] }))
+task_of_command (command.Add name) lines = Make (AddDeck (record { name = name; cards = [] }))
 task_of_command (command.Load name) lines = LoadDeck name
 task_of_command (command.LoadAll name) lines = LoadAll name
 task_of_command (command.Reload name) lines = ReloadDeck name
-task_of_command (command.Drop name version) lines = Ask (DropDeck name version)
-task_of_command (command.Edit name seen edit) lines = Ask (edit_call name seen edit)
+task_of_command (command.Drop name version) lines = Make (DropDeck name version)
+task_of_command (command.Edit name seen edit) lines = edits_asked name seen (One edit)
 task_of_command (command.Cards name view) lines = ShowCards name view
 task_of_command (command.CardsAt name version) lines = ShowCardsAt name version
 task_of_command (command.Changes name version) lines = Ask (Changes name version)
@@ -105,7 +95,7 @@ task_of_command command.Files lines = ShowFiles
 task_of_command (command.Wait version) lines = AwaitVersion version
 task_of_command (command.Batch head) lines = batch_named head.name head.seen (edits_of lines)
 task_of_command (command.Put head) lines = put_named head.name head.version (cards_of lines)
-task_of_command (command.Undo name version) lines = Ask (Undo name version nobody)
+task_of_command (command.Undo name version) lines = Make (Undo name version)
 task_of_command (command.Hello name) lines = Greet name
 task_of_command command.Help lines = ShowHelp
 task_of_command command.Bye lines = Leave

@@ -5,7 +5,7 @@ ghost use Rattle.session_line.specs.Asking.{Asks, NotesTold};
 ghost use Rattle.session_line.specs.Executing.{AsksAt, AsksShown, AwaitsVersion, Executes, Greets, LoadsDeck};
 ghost use Rattle.session_line.specs.Messages.{IsToldNames, IsToldSymbols, IsToldWords};
 ghost use Rattle.session_line.specs.SavingDecks.{SavesCards, SavesDeck};
-ghost use Rattle.desk_core.specs.declared.calls.Call.TheVariants.{Cards, Show, Status};
+ghost use Rattle.desk_core.specs.declared.calls.Question.TheVariants.{Cards, Show, Status};
 
 use crate::answers::{
     Answer, Told, told_of_call, told_of_cards, told_of_cards_at, told_of_errors, told_of_greeting,
@@ -23,7 +23,7 @@ use crate::saving_all::save_all;
 use crate::tasks::Task;
 use cards::{Card, DeckName};
 use deck_files::{SaveOver, Shelf};
-use desk_core::{Call, NewDeck};
+use desk_core::{Change, NewDeck, Question};
 use session_commands::{CardsView, ErrorsView};
 use std::alloc::Global;
 use std::hash::RandomState;
@@ -48,12 +48,20 @@ pub(crate) fn uncalled(told: Told) -> Answer
     }
 }
 
-/// One call of the desk that shows neither cards nor a publication.
-pub(crate) fn ask<C: Calls>(desk: &mut C, call: Call) -> Answer
-    ensures asks { Asks C.relations.makes call told_of_call desk.old desk.new result }
+/// A change of the desk.
+pub(crate) fn make<C: Calls>(desk: &mut C, change: Change) -> Answer
+    ensures makes { Asks C.relations.changes change told_of_call desk.old desk.new result }
     ensures fits { IsTellable result.told }
 {
-    called(told_of_call(desk.call(call)))
+    called(told_of_call(desk.change(change)))
+}
+
+/// A question that shows neither cards nor a publication.
+fn ask<C: Calls>(desk: &mut C, question: Question) -> Answer
+    ensures asks { Asks C.relations.asks question told_of_call desk.old desk.new result }
+    ensures fits { IsTellable result.told }
+{
+    called(told_of_call(desk.ask(question)))
 }
 
 /// The desk answers who waits for a version.
@@ -74,75 +82,75 @@ fn greet<C: Calls>(alloc: Global, desk: &mut C, name: &DeckName) -> Answer
 
 /// The desk is asked for its version, and what may be asked is shown.
 fn show_help<C: Calls>(desk: &mut C) -> Answer
-    ensures asks { Asks C.relations.makes Status told_of_help desk.old desk.new result }
+    ensures asks { Asks C.relations.asks Status told_of_help desk.old desk.new result }
     ensures fits { IsTellable result.told }
 {
-    called(told_of_help(desk.call(Call::Status)))
+    called(told_of_help(desk.ask(Question::Status)))
 }
 
 /// The desk is asked for the cards of the deck.
 fn show_cards<C: Calls>(desk: &mut C, name: DeckName, view: CardsView) -> Answer
-    ensures asks { Asks C.relations.makes (Cards name) (told_of_cards view) desk.old desk.new result }
+    ensures asks { Asks C.relations.asks (Cards name) (told_of_cards view) desk.old desk.new result }
     ensures fits { IsTellable result.told }
 {
-    called(told_of_cards(view, desk.call(Call::Cards(name))))
+    called(told_of_cards(view, desk.ask(Question::Cards(name))))
 }
 
 /// The desk is asked for the cards of now and the changes since a version, and these are taken back.
 fn show_cards_at<C: Calls>(alloc: Global, desk: &mut C, name: DeckName, version: u64) -> Answer
-    ensures asks { AsksAt C.relations.makes name version desk.old desk.new result }
+    ensures asks { AsksAt C.relations.asks name version desk.old desk.new result }
     ensures fits { IsTellable result.told }
 {
-    let reply = desk.call(Call::CardsAt { name, version });
+    let reply = desk.ask(Question::CardsAt { name, version });
     called(told_of_cards_at(alloc, reply))
 }
 
 /// The desk is asked for the publication.
 fn show_text<C: Calls>(desk: &mut C, text: PublishedText) -> Answer
-    ensures asks { Asks C.relations.makes Show (told_of_publication text) desk.old desk.new result }
+    ensures asks { Asks C.relations.asks Show (told_of_publication text) desk.old desk.new result }
     ensures fits { IsTellable result.told }
 {
-    called(told_of_publication(text, desk.call(Call::Show)))
+    called(told_of_publication(text, desk.ask(Question::Show)))
 }
 
 /// The desk is asked for the publication, and a text of one deck is shown.
 fn show_part<C: Calls>(desk: &mut C, text: DeckText, name: DeckName) -> Answer
-    ensures asks { Asks C.relations.makes Show (told_of_part text name) desk.old desk.new result }
+    ensures asks { Asks C.relations.asks Show (told_of_part text name) desk.old desk.new result }
     ensures fits { IsTellable result.told }
 {
-    called(told_of_part(text, name, desk.call(Call::Show)))
+    called(told_of_part(text, name, desk.ask(Question::Show)))
 }
 
 /// The desk is asked for the publication, and what is flagged in it is shown.
 fn show_errors<C: Calls>(desk: &mut C, view: ErrorsView) -> Answer
-    ensures asks { Asks C.relations.makes Show (told_of_errors view) desk.old desk.new result }
+    ensures asks { Asks C.relations.asks Show (told_of_errors view) desk.old desk.new result }
     ensures fits { IsTellable result.told }
 {
-    called(told_of_errors(view, desk.call(Call::Show)))
+    called(told_of_errors(view, desk.ask(Question::Show)))
 }
 
 /// The desk is asked for the publication, and what is said of what is flagged in one deck is shown.
 fn show_words<C: Calls>(alloc: Global, keys: RandomState, desk: &mut C, name: &DeckName) -> Answer
-    ensures asks { AsksShown C.relations.makes (IsToldWords name.now) desk.old desk.new result }
+    ensures asks { AsksShown C.relations.asks (IsToldWords name.now) desk.old desk.new result }
     ensures fits { IsTellable result.told }
 {
-    called(told_of_words(alloc, keys, name, desk.call(Call::Show)))
+    called(told_of_words(alloc, keys, name, desk.ask(Question::Show)))
 }
 
 /// The desk is asked for the publication, and the names are shown that decks enter or have as externals.
 fn show_names<C: Calls>(alloc: Global, desk: &mut C) -> Answer
-    ensures asks { AsksShown C.relations.makes IsToldNames desk.old desk.new result }
+    ensures asks { AsksShown C.relations.asks IsToldNames desk.old desk.new result }
     ensures fits { IsTellable result.told }
 {
-    called(told_of_names(alloc, desk.call(Call::Show)))
+    called(told_of_names(alloc, desk.ask(Question::Show)))
 }
 
 /// The desk is asked for the publication, and the symbols of one deck are shown.
 fn show_symbols<C: Calls>(alloc: Global, keys: RandomState, desk: &mut C, name: &DeckName) -> Answer
-    ensures asks { AsksShown C.relations.makes (IsToldSymbols name.now) desk.old desk.new result }
+    ensures asks { AsksShown C.relations.asks (IsToldSymbols name.now) desk.old desk.new result }
     ensures fits { IsTellable result.told }
 {
-    called(told_of_symbols(alloc, keys, name, desk.call(Call::Show)))
+    called(told_of_symbols(alloc, keys, name, desk.ask(Question::Show)))
 }
 
 /// The shelf notes the version that is shown of the deck, if one is.
@@ -157,12 +165,12 @@ pub(crate) fn note_told<S: Shelf>(shelf: &mut S, name: &DeckName, told: &Told)
 
 /// One load of the shelf, then the addition of its cards to the desk, and the version of that goes to the shelf.
 fn load_deck<C: Calls, S: Shelf>(desk: &mut C, shelf: &mut S, name: DeckName) -> Answer
-    ensures loads { LoadsDeck C.relations.makes S.relations name desk.old desk.new shelf.old shelf.new result }
+    ensures loads { LoadsDeck C.relations.changes S.relations name desk.old desk.new shelf.old shelf.new result }
     ensures fits { IsTellable result.told }
 {
     match shelf.load(&name) {
         Ok(cards) => {
-            let answer = ask(desk, Call::AddDeck(NewDeck::new(name.copied(), cards)));
+            let answer = make(desk, Change::AddDeck(NewDeck::new(name.copied(), cards)));
             note_told(shelf, &name, &answer.told);
             answer
         }
@@ -195,10 +203,10 @@ pub(crate) fn save_deck<C: Calls, S: Shelf>(
     name: &DeckName,
     over: SaveOver,
 ) -> Answer
-    ensures saves { SavesDeck C.relations.makes S.relations name.now over desk.old desk.new shelf.old shelf.new result }
+    ensures saves { SavesDeck C.relations.asks S.relations name.now over desk.old desk.new shelf.old shelf.new result }
     ensures fits { IsTellable result.told }
 {
-    match told_of_cards(CardsView::All, desk.call(Call::Cards(name.copied()))) {
+    match told_of_cards(CardsView::All, desk.ask(Question::Cards(name.copied()))) {
         Told::Cards(version, cards, _) => {
             save_cards(shelf, name, over, version, cards.as_slice())
         }
@@ -219,7 +227,8 @@ pub(crate) fn execute<C: Calls, S: Shelf>(
     ensures fits { IsTellable result.told }
 {
     match task {
-        Task::Ask(call) => ask(desk, call),
+        Task::Make(change) => make(desk, change),
+        Task::Ask(question) => ask(desk, question),
         Task::AwaitVersion(version) => await_version(desk, version),
         Task::ShowCards(name, view) => show_cards(desk, name, view),
         Task::ShowCardsAt(name, version) => show_cards_at(alloc, desk, name, version),

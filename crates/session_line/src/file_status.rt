@@ -8,7 +8,7 @@ use crate::calls::Calls;
 use crate::executing::called;
 use crate::marked_rows::{MarkedRow, marked};
 use deck_files::Shelf;
-use desk_core::{Call, Listed, Row};
+use desk_core::{Listed, Question, Row};
 use session_commands::Refusal;
 use std::alloc::{AllocError, Global};
 
@@ -55,10 +55,10 @@ pub(crate) fn show_file_status<C: Calls, S: Shelf>(
     desk: &mut C,
     shelf: &mut S,
 ) -> Answer
-    ensures shows { ShowsFileStatus C.relations.makes S.relations desk.old desk.new shelf.old shelf.new result }
+    ensures shows { ShowsFileStatus C.relations.asks S.relations desk.old desk.new shelf.old shelf.new result }
     ensures fits { IsTellable result.told }
 {
-    match told_of_call(desk.call(Call::Status)) {
+    match told_of_call(desk.ask(Question::Status)) {
         Told::Status(version, published, rows) => {
             tell_marks(alloc, shelf, version, published, rows.as_slice())
         }

@@ -8,7 +8,7 @@ use crate::calls::Calls;
 use crate::executing::called;
 use crate::reasons::load_reason;
 use deck_files::Shelf;
-use desk_core::{Call, Listed};
+use desk_core::{Listed, Question};
 
 /// One call of the shelf for its files, which are shown with this version.
 fn tell_files<S: Shelf>(shelf: &mut S, version: u64) -> Answer
@@ -23,10 +23,10 @@ fn tell_files<S: Shelf>(shelf: &mut S, version: u64) -> Answer
 
 /// The desk is asked for its version, and then the shelf for its files.
 pub(crate) fn show_files<C: Calls, S: Shelf>(desk: &mut C, shelf: &mut S) -> Answer
-    ensures shows { ShowsFiles C.relations.makes S.relations desk.old desk.new shelf.old shelf.new result }
+    ensures shows { ShowsFiles C.relations.asks S.relations desk.old desk.new shelf.old shelf.new result }
     ensures fits { IsTellable result.told }
 {
-    match told_of_wait(desk.call(Call::Status)) {
+    match told_of_wait(desk.ask(Question::Status)) {
         Told::Standing(version, _) => tell_files(shelf, version),
         told => called(told),
     }

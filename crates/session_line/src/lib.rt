@@ -3,11 +3,11 @@
 //! what a desk does with a call, where a shelf keeps its files, or what a port is.
 //!
 //! All lines of a batch or a put are read before the first is looked at, so a fault or an end among them
-//! makes no call. A `Task` is what a command asks for: one call of the desk, a load, a save, the
+//! makes no call. A `Task` is what a command asks for: a change, a question, a load, a save, the
 //! end, or nothing, for a reason; only SAVEALL, LOADALL and RELOAD call the desk more than once. LOAD reads the shelf
 //! first, so that a file that is no deck adds none; SAVE asks the desk first. A reply borrows its cards and texts, and takes no memory. What
-//! one call makes of a desk is named by the trait `Calls`: a `Desk` meets it with its own clause,
-//! `SeatCalls` with that of `Seat::call`.
+//! a change or a question makes of a desk is named by the trait `Calls`, and what one call makes by `Called`: a
+//! `Desk` meets that with its own clause, `SeatCalls` with that of `Seat::call`.
 #![tactic(auto)]
 
 // What is shown.
@@ -60,7 +60,7 @@ mod taken_lines;
 // What clients may rest on.
 mod desk_laws;
 
-pub use calls::Calls;
+pub use calls::{Called, Calls};
 pub use desk_laws::a_desk_answers_sessions;
 pub use greetings::{Connected, Greeting, VERSION};
 pub use marked_rows::MarkedRow;

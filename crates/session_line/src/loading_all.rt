@@ -12,7 +12,7 @@ use crate::told_decks::{ToldDeck, outcome_of};
 use cards::{Card, DeckName};
 use deck_cuts::{Deck, is_taken};
 use deck_files::Shelf;
-use desk_core::{Call, Listed, NewDeck, Row};
+use desk_core::{Change, Listed, NewDeck, Question, Row};
 use session_commands::Refusal;
 use std::alloc::{AllocError, Global};
 
@@ -41,11 +41,11 @@ fn refusal_to_add(rows: &[Row], decks: &[Deck]) -> Option<Refusal>
 
 /// The desk is asked to add a deck: what became of it.
 fn add_deck<C: Calls>(desk: &mut C, deck: Deck) -> ToldDeck
-    ensures { AddsDeck C.relations.makes deck desk.old desk.new result }
+    ensures { AddsDeck C.relations deck desk.old desk.new result }
 {
     let (name, cards) = deck.into_parts();
     let added = name.copied();
-    let told = told_of_call(desk.call(Call::AddDeck(NewDeck::new(name, cards))));
+    let told = told_of_call(desk.change(Change::AddDeck(NewDeck::new(name, cards))));
     let outcome = outcome_of(&told);
     told.free();
     ToldDeck {
@@ -60,7 +60,7 @@ fn add_decks<C: Calls>(
     desk: &mut C,
     decks: Vec<Deck>,
 ) -> Result<Vec<ToldDeck>, AllocError>
-    ensures adds { IfOk result (λ lines. AddsDecks C.relations.makes desk.old decks.items lines.items desk.new) }
+    ensures adds { IfOk result (λ lines. AddsDecks C.relations desk.old decks.items lines.items desk.new) }
     ensures each { IfOk result (λ lines. length lines.items ≡ length decks.items) }
     ensures lacking { OnErr result (desk.new ≡ desk.old) }
 {
@@ -81,7 +81,7 @@ fn tell_adds<C: Calls>(
     decks: Vec<Deck>,
 ) -> Answer
     requires { length rows.now ≤ most_decks }
-    ensures tells { TellsAdds C.relations.makes version rows.now decks.items desk.old desk.new result }
+    ensures tells { TellsAdds C.relations version rows.now decks.items desk.old desk.new result }
     ensures fits { IsTellable result.told }
 {
     if let Some(refusal) = refusal_to_add(rows, decks.as_slice()) {
@@ -95,10 +95,10 @@ fn tell_adds<C: Calls>(
 
 /// The desk is asked for its status, and then to add the decks.
 fn add_all<C: Calls>(alloc: Global, desk: &mut C, decks: Vec<Deck>) -> Answer
-    ensures adds { AddsAll C.relations.makes decks.items desk.old desk.new result }
+    ensures adds { AddsAll C.relations decks.items desk.old desk.new result }
     ensures fits { IsTellable result.told }
 {
-    match told_of_call(desk.call(Call::Status)) {
+    match told_of_call(desk.ask(Question::Status)) {
         Told::Status(version, _, rows) => tell_adds(alloc, desk, version, rows.as_slice(), decks),
         told => called(told),
     }
@@ -125,7 +125,7 @@ pub(crate) fn load_all<C: Calls, S: Shelf>(
     shelf: &mut S,
     name: &DeckName,
 ) -> Answer
-    ensures loads { LoadsAll C.relations.makes S.relations name.now desk.old desk.new shelf.old shelf.new result }
+    ensures loads { LoadsAll C.relations S.relations name.now desk.old desk.new shelf.old shelf.new result }
     ensures fits { IsTellable result.told }
 {
     match shelf.load(name) {

@@ -8,13 +8,13 @@ ghost use Rattle.session_line.specs.Reloading.{PutsOver, ReloadsDeck, version_in
 
 use crate::answers::{Answer, Told};
 use crate::calls::Calls;
-use crate::executing::{ask, called, note_told, uncalled};
+use crate::executing::{called, make, note_told, uncalled};
 use crate::reasons::load_reason;
 use crate::replied::status_in;
 use cards::{Card, DeckName};
 use deck_files::Shelf;
 use definitions::is_same_text;
-use desk_core::{Call, NewDeck, Reply, Row};
+use desk_core::{Change, NewDeck, Question, Reply, Row};
 use session_commands::Refusal;
 
 /// The deck of a name among those of a status.
@@ -48,13 +48,13 @@ fn version_told(name: &DeckName, reply: Reply) -> Result<u64, Refusal>
 /// The desk is asked for its status, and then to put these cards in the place of those of the deck, by the
 /// version that it has there.
 fn put_over<C: Calls>(desk: &mut C, name: &DeckName, cards: Vec<Card>) -> Answer
-    ensures puts { PutsOver C.relations.makes (record { name = name.now; cards = cards.items }) desk.old desk.new result }
+    ensures puts { PutsOver C.relations (record { name = name.now; cards = cards.items }) desk.old desk.new result }
     ensures fits { IsTellable result.told }
 {
-    match version_told(name, desk.call(Call::Status)) {
-        Ok(seen) => ask(
+    match version_told(name, desk.ask(Question::Status)) {
+        Ok(seen) => make(
             desk,
-            Call::PutDeck {
+            Change::PutDeck {
                 deck: NewDeck::new(name.copied(), cards),
                 seen,
             },
@@ -70,7 +70,7 @@ pub(crate) fn reload_deck<C: Calls, S: Shelf>(
     shelf: &mut S,
     name: &DeckName,
 ) -> Answer
-    ensures reloads { ReloadsDeck C.relations.makes S.relations name.now desk.old desk.new shelf.old shelf.new result }
+    ensures reloads { ReloadsDeck C.relations S.relations name.now desk.old desk.new shelf.old shelf.new result }
     ensures fits { IsTellable result.told }
 {
     match shelf.load(name) {

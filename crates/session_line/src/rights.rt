@@ -1,10 +1,9 @@
 //! What a session may do: edit and ask, or ask alone.
 ghost use Rattle.std.specs.Prelude.{◌≡◌};
-ghost use Rattle.session_line.specs.Rights.{allowed, makes_change};
+ghost use Rattle.session_line.specs.Rights.{allowed};
 
 use crate::tasks::Task;
 use cards::DeckName;
-use desk_core::Call;
 use session_commands::Refusal;
 
 /// What a session may do.
@@ -14,30 +13,6 @@ pub enum Rights {
     Edits,
     /// It may ask, and change no deck and no file.
     Reads,
-}
-
-/// Whether a call changes decks.
-fn makes_change(call: &Call) -> bool
-    ensures { result ≡ makes_change call.now }
-{
-    match call {
-        Call::AddDeck(_) | Call::PutDeck { .. } | Call::DropDeck { .. } => true,
-        Call::EditDeck { .. } | Call::Batch { .. } | Call::EditSince { .. } => true,
-        Call::BatchSince { .. } | Call::Undo { .. } => true,
-        _ => false,
-    }
-}
-
-/// What is done of a call by who may only ask.
-fn call_to_read(call: Call) -> Task
-    ensures { result ≡ allowed Rights.Reads (Task.Ask call) }
-{
-    if makes_change(&call) {
-        call.free();
-        Task::Refuse(Refusal::ReadOnly)
-    } else {
-        Task::Ask(call)
-    }
 }
 
 /// What is done of a task that changes the deck or the file of this name.
@@ -53,7 +28,10 @@ fn task_to_read(task: Task) -> Task
     ensures { result ≡ allowed Rights.Reads task }
 {
     match task {
-        Task::Ask(call) => call_to_read(call),
+        Task::Make(change) => {
+            change.free();
+            Task::Refuse(Refusal::ReadOnly)
+        }
         Task::LoadDeck(name) | Task::LoadAll(name) | Task::ReloadDeck(name) => refused(name),
         Task::SaveDeck(name, _) => refused(name),
         Task::SaveAll => Task::Refuse(Refusal::ReadOnly),

@@ -8,13 +8,13 @@ use crate::calls::Calls;
 use crate::executing::{called, save_deck};
 use crate::told_decks::{ToldDeck, outcome_of};
 use deck_files::{SaveOver, Shelf};
-use desk_core::{Call, Listed, Row};
+use desk_core::{Listed, Question, Row};
 use session_commands::Refusal;
 use std::alloc::{AllocError, Global};
 
 /// Saves a deck, where its file has not its cards: what became of it.
 fn save_row<C: Calls, S: Shelf>(desk: &mut C, shelf: &mut S, row: &Row) -> Option<ToldDeck>
-    ensures { SavesRow C.relations.makes S.relations row.now desk.old desk.new shelf.old shelf.new result }
+    ensures { SavesRow C.relations.asks S.relations row.now desk.old desk.new shelf.old shelf.new result }
 {
     if shelf.is_saved(&row.name, row.version) {
         return None;
@@ -48,7 +48,7 @@ fn save_rows<C: Calls, S: Shelf>(
     shelf: &mut S,
     rows: &[Row],
 ) -> Result<Vec<ToldDeck>, AllocError>
-    ensures saved { IfOk result (λ saved. SavesRows C.relations.makes S.relations desk.old shelf.old rows.now saved.items desk.new shelf.new) }
+    ensures saved { IfOk result (λ saved. SavesRows C.relations.asks S.relations desk.old shelf.old rows.now saved.items desk.new shelf.new) }
     ensures few { IfOk result (λ saved. length saved.items ≤ length rows.now) }
     ensures desk { OnErr result (desk.new ≡ desk.old) }
     ensures shelf { OnErr result (shelf.new ≡ shelf.old) }
@@ -70,7 +70,7 @@ fn tell_saves<C: Calls, S: Shelf>(
     rows: &[Row],
 ) -> Answer
     requires { length rows.now ≤ most_decks }
-    ensures tells { TellsSaves C.relations.makes S.relations version rows.now desk.old desk.new shelf.old shelf.new result }
+    ensures tells { TellsSaves C.relations.asks S.relations version rows.now desk.old desk.new shelf.old shelf.new result }
     ensures fits { IsTellable result.told }
 {
     match save_rows(alloc, desk, shelf, rows) {
@@ -81,10 +81,10 @@ fn tell_saves<C: Calls, S: Shelf>(
 
 /// The desk is asked for its status, and then each deck is saved whose file has not its cards.
 pub(crate) fn save_all<C: Calls, S: Shelf>(alloc: Global, desk: &mut C, shelf: &mut S) -> Answer
-    ensures saves { SavesAll C.relations.makes S.relations desk.old desk.new shelf.old shelf.new result }
+    ensures saves { SavesAll C.relations.asks S.relations desk.old desk.new shelf.old shelf.new result }
     ensures fits { IsTellable result.told }
 {
-    match told_of_call(desk.call(Call::Status)) {
+    match told_of_call(desk.ask(Question::Status)) {
         Told::Status(version, _, rows) => tell_saves(alloc, desk, shelf, version, rows.as_slice()),
         told => called(told),
     }

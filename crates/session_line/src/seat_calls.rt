@@ -1,10 +1,10 @@
 //! A desk that is called from a seat of its office.
 ghost use Rattle.std.specs.Prelude.{◌≡◌};
 
-use crate::calls::Calls;
+use crate::calls::{Called, Calls, unnamed};
 use crate::greetings::Greeting;
 use cards::DeckName;
-use desk_core::{Call, Desk, Reply};
+use desk_core::{Call, Change, Desk, Question, Reply};
 use std::alloc::Global;
 use std::sync::Wait;
 use turn_office::{Office, Seat};
@@ -39,25 +39,39 @@ impl<'a, R> SeatCalls<'a, R> {
 }
 
 /// Each reply is the desk's at one point of one legal history, which begins with all that the seat
-/// had seen and ends with the call. It knows of no bell, so it answers at once who waits, and of
-/// no session, so it keeps no names.
-impl<R: Wait> Calls for SeatCalls<'_, R> {
-    ghost use Rattle.session_line.specs.DeskRelations.{seated};
+/// had seen and ends with the call.
+impl<R: Wait> Called for SeatCalls<'_, R> {
+    ghost use Rattle.session_line.specs.DeskRelations.{asks_seat};
 
-    ghost relations = { seated (λ calls. calls.office.now) (λ calls. calls.seat) };
+    ghost makes = { asks_seat (λ calls. calls.office.now) (λ calls. calls.seat) };
 
     fn call(&mut self, call: Call) -> Reply {
         self.seat.call(self.rt, self.office, call)
     }
+}
+
+/// A seat by itself knows of no bell, so it answers at once who waits, and of no session, so it keeps no names.
+impl<R: Wait> Calls for SeatCalls<'_, R> {
+    ghost use Rattle.session_line.specs.DeskRelations.{alone, asks_seat};
+
+    ghost relations = { alone (asks_seat (λ calls. calls.office.now) (λ calls. calls.seat)) };
+
+    fn change(&mut self, change: Change) -> Reply {
+        self.call(unnamed(change))
+    }
+
+    fn ask(&mut self, question: Question) -> Reply {
+        self.call(Call::Ask(question))
+    }
 
     fn await_version(&mut self, version: u64) -> Reply {
         let _ = version;
-        self.seat.call(self.rt, self.office, Call::Status)
+        self.call(Call::Ask(Question::Status))
     }
 
     fn greet(&mut self, alloc: Global, name: &DeckName) -> Greeting {
         let _ = name;
-        Greeting::alone(alloc, self.seat.call(self.rt, self.office, Call::Status))
+        Greeting::alone(alloc, self.call(Call::Ask(Question::Status)))
     }
 
     fn begin_session(&mut self) {}

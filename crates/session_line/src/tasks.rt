@@ -3,7 +3,7 @@ ghost use Rattle.std.specs.Prelude.{◌≡◌, ℕ, true, false, List, Result, O
 ghost use Rattle.definitions.specs.Cards.{Card as Columns};
 ghost use Rattle.cards.specs.declared.edits.Edit.{Edit as CardEdit};
 ghost use Rattle.session_commands.specs.declared.refusals.Refusal.{Refusal as Reason};
-ghost use Rattle.session_line.specs.Tasks.{batch_call, batch_named, cards_of, edit_call, edits_of, is_put, lines_behind, lines_due, nobody, put_named, task_by, task_of_command};
+ghost use Rattle.session_line.specs.Tasks.{batch_named, cards_of, edits_asked, edits_of, is_put, lines_behind, lines_due, put_named, task_by, task_of_command};
 ghost use Rattle.session_line.specs.Taking.{IsTaskFor};
 ghost use Rattle.session_line.specs.Joins.LineItems.{IsRead, is_lacking};
 
@@ -11,16 +11,17 @@ use crate::line_items::ItemsRead;
 use crate::published_texts::{DeckText, PublishedText};
 use cards::{Card, DeckName, Edit};
 use deck_files::SaveOver;
-use desk_core::{Call, Listed, NewDeck};
+use desk_core::{Change, Edits, Listed, NewDeck, Question};
 use session_commands::{BatchHead, CardsView, Command, ErrorsView, LinesHead, Refusal, Seen};
 use std::alloc::Global;
 
 /// What a command asks for that was read whole.
 #[derive(Drop)]
 pub(crate) enum Task {
-    /// One call of the desk that shows neither cards nor a publication: a change, the changes of a deck, or
-    /// the status.
-    Ask(Call),
+    /// A change of the desk.
+    Make(Change),
+    /// A question that shows neither cards nor a publication: the changes of a deck, or the status.
+    Ask(Question),
     /// The status is asked for once this version or a later one is published.
     AwaitVersion(u64),
     /// This of the cards of the deck of this name is shown.
@@ -100,56 +101,11 @@ pub(crate) fn is_put(command: &Result<Command, Refusal>) -> bool
     matches!(command, Ok(Command::Put(_)))
 }
 
-/// The name in a call of a session, which knows none: the door that keeps the changes sets it.
-fn nobody() -> DeckName
-    ensures { result ≡ nobody }
+/// These edits of a deck are asked for, by one who has seen this.
+fn edits_asked(name: DeckName, seen: Seen, edits: Edits) -> Task
+    ensures { result ≡ edits_asked name seen edits }
 {
-    match DeckName::read(b"0") {
-        Ok(name) => name,
-        Err(_) => unreachable!(),
-    }
-}
-
-/// The call that asks for an edit.
-fn edit_call(name: DeckName, seen: Seen, edit: Edit) -> Call
-    ensures { result ≡ edit_call name seen edit }
-{
-    let by = nobody();
-    match seen {
-        Seen::Exactly(seen) => Call::EditDeck {
-            name,
-            seen,
-            edit,
-            by,
-        },
-        Seen::Since(seen) => Call::EditSince {
-            name,
-            seen,
-            edit,
-            by,
-        },
-    }
-}
-
-/// The call that asks for a batch of edits.
-fn batch_call(name: DeckName, seen: Seen, edits: Listed<Edit>) -> Call
-    ensures { result ≡ batch_call name seen edits }
-{
-    let by = nobody();
-    match seen {
-        Seen::Exactly(seen) => Call::Batch {
-            name,
-            seen,
-            edits,
-            by,
-        },
-        Seen::Since(seen) => Call::BatchSince {
-            name,
-            seen,
-            edits,
-            by,
-        },
-    }
+    Task::Make(Change::EditDeck { name, seen, edits })
 }
 
 /// A batch, with the edits of its lines; `OutOfMemory` only where there was no memory for them.
@@ -163,7 +119,7 @@ fn batch_named(head: BatchHead, edits: ItemsRead<Edit>) -> Task
         Err(refusal) => return Task::Refuse(refusal),
     };
     match edits {
-        ItemsRead::Whole(edits) => Task::Ask(batch_call(name, seen, Listed::new(edits))),
+        ItemsRead::Whole(edits) => edits_asked(name, seen, Edits::Batch(Listed::new(edits))),
         ItemsRead::Lacking => Task::Refuse(Refusal::OutOfMemory),
         ItemsRead::Faulty(refusal) => Task::Refuse(refusal),
     }
@@ -180,7 +136,7 @@ fn put_named(head: LinesHead, cards: ItemsRead<Card>) -> Task
         Err(refusal) => return Task::Refuse(refusal),
     };
     match cards {
-        ItemsRead::Whole(cards) => Task::Ask(Call::PutDeck {
+        ItemsRead::Whole(cards) => Task::Make(Change::PutDeck {
             deck: NewDeck::new(name, cards),
             seen,
         }),
@@ -208,18 +164,18 @@ fn task_of_command(alloc: Global, command: Command, edits: ItemsRead<Edit>) -> T
     ensures whole { is_lacking edits ≡ false → (lines : List (List ℕ)) → IsRead (edits_of lines) edits → result ≡ task_of_command command lines }
 {
     match command {
-        Command::Add { name } => Task::Ask(Call::AddDeck(NewDeck::new(name, Vec::new(alloc)))),
+        Command::Add { name } => Task::Make(Change::AddDeck(NewDeck::new(name, Vec::new(alloc)))),
         Command::Load { name } => Task::LoadDeck(name),
         Command::LoadAll { name } => Task::LoadAll(name),
         Command::Reload { name } => Task::ReloadDeck(name),
-        Command::Drop { name, version } => Task::Ask(Call::DropDeck {
+        Command::Drop { name, version } => Task::Make(Change::DropDeck {
             name,
             seen: version,
         }),
-        Command::Edit { name, seen, edit } => Task::Ask(edit_call(name, seen, edit)),
+        Command::Edit { name, seen, edit } => edits_asked(name, seen, Edits::One(edit)),
         Command::Cards { name, view } => Task::ShowCards(name, view),
         Command::CardsAt { name, version } => Task::ShowCardsAt(name, version),
-        Command::Changes { name, version } => Task::Ask(Call::Changes {
+        Command::Changes { name, version } => Task::Ask(Question::Changes {
             name,
             since: version,
         }),
@@ -234,17 +190,13 @@ fn task_of_command(alloc: Global, command: Command, edits: ItemsRead<Edit>) -> T
         Command::Words { name } => Task::ShowWords(name),
         Command::Names => Task::ShowNames,
         Command::Symbols { name } => Task::ShowSymbols(name),
-        Command::Status => Task::Ask(Call::Status),
+        Command::Status => Task::Ask(Question::Status),
         Command::FileStatus => Task::ShowFileStatus,
         Command::Files => Task::ShowFiles,
         Command::Wait { version } => Task::AwaitVersion(version),
         Command::Batch(head) => batch_named(head, edits),
         Command::Put(_) => unreachable!(),
-        Command::Undo { name, version } => Task::Ask(Call::Undo {
-            name,
-            version,
-            by: nobody(),
-        }),
+        Command::Undo { name, version } => Task::Make(Change::Undo { name, version }),
         Command::Hello { name } => Task::Greet(name),
         Command::Help => Task::ShowHelp,
         Command::Bye => Task::Leave,

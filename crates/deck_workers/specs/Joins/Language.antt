@@ -9,7 +9,8 @@ pub use Rattle.edit_core.specs.declared.faults.RecordFault.{RecordFault}
 pub use Rattle.edit_core.specs.declared.faults.RecordFault.TheVariants.{OutOfMemory}
 pub use Rattle.desk_core.specs.declared.calls.Done.{Done}
 pub use Rattle.desk_core.specs.declared.calls.Call.{Call}
-pub use Rattle.desk_core.specs.declared.calls.Call.TheVariants.{Claim, DeliverDeck, DeliverLink, OfferObject, Publish, GiveUp}
+pub use Rattle.desk_core.specs.declared.calls.Call.TheVariants.{Do}
+pub use Rattle.desk_core.specs.declared.calls.Work.TheVariants.{Claim, DeliverDeck, DeliverLink, OfferObject, Publish, GiveUp}
 pub use Rattle.desk_core.specs.declared.jobs.Start.{Start}
 pub use Rattle.desk_core.specs.declared.jobs.Start.TheVariants.{FromRecord, FromCards}
 pub use Rattle.desk_core.specs.declared.jobs.DeckWork.{DeckWork}

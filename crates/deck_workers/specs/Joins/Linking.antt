@@ -2,7 +2,7 @@
 use Rattle.std.specs.Prelude.{◌≡◌, ℕ, ◌<◌, Bool, true, false, List, [], ◌∷◌, length, map, is_some, Option, Some}
 use Rattle.turn_office.specs.Histories.{entry}
 use Rattle.desk_core.specs.{Desks.Publication, Runs.History}
-use Rattle.deck_workers.specs.{Joins.Language.{Deck, Reply, Refused, OfferObject}, declared.made.Made.Made, Rounds.call_of, WorkerRounds.{Offer, OffersOf, is_starved, offer_entry, asked_entries, up_entries, desk_entries}, Working.Calls}
+use Rattle.deck_workers.specs.{Joins.Language.{Deck, OfferObject, Do, Reply, Refused}, declared.made.Made.Made, Rounds.call_of, WorkerRounds.{Offer, OffersOf, is_starved, offer_entry, asked_entries, up_entries, desk_entries}, Working.Calls}
 use Rattle.desk_core.specs.declared.replies.Refusal.TheVariants as refusal
 use Rattle.deck_workers.specs.declared.made.Made.TheVariants as made
 
@@ -19,7 +19,7 @@ OffersAll false decks number lease seen now = (most : ℕ) × (most < length dec
 
 -- an object was offered for the deck at a place, by one call
 abbrev pub OffersOne : ℕ → ℕ → ℕ → Deck → History → History → Type 0
-OffersOne number lease place object seen now = (reply : Reply) × Calls number (entry number (OfferObject lease place object) reply ∷ []) seen now
+OffersOne number lease place object seen now = (reply : Reply) × Calls number (entry number (Do (OfferObject lease place object)) reply ∷ []) seen now
 
 -- the desk was to publish; where it had no memory, the lease was given up
 pub record AsksToPublish (number lease : ℕ) (answered : Reply) (seen now : History) : Type 0 where

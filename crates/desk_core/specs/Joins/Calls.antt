@@ -1,7 +1,17 @@
 -- The calls of a desk, its replies and its refusals, as the code has them. Declares nothing.
 pub use Rattle.desk_core.specs.declared.calls.Done.{Done}
+pub use Rattle.session_commands.specs.declared.words.Seen.{Seen}
+pub use Rattle.session_commands.specs.declared.words.Seen.TheVariants.{Exactly, Since}
+pub use Rattle.desk_core.specs.declared.calls.Edits.{Edits}
+pub use Rattle.desk_core.specs.declared.calls.Edits.TheVariants.{One, Batch}
+pub use Rattle.desk_core.specs.declared.calls.Change.{Change}
+pub use Rattle.desk_core.specs.declared.calls.Change.TheVariants.{AddDeck, PutDeck, DropDeck, EditDeck, Undo}
+pub use Rattle.desk_core.specs.declared.calls.Question.{Question}
+pub use Rattle.desk_core.specs.declared.calls.Question.TheVariants.{Changes, CardsAt, Cards, Show, Status}
+pub use Rattle.desk_core.specs.declared.calls.Work.{Work}
+pub use Rattle.desk_core.specs.declared.calls.Work.TheVariants.{Claim, DeliverDeck, DeliverLink, OfferObject, Publish, GiveUp}
 pub use Rattle.desk_core.specs.declared.calls.Call.{Call}
-pub use Rattle.desk_core.specs.declared.calls.Call.TheVariants.{AddDeck, PutDeck, DropDeck, EditDeck, Batch, EditSince, BatchSince, Undo, Changes, CardsAt, Cards, Show, Status, Claim, DeliverDeck, DeliverLink, OfferObject, Publish, GiveUp}
+pub use Rattle.desk_core.specs.declared.calls.Call.TheVariants.{Make, Ask, Do}
 pub use Rattle.desk_core.specs.declared.jobs.Start.{Start}
 pub use Rattle.desk_core.specs.declared.jobs.Start.TheVariants.{FromRecord, FromCards}
 pub use Rattle.desk_core.specs.declared.jobs.DeckWork.{DeckWork}

@@ -3,7 +3,7 @@
 use crate::jobs::ask;
 use crate::sweeps::scene::Scene;
 use deck_workers::{Job, Made, Runs, job_in};
-use desk_core::{Call, Desk, Refusal, Reply, SharedPublication};
+use desk_core::{Call, Desk, Refusal, Reply, SharedPublication, Work};
 use edit_core::RecordFault;
 
 /// How what ends a job is shown.
@@ -58,7 +58,7 @@ fn note_claim(scene: &mut Scene, told: Told, before: &[u8], is_first: bool) {
 
 /// Claims what is due: what that shows, and the job.
 fn claim_once(scene: &mut Scene, before: &[u8], is_first: bool) -> (Told, Option<Job>) {
-    let reply = ask(&mut scene.desk, Call::Claim);
+    let reply = ask(&mut scene.desk, Call::Do(Work::Claim));
     let told = told_in(&reply);
     note_claim(scene, told, before, is_first);
     (told, job_in(reply))
@@ -79,9 +79,9 @@ fn claim(scene: &mut Scene) -> Option<Job> {
 /// Has a desk publish its decks; where memory lacks for that the lease is given up. What the desk answered last, and
 /// whether memory lacked.
 fn publish(desk: &mut Desk, lease: u64) -> (Told, bool) {
-    let told = told_of(ask(desk, Call::Publish(lease)));
+    let told = told_of(ask(desk, Call::Do(Work::Publish(lease))));
     if told == LACKING {
-        (told_of(ask(desk, Call::GiveUp(lease))), true)
+        (told_of(ask(desk, Call::Do(Work::GiveUp(lease)))), true)
     } else {
         (told, false)
     }
@@ -91,12 +91,12 @@ fn publish(desk: &mut Desk, lease: u64) -> (Told, bool) {
 fn offer_all(desk: &mut Desk, lease: u64, publication: &SharedPublication) -> (Told, bool) {
     for (place, object) in publication.publication().objects().iter().enumerate() {
         if let Ok(object) = object.share() {
-            let offered = Call::OfferObject {
+            let offered = Work::OfferObject {
                 lease,
                 place,
                 object,
             };
-            drop(ask(desk, offered));
+            drop(ask(desk, Call::Do(offered)));
         }
     }
     publish(desk, lease)

@@ -7,7 +7,7 @@ use crate::offices::{ask_from, closed};
 use crate::sweeps::decks::{DECKS, DeckText};
 use crate::sweeps::jobs::{Told, told_of};
 use crate::sweeps::scene::Scene;
-use desk_core::{Call, Desk, Refusal};
+use desk_core::{Call, Desk, Question, Refusal};
 use std::alloc::AllocError;
 use std::mem;
 use std::sync::Wait;
@@ -56,7 +56,7 @@ impl<R: Wait> Opened<'_, R> {
         requires { seat.old.office ≡ self.now.office.now.id }
         ensures { seat.new.office ≡ seat.old.office }
     {
-        match told_of(ask_from(self.rt, self.office, seat, Call::Status)) {
+        match told_of(ask_from(self.rt, self.office, seat, Call::Ask(Question::Status))) {
             Told::Version(version) => version,
             _ => {
                 scene.journal.is_lacking = true;

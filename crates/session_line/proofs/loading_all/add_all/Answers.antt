@@ -5,11 +5,11 @@ use Rattle.session_line.proofs.loading_all.add_all.Goals as goal
 
 pub returns-in-Status-clause-adds : goal.returns-in-Status-clause-adds
 returns-in-Status-clause-adds g c =
-    let P : List Row → Type 0 = λ (rows : List Row). TellsAdds g.C.Calls.relations.makes c.in-Status.version rows c.args.decks.items c.call.new.self c.tell_adds.new.desk c.tell_adds.result in
-    let Q : Told → Type 0 = λ (what : Told). AddsTold g.C.Calls.relations.makes c.args.decks.items what c.call.new.self c.tell_adds.new.desk c.tell_adds.result in
+    let P : List Row → Type 0 = λ (rows : List Row). TellsAdds g.C.Calls.relations c.in-Status.version rows c.args.decks.items c.ask.new.self c.tell_adds.new.desk c.tell_adds.result in
+    let Q : Told → Type 0 = λ (what : Told). AddsTold g.C.Calls.relations c.args.decks.items what c.ask.new.self c.tell_adds.new.desk c.tell_adds.result in
     record {
-      reply = c.call.result;
-      between = c.call.new.self;
-      made = c.call.ensures;
-      kept = subst Q {y = told_of_call c.call.result} c.told_of_call.ensures.told (subst Q {y = c.told_of_call.result} (sym c.in-Status.is) (subst P c.as_slice.ensures c.tell_adds.ensures.tells));
+      reply = c.ask.result;
+      between = c.ask.new.self;
+      made = c.ask.ensures;
+      kept = subst Q {y = told_of_call c.ask.result} c.told_of_call.ensures.told (subst Q {y = c.told_of_call.result} (sym c.in-Status.is) (subst P c.as_slice.ensures c.tell_adds.ensures.tells));
     }

@@ -9,7 +9,7 @@ loop-deck-init g c =
     let exact : vec_capacity c.in_ok-lines.lines ≡ c.len.result = c.in_ok-lines.ensures.exact in
     let room : vec_capacity c.in_ok-lines.lines ≡ length c.args.decks.items = exact ∙ c.len.ensures ∙ c.args.decks.ok.0 in
     record {
-      added = adds-none g.C.Calls.relations.makes c.args.desk.now c.args.decks.items c.in_ok-lines.lines.items c.in_ok-lines.ensures.items;
+      added = adds-none g.C.Calls.relations c.args.desk.now c.args.decks.items c.in_ok-lines.lines.items c.in_ok-lines.ensures.items;
       left = all ∙ sym none;
       room = room;
     }
@@ -20,7 +20,7 @@ loop-deck-preserved g c =
     let left : c.in-Some.deck ∷ into_iter_items c.next.new.self ≡ drop (length c.loop-deck.lines.items) c.args.decks.items = sym next ∙ c.loop-deck.invariant.left in
     let capacity : vec_capacity c.push_reserved.new.self ≡ vec_capacity c.loop-deck.lines = c.push_reserved.ensures.capacity in
     record {
-      added = adds-more g.C.Calls.relations.makes c.args.desk.now c.loop-deck.desk c.add_deck.new.desk c.args.decks.items c.loop-deck.lines.items c.push_reserved.new.self.items c.in-Some.deck (into_iter_items c.next.new.self) c.add_deck.result
+      added = adds-more g.C.Calls.relations c.args.desk.now c.loop-deck.desk c.add_deck.new.desk c.args.decks.items c.loop-deck.lines.items c.push_reserved.new.self.items c.in-Some.deck (into_iter_items c.next.new.self) c.add_deck.result
           c.loop-deck.invariant.added c.add_deck.ensures left c.push_reserved.ensures.items;
       left = behind-left c.args.decks.items c.loop-deck.lines.items c.push_reserved.new.self.items c.add_deck.result c.in-Some.deck (into_iter_items c.next.new.self) left c.push_reserved.ensures.items;
       room = capacity ∙ c.loop-deck.invariant.room;

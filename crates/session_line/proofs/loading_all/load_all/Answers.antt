@@ -8,16 +8,16 @@ pub returns-in-Ok-cut_cards-clause-loads : goal.returns-in-Ok-cut_cards-clause-l
 returns-in-Ok-cut_cards-clause-loads g c = record {
   loaded = Ok c.in-Ok.cards.items;
   shelved = c.in-Ok.ensures.cards;
-  added = subst (λ (cards : List Card). AddsFile g.C.Calls.relations.makes cards c.args.desk.now c.add_all.new.desk c.add_all.result) c.as_slice.ensures.value
-      (file-cut g.C.Calls.relations.makes c.as_slice.result.now c.in-Ok-cut_cards.decks.items c.args.desk.now c.add_all.new.desk c.add_all.result c.in-Ok-cut_cards.ensures.ok c.add_all.ensures.adds);
+  added = subst (λ (cards : List Card). AddsFile g.C.Calls.relations cards c.args.desk.now c.add_all.new.desk c.add_all.result) c.as_slice.ensures.value
+      (file-cut g.C.Calls.relations c.as_slice.result.now c.in-Ok-cut_cards.decks.items c.args.desk.now c.add_all.new.desk c.add_all.result c.in-Ok-cut_cards.ensures.ok c.add_all.ensures.adds);
 }
 
 pub returns-in-Ok-clause-loads : goal.returns-in-Ok-clause-loads
 returns-in-Ok-clause-loads g c = record {
   loaded = Ok c.in-Ok.cards.items;
   shelved = c.in-Ok.ensures.cards;
-  added = subst (λ (cards : List Card). AddsFile g.C.Calls.relations.makes cards c.args.desk.now c.args.desk.now c.uncalled.result) c.as_slice.ensures.value
-      (file-refused g.C.Calls.relations.makes c.as_slice.result.now c.in-Err-cut_cards.refusal c.args.desk.now c.uncalled.result c.in-Err-cut_cards.ensures.err c.uncalled.ensures);
+  added = subst (λ (cards : List Card). AddsFile g.C.Calls.relations cards c.args.desk.now c.args.desk.now c.uncalled.result) c.as_slice.ensures.value
+      (file-refused g.C.Calls.relations c.as_slice.result.now c.in-Err-cut_cards.refusal c.args.desk.now c.uncalled.result c.in-Err-cut_cards.ensures.err c.uncalled.ensures);
 }
 
 pub returns-clause-loads : goal.returns-clause-loads

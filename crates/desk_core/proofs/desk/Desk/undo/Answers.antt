@@ -26,5 +26,5 @@ returns c =
     let is = subst (λ (place : Option ℕ). IsPlaceOf (is_named c.args.name.now) place desk.decks) c.in-Some.is c.place_of.ensures in
     let found : slice_get desk.decks c.in-Some.place ≡ Some c.deck_at-deck.result.now =
     subst (λ (decks : List DeskDeck). slice_get decks c.in-Some.place ≡ Some c.deck_at-deck.result.now) (ap (λ (d : Desk). d.decks) c.self.view_is) c.deck_at-deck.ensures in
-    undo-done c.args.name.now c.args.by.now c.args.version desk c.in-Some.place is c.deck_at-deck.result.now found c.against_change.result c.put_backs.new.edits c.batch_of.result c.batch_of.new.self
-    c.against_change.ensures c.in_default-against_change.is (c.put_backs.ensures ∙ c.backs_at-backs.ensures.edits) c.batch_of.ensures
+    undo-done c.args.name.now c.args.by.now c.args.version desk c.in-Some.place is c.deck_at-deck.result.now found c.against_change.result c.put_backs.new.edits c.edit_since.result c.edit_since.new.self
+    c.against_change.ensures c.in_default-against_change.is (c.put_backs.ensures ∙ c.backs_at-backs.ensures.edits) c.edit_since.ensures

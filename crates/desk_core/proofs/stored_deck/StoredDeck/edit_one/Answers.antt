@@ -1,7 +1,7 @@
 use Rattle.std.proofs.Common.{rules, subst, sym, ap, ◌∙◌, ◌≡◌, ◌≤◌, [], ◌∷◌, List, length, None}
 use Rattle.cards.proofs.FaultLaws.{edited-few}
-use Rattle.desk_core.{specs.Joins.Language.Card, specs.Desks.DeskDeck, specs.Joins.Edits.{edited, fault_of}, specs.Past.{Past, past_after}, specs.Led.IsPastOf, proofs.PastLaws.{past-more, one-applies}}
-use Rattle.desk_core.proofs.stored_deck.StoredDeck.edit.Goals as goal
+use Rattle.desk_core.{specs.Joins.Language.Card, specs.Desks.DeskDeck, specs.Joins.Edits.fault_of, specs.Past.{Past, past_after}, specs.Led.IsPastOf, proofs.PastLaws.{past-more, one-applies}}
+use Rattle.desk_core.proofs.stored_deck.StoredDeck.edit_one.Goals as goal
 
 -- the edited cards are no more than a deck may have
 pub invariant_of-self-2 : goal.invariant_of-self-2
