@@ -24,7 +24,7 @@ impl DeckWords {
         let mut meter = work_meter::begin();
         let deck = SizedDeck::new(alloc, keys, cards, &mut meter)?;
         let bases = Bases::new(alloc, deck.lengths(), deck.literals())?;
-        let first = FirstCards::new(alloc, keys, cards, &deck)?;
+        let first = FirstCards::new(alloc, keys, &deck)?;
         Ok(DeckWords { deck, bases, first })
     }
 

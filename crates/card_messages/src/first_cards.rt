@@ -2,12 +2,13 @@
 ghost use Rattle.std.specs.Prelude.{◌≤◌, length};
 
 use crate::symbol_keys::key_of;
-use cards::{Card, StatementRoom};
+use cards::Card;
 use deck_assembler::{SizedDeck, SizedStatement};
+use definitions::DeckKind;
 use expr_forms::LinkedNames;
 use indexmap::IndexMap;
 use indexmap::map::Entry;
-use statement_coder::{Defines, Statement};
+use statement_coder::{Defines, Reading};
 use std::alloc::{AllocError, Global};
 use std::hash::RandomState;
 
@@ -53,45 +54,37 @@ impl FirstCards {
         Ok(())
     }
 
-    /// What a statement defines that begins with the first of these cards.
+    /// What a statement defines that begins with this card.
     fn note_statement(
         &mut self,
-        deck: &SizedDeck,
-        statement: &SizedStatement,
-        cards: &[Card],
+        kind: DeckKind,
+        sized: &SizedStatement,
         card: u32,
     ) -> Result<(), AllocError> {
-        match statement.sizing.defines() {
+        match sized.sizing.defines() {
             Defines::Nothing => Ok(()),
-            Defines::Symbol(_) => match &statement.label {
-                Some(label) => self.note(label.as_slice(), card),
-                None => Ok(()),
+            Defines::Symbol(_) => self.note(sized.label.as_slice(), card),
+            Defines::Externals => match sized.kept.reading(kind, sized.operation) {
+                Reading::Names(names) => self.note_names(names, card),
+                _ => Ok(()),
             },
-            Defines::Externals => {
-                let mut room = StatementRoom::new();
-                let cards = cards_of(cards, statement.cards);
-                let read = Statement::read(deck.kind(), cards, &mut room);
-                self.note_names(LinkedNames::new(read.variable), card)
-            }
         }
     }
 
-    /// Those of a deck with these cards, in a table that is kept by these keys.
+    /// Those of a deck, in a table that is kept by these keys.
     pub(crate) fn new(
         alloc: Global,
         keys: RandomState,
-        cards: &[Card],
         deck: &SizedDeck,
     ) -> Result<FirstCards, AllocError> {
         let mut first = FirstCards {
             cards: IndexMap::with_hasher(alloc, keys),
         };
-        let (mut left, mut card) = (cards, 1u32);
+        let mut card = 1u32;
         for piece in deck.pieces() {
-            for statement in piece.statements() {
-                first.note_statement(deck, statement, left, card)?;
-                left = left.split_at(left.len().min(statement.cards as usize)).1;
-                card = card.saturating_add(statement.cards);
+            for sized in piece.statements() {
+                first.note_statement(deck.kind(), sized, card)?;
+                card = card.saturating_add(sized.cards);
             }
         }
         Ok(first)

@@ -1,11 +1,12 @@
 -- From where two decks agree, what is left of the one stays as it was sized in the other.
-use Rattle.std.{proofs.Common.{◌≡◌, ℕ, ◌+◌, ◌≤◌, List, [], ◌∷◌, ◌++◌, Option, Some, None, Bool, take, drop, map, length, refl, sym, ap, ap₂, ◌∙◌, subst, if◌then◌else◌}, specs.Prelude.IfSome}
+use Rattle.std.proofs.Common.{◌≡◌, ℕ, ◌+◌, ◌≤◌, List, [], ◌∷◌, ◌++◌, Option, Some, None, Bool, take, drop, map, length, refl, sym, ap, ap₂, ◌∙◌, subst, if◌then◌else◌}
 use Rattle.cards.specs.Joins.Spans.{statement_at}
-use Rattle.definitions.{specs.Cards.Card, specs.Literals.operand_literals, specs.Operands.{Operand, NamesOperand}, specs.Operations.Operation, specs.Letters.in_order, specs.Settled.{Settled, Definition, defined}, specs.Settling.{View, settle, settled_all, is_known, external, externals}, specs.Statements.Statement, specs.Laws.States.{BlockState, state_after}, specs.Laws.Agreement.{Agree, early_symbols, lawful_names, unnumbered}, specs.declared.deck_kind.DeckKind.DeckKind, proofs.StateSteps.settled_all-in_use, proofs.TailLaws.{views-agree, tails-agree}}
+use Rattle.definitions.{specs.Cards.Card, specs.Operands.{Operand, NamesOperand}, specs.Operations.Operation, specs.Letters.in_order, specs.Settled.{Settled, Definition, defined}, specs.Settling.{View, settle, settled_all, is_known, external, externals}, specs.Statements.Statement, specs.Laws.States.{BlockState, state_after}, specs.Laws.Agreement.{Agree, early_symbols, lawful_names, unnumbered}, specs.declared.deck_kind.DeckKind.DeckKind, proofs.StateSteps.settled_all-in_use, proofs.TailLaws.{views-agree, tails-agree}}
+use Rattle.operations.specs.Joins.OperationsAs.{operation_as}
 use Rattle.statement_coder.specs.{Joins.Definitions.{defined_by, IsOfExt}, Joins.Sizings.IsSizing, declared.sizing.Sizing.Sizing, Joins.KeptReadings.IsKeptReading}
 use Rattle.statement_coder.specs.declared.definitions_made.Defines as code
 use Rattle.statement_coder.specs.declared.definitions_made.Defines.TheVariants as defines
-use Rattle.deck_assembler.{specs.Joins.Agreements.{AreNamesAlike, AreExternalsAlike, AreAlikeFrom}, specs.Joins.OldDecks.AreKeptFrom, specs.Joins.SizedDecks.{IsSizedStatement, AreSizedFrom}, specs.Joins.Tails.AreKeptAlike, specs.declared.sized_statement.SizedStatement.SizedStatement, proofs.OntoLaws.drop-more}
+use Rattle.deck_assembler.{specs.Joins.Agreements.{AreNamesAlike, AreExternalsAlike, AreAlikeFrom}, specs.Joins.LiteralsRead.IsBareOperand, specs.Joins.OldDecks.AreKeptFrom, specs.Joins.SizedDecks.{own_of, IsSizedStatement, AreSizedFrom}, specs.Joins.Tails.AreKeptAlike, specs.declared.sized_statement.SizedStatement.SizedStatement, proofs.OntoLaws.drop-more}
 
 known-alike : (v w : View) (name : List ℕ) (so_far : List Definition) → v name ≡ w name → is_known v name so_far ≡ is_known w name so_far
 known-alike v w name so_far e = λ i. is_known (λ other. e i) name so_far
@@ -79,9 +80,9 @@ sized-alike kind front earlier stood there ahead cards sized statement other is 
       sizing = sizing-alike (λ name. defined name (settled_all kind front)) (λ name. defined name (settled_all kind earlier)) first second sized.sizing same h is.sizing;
       number_base = is.number_base ∙ ap (λ (state : BlockState). state.number_base) states;
       operation = sym (ap (λ (s : Settled). s.read.operation) same) ∙ is.operation;
-      label = subst (λ (l : List ℕ). IfSome sized.label (λ label. label ≡ l)) (ap (λ (s : Settled). s.read.fields.location) same) is.label;
-      kept = subst (IsKeptReading sized.kept) (ap (λ (s : Settled). s.read.operand) same) is.kept;
-      bare = λ b. ap (λ (s : Settled). operand_literals s.read.operand) (sym same) ∙ is.bare b;
+      label = is.label ∙ ap (λ (s : Settled). own_of s.read) same;
+      kept = subst (IsKeptReading kind (operation_as sized.operation) sized.kept) (ap (λ (s : Settled). s.read.operand) same) is.kept;
+      bare = λ b. subst IsBareOperand (ap (λ (s : Settled). s.read.operand) same) (is.bare b);
     }
 
 -- what is stated of views, where the lists that they are of are split

@@ -3,7 +3,7 @@ use Rattle.std.proofs.Common.{◌≡◌, ℕ, ◌+◌, ◌≤◌, Option, List, 
 use Rattle.definitions.{specs.Cards.Card, specs.Forms.Form, specs.Operations.Operation, specs.Settled.ReadStatement, specs.Settling.{View, settle, settled_all}, specs.Statements.Statement, specs.Operands.{Operand, NamesOperand}, specs.Laws.Agreement.{Agree, early_symbols, lawful_names, own_symbols, operand_symbols}, specs.declared.deck_kind.DeckKind.DeckKind, proofs.NamesLaws.{all-front, all-behind}}
 use Rattle.statement_coder.specs.declared.definitions_made.Defines as code
 use Rattle.statement_coder.specs.declared.definitions_made.Defines.TheVariants as defines
-use Rattle.deck_assembler.specs.{Joins.Agreements.{left, DoesAgree, IsAgreeing, IsAlike, AreAlikeFrom, AreAlike, AreExternalsAlike, AreNamesAlike, StandAlike}, Joins.DeckParts.{DeckPiece, sized_in}, Joins.FirstSymbols.symbol_in, Joins.SizedDecks.{IsSizedStatement, AreSizedFrom}, declared.early_trial.Trial.Trial, declared.old_deck.OldDeck.OldDeck, declared.sized_statement.SizedStatement.SizedStatement}
+use Rattle.deck_assembler.specs.{Joins.Agreements.{left, DoesAgree, IsAgreeing, IsAlike, AreAlikeFrom, AreAlike, AreExternalsAlike, AreNamesAlike, StandAlike}, Joins.DeckParts.{DeckPiece, sized_in}, Joins.FirstSymbols.symbol_in, Joins.SizedDecks.{own_of, IsSizedStatement, AreSizedFrom}, declared.early_trial.Trial.Trial, declared.old_deck.OldDeck.OldDeck, declared.sized_statement.SizedStatement.SizedStatement}
 
 -- the next statement was sized behind some others, and two views agree on it
 pub record IsNextAgreed (kind : DeckKind) (ahead : List Card) (v w : View) (sized : SizedStatement) : Type 0 where
@@ -35,10 +35,9 @@ alike-step old new sized later kind first second ahead s =
     (λ i. ((sym kind i, sym (ahead parts.0.is.within) i), (sym first i, sym second i))) parts.1
 
 -- what a statement defines by its location field
-pub own-of : (v w : View) (read : ReadStatement) (what : code.Defines) (operation : Operation) (location : List ℕ) → operation ≡ read.operation → location ≡ read.fields.location →
-    IsAlike v w read what → Agree v w (own_symbols operation location)
-own-of v w read what operation location o l is =
-    subst (λ (both : Operation × List ℕ). Agree v w (own_symbols both.0 both.1)) (λ i. (sym o i, sym l i))
+pub own-of : (v w : View) (read : ReadStatement) (what : code.Defines) (operation : Operation) (label : List ℕ) → own_symbols operation label ≡ own_of read → IsAlike v w read what → Agree v w (own_symbols operation label)
+own-of v w read what operation label e is =
+    subst (Agree v w) (sym e)
     (all-front (λ name. v name ≡ w name) (own_symbols read.operation read.fields.location) (operand_symbols read.operand read.operation) is.early)
 
 -- and what its operand defines or reads

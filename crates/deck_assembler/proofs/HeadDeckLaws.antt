@@ -1,10 +1,23 @@
 -- What stays of an old deck in an edited one of another kind: the neutral statements in front, and their lines.
-use Rattle.std.{proofs.Common.{◌≡◌, ◌∙◌, ℕ, ◌+◌, ◌-◌, ◌<◌, ◌≤◌, ◌⊎◌, inl, inr, List, [], ◌∷◌, ◌++◌, Some, length, take, drop, refl, sym, ap, ap₂, subst, arith, append-nil, length-append, length-take-le}, specs.Prelude.{IfSome, reverse}, specs.List.AllByRecursion, proofs.lemmas.Bool.cases_lt, proofs.lemmas.List.{drop-take, length-drop, length-reverse, reverse-append, reverse-reverse, take-take}}
-use Rattle.definitions.{specs.Cards.Card, specs.DeckKinds.kind_of_statements, specs.Fields.fields_of, specs.Literals.operand_literals, specs.Operands.Operand, specs.Operations.is_neutral, specs.Settled.defined, specs.Settling.{View, settle, settled_all}, specs.Statements.{Statement, cards_in}, specs.declared.deck_kind.DeckKind.DeckKind, specs.declared.deck_kind.DeckKind.TheVariants.{Rel, Abs, Periph}, proofs.EditLaws.cards_in-append, proofs.NamesLaws.all-behind}
+use Rattle.std.{proofs.Common.{◌≡◌, ◌∙◌, ℕ, ◌+◌, ◌-◌, ◌<◌, ◌≤◌, ◌⊎◌, inl, inr, true, true≢false, List, [], ◌∷◌, ◌++◌, Some, length, take, drop, refl, sym, ap, ap₂, subst, arith, append-nil, length-append, length-take-le}, specs.Prelude.reverse, specs.List.AllByRecursion, proofs.lemmas.Bool.cases_lt, proofs.lemmas.List.{drop-take, length-drop, length-reverse, reverse-append, reverse-reverse, take-take}}
+use Rattle.definitions.{specs.Cards.Card, specs.DeckKinds.kind_of_statements, specs.Laws.Agreement.own_symbols, specs.Operands.{Operand, operand_of}, specs.Operations.is_neutral, specs.Settled.defined, specs.Settling.{View, settle, settled_all}, specs.Statements.{Statement, cards_in}, specs.declared.deck_kind.DeckKind.DeckKind, specs.declared.deck_kind.DeckKind.TheVariants.{Rel, Abs, Periph}, specs.declared.number_base.NumberBase.NumberBase, proofs.EditLaws.cards_in-append, proofs.NamesLaws.all-behind}
 use Rattle.operations.specs.Joins.OperationsAs.{operation_as}
-use Rattle.statement_coder.specs.Joins.{Definitions.{defined_by, IsOfExt}, KeptReadings.IsKeptReading, Sizings.IsSizing}
+use Rattle.definitions.specs.Operations as op
+use Rattle.statement_coder.specs.declared.kept_readings.KeptReading.TheVariants as kept
+use Rattle.statement_coder.specs.{Joins.Definitions.{defined_by, IsOfExt}, Joins.KeptReadings.IsKeptReading, Joins.Sizings.IsSizing, declared.kept_readings.KeptReading.KeptReading}
 use Rattle.use_blocks.specs.Joins.EffectsAs.{change_as, setting_as}
-use Rattle.deck_assembler.{specs.Joins.Agreements.{left, HaveSameEnd}, specs.Joins.DeckParts.{DeckParts, sized_in}, specs.Joins.Formers.known_in, specs.Joins.Heads.{counter_of, AreHead, IsHeadDeck, IsOldDeck, IsRecounted, IsWholeDeck, BeginsBeside}, specs.Joins.Meetings.{cards_of, IsShort}, specs.Joins.OldDecks.{IsAtStage, IsInFront, IsKeptOn}, specs.Joins.SizedDecks.{IsSizedDeck, IsSizedStatement, AreSizedFrom}, specs.declared.old_deck.OldCards.OldCards, specs.declared.old_deck.OldDeck.OldDeck, specs.declared.sized_statement.SizedStatement.SizedStatement, proofs.AgreementLaws.between, proofs.CutLaws.cut-front, proofs.DueLaws.filled-short, proofs.ForwardLaws.stood-more, proofs.HeadLaws.deck-in-front, proofs.NeutralLaws.{AreNeutral, IsNeutral, base-same, counted, front-neutral, neutral-known, neutral-open, neutral-settles, neutral-told, neutral-view}, proofs.OntoLaws.{append-none, reverse-onto}}
+use Rattle.deck_assembler.{specs.Joins.Agreements.{left, HaveSameEnd}, specs.Joins.DeckParts.{DeckParts, sized_in}, specs.Joins.Formers.known_in, specs.Joins.LiteralsRead.IsBareOperand, specs.Joins.Heads.{counter_of, AreHead, IsHeadDeck, IsOldDeck, IsRecounted, IsWholeDeck, BeginsBeside}, specs.Joins.Meetings.{cards_of, IsShort}, specs.Joins.OldDecks.{IsAtStage, IsInFront, IsKeptOn}, specs.Joins.SizedDecks.{own_of, IsSizedDeck, IsSizedStatement, AreSizedFrom}, specs.declared.old_deck.OldCards.OldCards, specs.declared.old_deck.OldDeck.OldDeck, specs.declared.sized_statement.SizedStatement.SizedStatement, proofs.AgreementLaws.between, proofs.CutLaws.cut-front, proofs.DueLaws.filled-short, proofs.ForwardLaws.stood-more, proofs.HeadLaws.deck-in-front, proofs.NeutralLaws.{AreNeutral, IsNeutral, base-same, counted, front-neutral, neutral-known, neutral-open, neutral-settles, neutral-told, neutral-view}, proofs.OntoLaws.{append-none, reverse-onto}}
+
+-- what a neutral statement has as its operand is so in any kind
+neutral-operand : (first second : DeckKind) (base : NumberBase) (operation : op.Operation) (name text : List ℕ) → is_neutral (Some operation) ≡ true → operand_of first base operation name text ≡ operand_of second base operation name text
+neutral-operand first second base op.EmptyField name text e = refl
+neutral-operand first second base op.Listed name text e = refl
+neutral-operand first second base op.Base name text e = refl
+neutral-operand first second base _ name text e = absurd (true≢false (sym e))
+
+neutral-kept : (first second : DeckKind) (operation : op.Operation) (reading : KeptReading) (operand : Operand) → is_neutral (Some operation) ≡ true → IsKeptReading first operation reading operand → IsKeptReading second operation reading operand
+neutral-kept first second operation (kept.Spelt text) operand e h = h ∙ neutral-operand first second text.value.base operation text.value.name.items text.value.variable.items e
+neutral-kept first second operation _ operand e h = h
 
 -- a neutral statement that was sized behind neutral ones is so in a deck of another kind, with other counters
 recounted-sized : (first second : DeckKind) (earlier : List Statement) (stood : ℕ) (ahead other : List Card) (sized made : SizedStatement) (statement : Statement) → AreNeutral earlier → IsNeutral statement →
@@ -38,9 +51,11 @@ recounted-sized first second earlier stood ahead other sized made statement are 
       sizing = subst (λ settled. IsSizing (λ name. defined name (settled_all second earlier)) settled made.sizing) (sym same) there;
       number_base = re.number_base ∙ is.number_base ∙ base-same first second earlier;
       operation = ap (λ settled. settled.read.operation) same ∙ is.operation ∙ ap operation_as (sym re.operation);
-      label = subst (λ label. IfSome label (λ l. l ≡ (fields_of statement.cards).location)) (sym re.label) is.label;
-      kept = subst (λ (operand : Operand). IsKeptReading made.kept operand) (sym (ap (λ settled. settled.read.operand) same)) (subst (λ kept. IsKeptReading kept before.read.operand) (sym re.kept) is.kept);
-      bare = λ b. ap (λ settled. operand_literals settled.read.operand) same ∙ is.bare (sym re.bare ∙ b);
+      label = ap₂ (λ operation label. own_symbols (operation_as operation) label) re.operation re.label ∙ is.label ∙ sym (ap (λ settled. own_of settled.read) same);
+      kept = subst (λ (operand : Operand). IsKeptReading second (operation_as made.operation) made.kept operand) (sym (ap (λ settled. settled.read.operand) same))
+          (subst (λ (both : op.Operation × KeptReading). IsKeptReading second both.0 both.1 before.read.operand) (λ i. (sym (ap operation_as re.operation) i, sym re.kept i))
+          (neutral-kept first second (operation_as sized.operation) sized.kept before.read.operand (ap (λ (o : op.Operation). is_neutral (Some o)) (sym is.operation) ∙ neutral-known first statement neutral) is.kept));
+      bare = λ b. subst IsBareOperand (sym (ap (λ settled. settled.read.operand) same)) (is.bare (sym re.bare ∙ b));
     }
 
 -- no neutral statement that ends within so many cards stands behind these

@@ -8,7 +8,7 @@ pub mod PieceLaws
 pub mod PieceSteps
 -- The literals.
 pub mod LiteralSteps
-pub mod ToldOperands
+pub mod BareOperands
 -- The order of the deck.
 pub mod ReverseLaws
 pub mod OntoLaws

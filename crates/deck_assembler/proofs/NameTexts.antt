@@ -1,6 +1,6 @@
 -- A symbol, and so the name of an external, is a name of bytes.
-use Rattle.std.{proofs.Common.{◌≡◌, ℕ, ◌==◌, ◌&&◌, ◌||◌, not, Bool, true, false, true≢false, List, [], ◌∷◌, codes, length, nat_lt, nat_le, refl, sym, ap, ap₂, ◌∙◌, arith}, specs.List.list_all, proofs.lemmas.Bool.{eqb-true, lt-ltb}, proofs.lemmas.Bool.Decides.nat_tests}
-use Rattle.definitions.specs.{Characters.{is_among, is_digit, is_letter, is_symbol_character}, Symbols.{begins_symbol, is_register, is_symbol, is_linked_name}}
+use Rattle.std.{proofs.Common.{◌≡◌, ℕ, ◌<◌, ◌==◌, ◌&&◌, ◌||◌, not, Bool, true, false, true≢false, List, [], ◌∷◌, codes, length, nat_lt, nat_le, refl, sym, ap, ap₂, ◌∙◌, arith, if◌then◌else◌}, specs.List.list_all, proofs.lemmas.Bool.{eqb-true, leb-true, lt-ltb}, proofs.lemmas.Bool.Decides.nat_tests}
+use Rattle.definitions.specs.{Characters.{is_among, is_digit, is_letter, is_symbol_character}, Laws.Agreement.{defines_location, own_symbols}, Operations.Operation, Symbols.{begins_symbol, is_register, is_symbol, is_linked_name}}
 use Rattle.deck_assembler.{specs.Joins.FirstSymbols.is_known_name, proofs.SymbolLaws.{both_first, both_second}}
 
 either : (x y : Bool) {A : Type 0} → (x || y) ≡ true → (x ≡ true → A) → (y ≡ true → A) → A
@@ -55,3 +55,22 @@ symbol-known text h =
 -- and so is the name of an external
 pub linked-known : (text : List ℕ) → is_linked_name text ≡ true → is_known_name text ≡ true
 linked-known text h = symbol-known text (both_first (is_symbol text) (nat_le (length text) 7) h)
+
+-- a text of more than eight characters is none
+long-none : (text : List ℕ) → 8 < length text → is_symbol text ≡ false
+long-none text long = by (is_symbol text) refl
+  where
+    by : (b : Bool) → is_symbol text ≡ b → is_symbol text ≡ false
+    by false e = e
+    by true e =
+        let front = both_first (begins_symbol text && list_all is_symbol_character text && nat_le (length text) 8) (not (is_register text)) e in
+        let few = both_second (begins_symbol text && list_all is_symbol_character text) (nat_le (length text) 8) front in
+        absurd (let le = leb-true (length text) 8 few in omega (arith, le, long))
+
+-- and no statement defines it by its location field
+pub own-none : (operation : Operation) (text : List ℕ) → 8 < length text → own_symbols operation text ≡ own_symbols operation []
+own-none operation text long = ap (λ symbol. if defines_location operation && symbol then text ∷ [] else []) (long-none text long) ∙ by (defines_location operation)
+  where
+    by : (b : Bool) → Path (List (List ℕ)) (if b && false then text ∷ [] else []) (if b && false then [] ∷ [] else [])
+    by true = refl
+    by false = refl

@@ -1,12 +1,12 @@
 -- One statement more, sized behind those before it.
-use Rattle.std.{proofs.Common.{◌≡◌, ℕ, Bool, true, false, List, [], ◌∷◌, refl, sym, ap, ap₂, ◌∙◌, subst, if◌then◌else◌}, specs.Prelude.{IfSome, reverse}}
-use Rattle.definitions.{specs.Blocks.{block_in_use, is_accepted, change_of}, specs.Cards.Card, specs.Literals.{operand_literals, with_literals}, specs.Operands.{Operand, UseName, UseBefore, operand_of}, specs.Settled.{BlockChange, NoChange, Opens, defined}, specs.Settling.{View, Seen, seen_of, number_base_of, settle, settled_all, settled_from}, specs.Statements.Statement, specs.Laws.States.{BlockState, Effect, state_after, seen_from, effect_of, advanced, lengths_advanced, names_of_blocks}, specs.declared.deck_kind.DeckKind.DeckKind, specs.declared.number_base.NumberBase.NumberBase, proofs.StateSteps.{seen_of-state, state_after-step, lengths_of-step, settled_all-in_use}}
+use Rattle.std.{proofs.Common.{◌≡◌, ℕ, Bool, true, false, List, ◌∷◌, refl, sym, ap, ap₂, ◌∙◌, subst, if◌then◌else◌}, specs.Prelude.reverse}
+use Rattle.definitions.{specs.Blocks.{block_in_use, is_accepted, change_of}, specs.Cards.Card, specs.Literals.{operand_literals, with_literals}, specs.Operands.{Operand, UseName, UseBefore, operand_of}, specs.Settled.{BlockChange, NoChange, Opens, defined}, specs.Settling.{View, Seen, seen_of, number_base_of, settle, settled_all, settled_from}, specs.Statements.Statement, specs.Laws.Agreement.own_symbols, specs.Laws.States.{BlockState, Effect, state_after, seen_from, effect_of, advanced, lengths_advanced, names_of_blocks}, specs.declared.deck_kind.DeckKind.DeckKind, specs.declared.number_base.NumberBase.NumberBase, proofs.StateSteps.{seen_of-state, state_after-step, lengths_of-step, settled_all-in_use}}
 use Rattle.operations.specs.Joins.OperationsAs.{operation_as}
 use Rattle.use_blocks.specs.Joins.{Changes.IsAccepted, EffectsAs.change_as}
 use Rattle.statement_coder.{specs.Joins.KeptReadings.IsKeptReading, specs.Joins.Readings.IsReading, specs.Joins.Sizings.{read_as, settled_read, IsSizing}, specs.Joins.StatementsRead.IsRead, specs.declared.sizing.Sizing.Sizing, proofs.ReadLaws.settled-sizing}
 use Rattle.statement_coder.specs.declared.readings.Reading as readings
 use Rattle.statement_coder.specs.declared.statement.Statement as statements
-use Rattle.deck_assembler.{specs.Joins.FirstSymbols.with_defined, specs.Joins.PieceSteps.{with_statement, sized_newest}, specs.Joins.Sizers.{stood, ahead, IsNext, IsNoted, AreSized, HaveStates, AreFilledNewest, IsSizer}, specs.Joins.SharedNames.with_new_by, specs.Joins.SizedDecks.IsSizedStatement, specs.declared.sized_statement.SizedStatement.SizedStatement, specs.declared.sizer.Sizer.Sizer, proofs.DefinitionLaws.defined-step, proofs.ExternalLaws.externals-step, proofs.PieceSteps.{sized-step, states-step, filled-step}}
+use Rattle.deck_assembler.{specs.Joins.FirstSymbols.with_defined, specs.Joins.LiteralsRead.IsBareOperand, specs.Joins.PieceSteps.{with_statement, sized_newest}, specs.Joins.Sizers.{stood, ahead, IsNext, IsNoted, AreSized, HaveStates, AreFilledNewest, IsSizer}, specs.Joins.SharedNames.with_new_by, specs.Joins.SizedDecks.{own_of, IsSizedStatement}, specs.declared.sized_statement.SizedStatement.SizedStatement, specs.declared.sizer.Sizer.Sizer, proofs.DefinitionLaws.defined-step, proofs.ExternalLaws.externals-step, proofs.PieceSteps.{sized-step, states-step, filled-step}}
 
 -- the operand that the code reads of a statement
 abbrev pub operand_in : statements.Statement → NumberBase → readings.Reading → Type 0
@@ -35,9 +35,9 @@ pub record IsStep (kind : DeckKind) (earlier : List Statement) (given : Statemen
   pub sizing : IsSizing (λ name. defined name (settled_all kind earlier)) (settle kind (settled_all kind earlier) given) sized.sizing
   pub number_base : sized.sizing.number_base ≡ number_base_of (settled_all kind earlier)
   pub operation : (settle kind (settled_all kind earlier) given).read.operation ≡ operation_as sized.operation
-  pub label : IfSome sized.label (λ label. label ≡ (settle kind (settled_all kind earlier) given).read.fields.location)
-  pub kept : IsKeptReading sized.kept (settle kind (settled_all kind earlier) given).read.operand
-  pub bare : sized.is_bare ≡ true → operand_literals (settle kind (settled_all kind earlier) given).read.operand ≡ []
+  pub label : own_symbols (operation_as sized.operation) sized.label ≡ own_of (settle kind (settled_all kind earlier) given).read
+  pub kept : IsKeptReading kind (operation_as sized.operation) sized.kept (settle kind (settled_all kind earlier) given).read.operand
+  pub bare : sized.is_bare ≡ true → IsBareOperand (settle kind (settled_all kind earlier) given).read.operand
   pub made : effect ≡ effect_of kind (settle kind (settled_all kind earlier) given)
   pub noted : IsNoted (settle kind (settled_all kind earlier) given).read.fields.location (settle kind (settled_all kind earlier) given).read.operand sized.sizing.defines effect old new
   pub pieces : reverse new.pieces.items ≡ with_statement old.state sized (reverse old.pieces.items)

@@ -2,7 +2,7 @@
 use Rattle.std.{proofs.Common.{◌≡◌, ℕ, ◌+◌, ◌≤◌, List, [], ◌∷◌, ◌++◌, drop, length, sym, subst}, specs.List.AllByRecursion}
 use Rattle.definitions.specs.{Cards.Card, Forms.Form, Operations.Operation, Settled.ReadStatement, Settling.View, Statements.Statement, Laws.Agreement.{Agree, own_symbols, operand_symbols}, declared.deck_kind.DeckKind.DeckKind}
 use Rattle.statement_coder.specs.declared.definitions_made.Defines as code
-use Rattle.deck_assembler.specs.{Joins.Agreements.{AreExternalsAlike, IsAlike, AreAlikeFrom, IsNextAlike, AreTried}, Joins.FirstSymbols.symbol_in, Joins.SizedDecks.AreSizedFrom, declared.early_trial.Trial.Trial, declared.sized_statement.SizedStatement.SizedStatement}
+use Rattle.deck_assembler.specs.{Joins.Agreements.{AreExternalsAlike, IsAlike, AreAlikeFrom, IsNextAlike, AreTried}, Joins.FirstSymbols.symbol_in, Joins.SizedDecks.{own_of, AreSizedFrom}, declared.early_trial.Trial.Trial, declared.sized_statement.SizedStatement.SizedStatement}
 
 pub tried-none : (trial : Trial) (left : List SizedStatement) → AreTried trial trial left left
 tried-none trial left = λ earlier stood statements behind others are turns. turns earlier stood statements are
@@ -36,10 +36,10 @@ both-all P [] b h k = k
 both-all P (x ∷ a) b h k = (h.0, both-all P a b h.1 k)
 
 -- what a statement defines by its location field, and what its operand defines or reads
-pub both-alike : (v w : View) (read : ReadStatement) (what : code.Defines) (operation : Operation) (location : List ℕ) → operation ≡ read.operation → location ≡ read.fields.location →
-    Agree v w (own_symbols operation location) → Agree v w (operand_symbols read.operand operation) → AreExternalsAlike v w read.operand what → IsAlike v w read what
-both-alike v w read what operation location o l own early externals = record {
+pub both-alike : (v w : View) (read : ReadStatement) (what : code.Defines) (operation : Operation) (label : List ℕ) → operation ≡ read.operation → own_symbols operation label ≡ own_of read →
+    Agree v w (own_symbols operation label) → Agree v w (operand_symbols read.operand operation) → AreExternalsAlike v w read.operand what → IsAlike v w read what
+both-alike v w read what operation label o e own early externals = record {
   early = both-all (λ name. v name ≡ w name) (own_symbols read.operation read.fields.location) (operand_symbols read.operand read.operation)
-      (subst (λ (both : Operation × List ℕ). Agree v w (own_symbols both.0 both.1)) (λ i. (o i, l i)) own) (subst (λ operation. Agree v w (operand_symbols read.operand operation)) o early);
+      (subst (Agree v w) e own) (subst (λ operation. Agree v w (operand_symbols read.operand operation)) o early);
   externals = externals;
 }

@@ -1,17 +1,11 @@
 -- One statement more: its line behind the others, and its names.
 use Rattle.std.{proofs.Common.{◌≡◌, ◌∙◌, ℕ, ◌+◌, ◌-◌, ◌^◌, ◌<◌, ◌≤◌, true, false, true≢false, List, [], ◌∷◌, ◌++◌, Option, Some, None, min, drop, length, reverse, refl, ap, sym, subst, arith}, specs.Prelude.slice_get, proofs.lemmas.List.{drop-drop, length-drop, reverse-append}}
-use Rattle.definitions.specs.{Cards.Card, Entries.{entries_by, entries_among}, Lengths.BlockRow, Objects.Shown, Operands.Operand, Operations.Operation, Settled.{Settled, Definition, read_of}, Settling.{number_base_of, settle, settled_all}, Statements.Statement, Words.Coded, declared.deck_kind.DeckKind.DeckKind, declared.deck_kind.DeckKind.TheVariants.{Rel, Abs, Periph}, declared.number_base.NumberBase.NumberBase}
+use Rattle.definitions.specs.{Cards.Card, Entries.{entries_by, entries_among}, Lengths.BlockRow, Objects.Shown, Operands.Operand, Operations.Operation, Settled.{Settled, Definition}, Settling.{settle, settled_all}, Statements.Statement, Words.Coded, declared.deck_kind.DeckKind.DeckKind, declared.deck_kind.DeckKind.TheVariants.{Rel, Abs, Periph}}
 use Rattle.definitions.specs.Operations as op
 use Rattle.statement_coder.specs.declared.items.Item as code
-use Rattle.statement_coder.{specs.Joins.CodedItems.IsKept, specs.Joins.Sizings.IsCodable, specs.Joins.StatementsRead.IsRead, specs.declared.sizing.Sizing.Sizing, proofs.CodingLaws.codable}
-use Rattle.statement_coder.specs.declared.statement.Statement as statements
+use Rattle.statement_coder.specs.Joins.CodedItems.{IsKept}
 use Rattle.deck_objects.specs.{Joins.CodedLines.{IsNamed, IsShown, IsStored}, declared.lines.CodedLine.CodedLine, declared.lines.Line.Line}
 use Rattle.deck_assembler.{specs.Joins.SharedNames.{enters, entries_to}, specs.Joins.Walks.{Whole, all_settled, has_row, AreNoted, AreShownTo, AreLinedAs}, specs.declared.deck_lines.DeckLines.DeckLines, proofs.KeptLaws.coded-longer}
-
--- a statement that was read, as it is settled
-pub settle-codable : (kind : DeckKind) (earlier : List Settled) (given : Statement) (statement : statements.Statement) (sizing : Sizing) → IsRead kind given.cards statement → sizing.number_base ≡ number_base_of earlier →
-    IsCodable statement sizing (settle kind earlier given)
-settle-codable kind earlier given statement sizing read base = codable kind given statement sizing (settle kind earlier given) read (ap (λ (b : NumberBase). read_of kind b given) (sym base))
 
 -- the entries of a statement that enters names
 entered : (kind : DeckKind) (all : List Settled) (operation : Operation) (operand : Operand) (entries : List Definition) → enters kind operation ≡ true → entries_by all operation operand entries ≡ entries_by all op.Entry operand entries

@@ -1,19 +1,17 @@
 //! The names that the statements of a deck enter.
 ghost use Rattle.std.specs.Prelude.{◌≡◌, ◌∷◌, List, OnOk};
-ghost use Rattle.definitions.specs.Operands.{operand_of};
-ghost use Rattle.definitions.specs.Settling.{number_base_of, settled_all};
+ghost use Rattle.definitions.specs.Settling.{settle, settled_all};
 ghost use Rattle.definitions.specs.Statements as statements;
 ghost use Rattle.operations.specs.Joins.OperationsAs.{operation_as};
-ghost use Rattle.statement_coder.specs.Joins.Readings.{IsReading};
-ghost use Rattle.statement_coder.specs.Joins.StatementsRead.{IsRead};
+ghost use Rattle.statement_coder.specs.Joins.ReadOperands.{IsReadOperand};
 ghost use Rattle.deck_assembler.specs.Joins.Walks.{AreNoted, IsWhole, whole_of};
 ghost use Rattle.deck_assembler.specs.Joins.SharedNames.{enters};
 
 use crate::deck_view::DeckView;
 use crate::entry_names::EntryNames;
-use definitions::{DeckKind, NumberBase};
+use definitions::DeckKind;
 use operations::Operation;
-use statement_coder::{KeptSizing, Reading, Statement, read_operand};
+use statement_coder::ReadOperand;
 use std::alloc::AllocError;
 
 /// Whether a statement enters names; in a peripheral deck none does.
@@ -27,37 +25,20 @@ pub(crate) fn enters(kind: DeckKind, operation: Operation) -> bool
     }
 }
 
-/// The operand of a statement under a number base.
-fn operand<'a>(statement: &Statement<'a>, base: NumberBase) -> Reading<'a>
-    ensures { IsReading result (operand_of statement.now.kind base (operation_as statement.now.operation) statement.now.name.now statement.now.variable.now) }
-{
-    read_operand(
-        statement.kind,
-        base,
-        statement.operation,
-        statement.name,
-        statement.variable,
-    )
-}
-
-/// Enters the names of one statement more, if it enters any.
-#[inline(never)]
+/// Enters the names of one statement more, whose operand was read, if it enters any.
+#[inline(always)]
 pub(crate) fn enter(
     names: &mut EntryNames,
     view: &DeckView<'_>,
-    statement: &Statement<'_>,
-    sizing: &KeptSizing,
+    read: &ReadOperand<'_>,
 ) -> Result<(), AllocError>
     ensures { OnOk result ((known others earlier : List statements.Statement) (given : statements.Statement) →
         let whole = whole_of view.now known others in
-        IsWhole whole → IsRead whole.deck.kind given.cards statement.now → sizing.now.number_base ≡ number_base_of (settled_all whole.deck.kind earlier) →
+        IsWhole whole → read.now.kind ≡ whole.deck.kind → IsReadOperand read.now (settle whole.deck.kind (settled_all whole.deck.kind earlier) given) →
         AreNoted whole earlier names.old → AreNoted whole (given ∷ earlier) names.new) }
 {
-    if enters(statement.kind, statement.operation) {
-        names.enter_operand(
-            view.deck.symbols(),
-            &operand(statement, sizing.number_base()),
-        )
+    if enters(read.kind, read.operation) {
+        names.enter_operand(view.deck.symbols(), &read.reading)
     } else {
         Ok(())
     }

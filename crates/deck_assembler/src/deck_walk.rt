@@ -9,14 +9,13 @@ ghost use Rattle.deck_assembler.specs.Joins.DeckWalks.{IsListing};
 ghost use Rattle.deck_assembler.specs.Joins.FormerLines.{IsBare, IsBeside, IsWalkedBeside, MeanAsViewed};
 ghost use Rattle.deck_assembler.specs.Joins.Puttings.{CountsAllAnew, CountsAllDue, CountsDueIn, CountsWalkAnew, CountsWalkDue, WalksAll, WalksOn, WalksOnAnew, WalksOnDue, WalksToEnd};
 
-use crate::deck_lines::{DeckLines, next_cards};
+use crate::deck_lines::DeckLines;
 use crate::deck_names::{enter, enters};
 use crate::deck_view::DeckView;
 use crate::entry_names::EntryNames;
 use crate::former_lines::{FormerLine, FormerLines};
 use crate::{Piece, SizedDeck, SizedStatement};
-use cards::StatementRoom;
-use statement_coder::{Meter, Statement, kept_operand};
+use statement_coder::{Meter, kept_operand};
 use std::alloc::{AllocError, Global};
 use std::hash::RandomState;
 
@@ -51,38 +50,11 @@ impl Making {
         })
     }
 
-    /// One statement more, whose cards are read once more.
-    fn add_again(
-        &mut self,
-        view: &DeckView<'_>,
-        room: &mut StatementRoom,
-        sized: &SizedStatement,
-        found: Option<FormerLine<'_>>,
-        meter: &mut Meter,
-    ) -> Result<(), AllocError>
-        ensures walked { OnOk result (GoesPast view.now sized.now found.entry self.old self.new) }
-        ensures coded { meter.new.coded ≤ meter.old.coded + 1 }
-        ensures rises { meter.old.coded ≤ meter.new.coded }
-        ensures all { found.entry ≡ None → OnOk result (RisesBy 1 meter.old.coded meter.new.coded) }
-        ensures kept { IsUncounted view.now sized.now found.entry self.old.lines.stood meter.old.coded meter.new.coded }
-        ensures anew { OnOk result (IsCountedAnew view.now sized.now found.entry self.old.lines.stood meter.old.coded meter.new.coded) }
-        ensures stood { OnOk result (self.new.lines.stood ≡ min (self.old.lines.stood + sized.now.cards) (2 ^ 64 - 1)) }
-        ensures sized { meter.new.sized ≡ meter.old.sized }
-    {
-        let cards = next_cards(view.cards, self.lines.stood, sized.cards);
-        let statement = Statement::read(view.deck.kind(), cards, room);
-        enter(&mut self.names, view, &statement, &sized.sizing)?;
-        let read = statement.read_operand(sized.sizing.number_base());
-        self.lines.put(view, &read, sized, found, meter)
-    }
-
-    /// One statement more: its cards are read once more where it enters names, or where its operand was
-    /// not kept. Where memory runs out what was made is of no use.
+    /// One statement more, from what was kept of it. Where memory runs out what was made is of no use.
     #[inline(always)]
     fn add_read(
         &mut self,
         view: &DeckView<'_>,
-        room: &mut StatementRoom,
         sized: &SizedStatement,
         found: Option<FormerLine<'_>>,
         meter: &mut Meter,
@@ -96,23 +68,17 @@ impl Making {
         ensures stood { OnOk result (self.new.lines.stood ≡ min (self.old.lines.stood + sized.now.cards) (2 ^ 64 - 1)) }
         ensures sized { meter.new.sized ≡ meter.old.sized }
     {
-        let kind = view.deck.kind();
-        if enters(kind, sized.operation) {
-            return self.add_again(view, room, sized, found, meter);
-        }
-        match kept_operand(kind, sized.operation, &sized.kept) {
-            None => self.add_again(view, room, sized, found, meter),
-            Some(read) => self.lines.put(view, &read, sized, found, meter),
-        }
+        let read = kept_operand(view.deck.kind(), sized.operation, &sized.kept);
+        enter(&mut self.names, view, &read)?;
+        self.lines.put(view, &read, sized, found, meter)
     }
 
     /// One statement more, where all names mean what they did in the object before: a line that was found
-    /// there is taken over. The cards are read once more where the statement enters names, or where it has
-    /// no such line and its operand was not kept. Where memory runs out what was made is of no use.
+    /// there is taken over, unless the statement enters names. Where memory runs out what was made is of no
+    /// use.
     fn add_same(
         &mut self,
         view: &DeckView<'_>,
-        room: &mut StatementRoom,
         sized: &SizedStatement,
         found: Option<FormerLine<'_>>,
         meter: &mut Meter,
@@ -128,10 +94,10 @@ impl Making {
         ensures sized { meter.new.sized ≡ meter.old.sized }
     {
         match found {
-            None => self.add_read(view, room, sized, found, meter),
+            None => self.add_read(view, sized, found, meter),
             Some(line) => {
                 if enters(view.deck.kind(), sized.operation) {
-                    return self.add_again(view, room, sized, found, meter);
+                    return self.add_read(view, sized, found, meter);
                 }
                 self.lines.copy_same(view, &line, sized)
             }
@@ -143,7 +109,6 @@ impl Making {
     fn add(
         &mut self,
         view: &DeckView<'_>,
-        room: &mut StatementRoom,
         sized: &SizedStatement,
         found: Option<FormerLine<'_>>,
         same: bool,
@@ -160,9 +125,9 @@ impl Making {
         ensures sized { meter.new.sized ≡ meter.old.sized }
     {
         if same {
-            self.add_same(view, room, sized, found, meter)
+            self.add_same(view, sized, found, meter)
         } else {
-            self.add_read(view, room, sized, found, meter)
+            self.add_read(view, sized, found, meter)
         }
     }
 
@@ -170,7 +135,6 @@ impl Making {
     fn add_all(
         &mut self,
         view: &DeckView<'_>,
-        room: &mut StatementRoom,
         piece: &[SizedStatement],
         former: &mut FormerLines<'_>,
         same: bool,
@@ -190,7 +154,7 @@ impl Making {
     {
         for sized in piece {
             let found = former.next(self.lines.stood, sized.cards);
-            self.add(view, room, sized, found, same, meter)?;
+            self.add(view, sized, found, same, meter)?;
         }
         Ok(())
     }
@@ -199,7 +163,6 @@ impl Making {
     fn add_pieces(
         &mut self,
         view: &DeckView<'_>,
-        room: &mut StatementRoom,
         pieces: &[Piece],
         former: &mut FormerLines<'_>,
         same: bool,
@@ -215,7 +178,7 @@ impl Making {
         ensures sized { meter.new.sized ≡ meter.old.sized }
     {
         for piece in pieces {
-            self.add_all(view, room, piece.statements(), former, same, meter)?;
+            self.add_all(view, piece.statements(), former, same, meter)?;
         }
         Ok(())
     }
@@ -253,8 +216,7 @@ pub(crate) fn walk(
 {
     let mut made = Making::new(alloc, keys, view, former.items.len())?;
     let mut left = former;
-    let mut room = StatementRoom::new();
-    made.add_pieces(view, &mut room, view.deck.pieces(), &mut left, same, meter)?;
+    made.add_pieces(view, view.deck.pieces(), &mut left, same, meter)?;
     list_all(&mut made.lines, view.deck.behind())?;
     Ok(made)
 }

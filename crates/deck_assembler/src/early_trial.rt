@@ -5,13 +5,12 @@ ghost use Rattle.deck_assembler.specs.Joins.Agreements.{AreAlike, IsNextAlike, A
 ghost use Rattle.deck_assembler.specs.Joins.DeckParts.{sized_in};
 ghost use Rattle.deck_assembler.specs.declared.sized_statement.SizedStatement as code;
 
-use crate::deck_lines::{later_cards, next_cards};
+use crate::deck_lines::later_cards;
 use crate::early_symbols::{is_operand_alike, is_own_alike};
 use crate::symbol_table::SymbolTable;
 use crate::{Piece, SizedStatement};
-use cards::{Card, StatementRoom};
+use cards::Card;
 use definitions::DeckKind;
-use statement_coder::Statement;
 
 /// The cards of the statements that are left, and what is defined in front of them in both decks.
 #[derive(Clone, Copy)]
@@ -29,46 +28,26 @@ pub(crate) struct Missed {
 }
 
 impl<'a> Trial<'a> {
-    /// Whether what the next statement defines or reads early is alike; its cards are read once more.
-    fn is_alike_again(&self, sized: &SizedStatement, room: &mut StatementRoom) -> bool
-        ensures alike { result ≡ true → IsNextAlike self.now sized.now }
-        ensures all { (later : List code.SizedStatement) → AreAlike self.now (sized.now ∷ later) → result ≡ true }
-    {
-        let cards = next_cards(self.ahead, 0, sized.cards);
-        let statement = Statement::read(self.kind, cards, room);
-        let read = statement.read_operand(sized.sizing.number_base());
-        let operation = statement.operation;
-        if !is_own_alike(self.first, self.second, operation, statement.location) {
-            return false;
-        }
-        let defines = sized.sizing.defines();
-        is_operand_alike(self.first, self.second, &read.reading, operation, defines)
-    }
-
     /// Whether what the next statement defines or reads early is alike.
-    fn is_alike(&self, sized: &SizedStatement, room: &mut StatementRoom) -> bool
+    fn is_alike(&self, sized: &SizedStatement) -> bool
         ensures alike { result ≡ true → IsNextAlike self.now sized.now }
         ensures all { (later : List code.SizedStatement) → AreAlike self.now (sized.now ∷ later) → result ≡ true }
     {
-        let Some(label) = &sized.label else {
-            return self.is_alike_again(sized, room);
-        };
-        let Some(reading) = sized.kept.reading() else {
-            return self.is_alike_again(sized, room);
-        };
-        if !is_own_alike(self.first, self.second, sized.operation, label.as_slice()) {
+        let label = sized.label.as_slice();
+        if !is_own_alike(self.first, self.second, sized.operation, label) {
             return false;
         }
+        let reading = sized.kept.reading(self.kind, sized.operation);
         let defines = sized.sizing.defines();
         is_operand_alike(self.first, self.second, &reading, sized.operation, defines)
     }
 
     /// Whether what the next statement defines or reads early is alike; the trial goes on behind it.
-    fn passes(&mut self, sized: &SizedStatement, room: &mut StatementRoom) -> bool
+    fn passes(&mut self, sized: &SizedStatement) -> bool
         ensures tried { result ≡ true → (later : List code.SizedStatement) → AreTried self.old self.new (sized.now ∷ later) later }
         ensures all { (later : List code.SizedStatement) → AreAlike self.old (sized.now ∷ later) → (result ≡ true) × AreAlike self.new later }
     {
-        if !self.is_alike(sized, room) {
+        if !self.is_alike(sized) {
             return false;
         }
         self.ahead = later_cards(self.ahead, sized.cards);
@@ -76,16 +55,12 @@ impl<'a> Trial<'a> {
     }
 
     /// The same of some statements.
-    pub(crate) fn passes_all(
-        &mut self,
-        statements: &[SizedStatement],
-        room: &mut StatementRoom,
-    ) -> bool
+    pub(crate) fn passes_all(&mut self, statements: &[SizedStatement]) -> bool
         ensures tried { result ≡ true → (later : List code.SizedStatement) → AreTried self.old self.new (statements.now ++ later) later }
         ensures all { (later : List code.SizedStatement) → AreAlike self.old (statements.now ++ later) → (result ≡ true) × AreAlike self.new later }
     {
         for sized in statements {
-            if !self.passes(sized, room) {
+            if !self.passes(sized) {
                 return false;
             }
         }
@@ -112,18 +87,13 @@ impl<'a> Trial<'a> {
 
     /// Goes over the statements of some pieces, behind which so many others are left: where the trial
     /// of one fails, that piece.
-    pub(crate) fn first_missed(
-        &mut self,
-        pieces: &[Piece],
-        others: usize,
-        room: &mut StatementRoom,
-    ) -> Option<Missed>
+    pub(crate) fn first_missed(&mut self, pieces: &[Piece], others: usize) -> Option<Missed>
         ensures tried { result ≡ None → (later : List code.SizedStatement) → AreTried self.old self.new (sized_in pieces.now ++ later) later }
         ensures all { (later : List code.SizedStatement) → AreAlike self.old (sized_in pieces.now ++ later) → (result ≡ None) × AreAlike self.new later }
     {
         let mut left = pieces.len().saturating_add(others);
         for piece in pieces {
-            if !self.passes_all(piece.statements(), room) {
+            if !self.passes_all(piece.statements()) {
                 return Some(Missed { pieces: left });
             }
             left = left.saturating_sub(1);

@@ -7,8 +7,8 @@
 //! `SizedDeck::new` takes one statement after the other: reads it, sizes it behind the state so
 //! far, takes in its literals and what it defines, and steps lengths and state by its effect. A
 //! `Piece` has up to 128 statements, with the state before the first. `object_parts` goes over
-//! pieces and cards together and makes a `Line` of each; cards are read again only where what was
-//! read was not kept, or names are entered. Behind END a line has cards alone. Of an edited deck,
+//! the pieces and makes a `Line` of each, from what was kept of its operand: no card is read again. Behind
+//! END a line has cards alone. Of an edited deck,
 //! `SizedDeck::edited` keeps the statements in front of the edited card, and all those from where the
 //! deck agrees again with the one before; `edited_parts` takes the lines of both over from the object
 //! before, but for those of which `Rebinding` finds a name bound otherwise, and counts no more than those

@@ -191,7 +191,7 @@ impl<'a> OldDeck<'a> {
 
     /// Whether the piece where the decks were found to differ is left, and they still do: so no other
     /// piece need be tried. Asked where a piece begins.
-    fn differs_still<'t>(&'t self, symbols: &'t SymbolTable, room: &mut StatementRoom) -> bool
+    fn differs_still<'t>(&'t self, symbols: &'t SymbolTable) -> bool
         requires { self.now.statements.items ≡ [] }
         ensures { DoesAgree self.now symbols.now → result ≡ false }
     {
@@ -206,30 +206,26 @@ impl<'a> OldDeck<'a> {
         };
         let mut trial = self.trial(symbols);
         trial.pass_over_all(before);
-        !trial.passes_all(piece.statements(), room)
+        !trial.passes_all(piece.statements())
     }
 
     /// The first piece in which something is not alike under these symbols. Asked where a piece begins.
-    fn find_missed<'t>(
-        &'t self,
-        symbols: &'t SymbolTable,
-        room: &mut StatementRoom,
-    ) -> Option<Missed>
+    fn find_missed<'t>(&'t self, symbols: &'t SymbolTable) -> Option<Missed>
         requires { self.now.statements.items ≡ [] }
         ensures alike { result ≡ None → IsAgreeing self.now symbols.now }
         ensures all { DoesAgree self.now symbols.now → result ≡ None }
     {
         let mut trial = self.trial(symbols);
         let pieces = self.pieces.as_slices();
-        match trial.first_missed(pieces.0, pieces.1.len(), room) {
+        match trial.first_missed(pieces.0, pieces.1.len()) {
             Some(missed) => Some(missed),
-            None => trial.first_missed(pieces.1, 0, room),
+            None => trial.first_missed(pieces.1, 0),
         }
     }
 
     /// Whether so many cards are left behind the edited one, and all that is left defines and reads
     /// early what it did, behind the statements that were taken. Asked where a piece begins.
-    fn is_met(&mut self, count: usize, sizer: &Sizer, room: &mut StatementRoom) -> bool
+    fn is_met(&mut self, count: usize, sizer: &Sizer) -> bool
         ensures place { result ≡ true → length self.old.ahead.now ≡ count }
         ensures behind { result ≡ true → count ≤ self.old.behind }
         ensures state { result ≡ true → self.old.state ≡ sizer.now.state }
@@ -249,10 +245,10 @@ impl<'a> OldDeck<'a> {
         if self.missed.is_none() && self.symbols.is_same(&sizer.symbols) {
             return true;
         }
-        if self.differs_still(&sizer.symbols, room) {
+        if self.differs_still(&sizer.symbols) {
             return false;
         }
-        self.missed = self.find_missed(&sizer.symbols, room);
+        self.missed = self.find_missed(&sizer.symbols);
         self.missed.is_none()
     }
 
@@ -364,7 +360,7 @@ impl<'a> OldDeck<'a> {
     {
         let count = cards.len() - span.start;
         self.pass_to(alloc, count, room)?;
-        if !self.is_met(count, sizer, room) {
+        if !self.is_met(count, sizer) {
             return Ok(None);
         }
         self.stage = Stage::Tail;

@@ -1,9 +1,7 @@
 //! The statements of a deck, sized one behind the other.
 ghost use Rattle.std.specs.Prelude.{◌≡◌, ◌≤◌, ◌+◌, ◌-◌, ◌^◌, ◌∷◌, [], List, min, reverse, IfOk, OnOk, true};
 ghost use Rattle.definitions.specs.Cards as cards;
-ghost use Rattle.definitions.specs.Literals.{operand_literals};
 ghost use Rattle.definitions.specs.Operands as operands;
-ghost use Rattle.definitions.specs.Operands.{operand_of};
 ghost use Rattle.definitions.specs.Statements as statements;
 ghost use Rattle.definitions.specs.Laws.States.{names_of_blocks, advanced};
 ghost use Rattle.definitions.specs.declared.deck_kind.DeckKind as kinds;
@@ -14,13 +12,13 @@ ghost use Rattle.statement_coder.specs.Joins.StatementsRead.{IsRead};
 ghost use Rattle.use_blocks.specs.Joins.Changes.{IsAccepted};
 ghost use Rattle.use_blocks.specs.Joins.EffectsAs.{change_as, effect_as};
 ghost use Rattle.use_blocks.specs.Joins.BlockLengths.{block_names};
-ghost use Rattle.deck_assembler.specs.Joins.LiteralsRead.{IsTold};
+ghost use Rattle.deck_assembler.specs.Joins.LiteralsRead.{IsBareOperand};
 ghost use Rattle.deck_assembler.specs.Joins.PieceSteps.{with_statement};
 ghost use Rattle.deck_assembler.specs.Joins.SizedDecks.{IsSizedStatement};
 ghost use Rattle.deck_assembler.specs.Joins.Sizers.{stood, ahead, IsNext, IsNoted, IsSizer};
 
 use crate::definitions_kept::{define, define_own};
-use crate::literal_words::{add_literals, add_told_literals, is_told};
+use crate::literal_words::add_literals;
 use crate::pieces::{Piece, add_statement};
 use crate::sized_statement::{SizedStatement, label_of};
 use crate::symbol_table::SymbolTable;
@@ -75,9 +73,10 @@ impl Sizer {
         ensures rises { meter.old.sized ≤ meter.new.sized }
         ensures coded { meter.new.coded ≡ meter.old.coded }
     {
+        let base = self.state.number_base();
         let reading = read_operand(
             statement.kind,
-            self.state.number_base(),
+            base,
             statement.operation,
             statement.name,
             statement.variable,
@@ -88,12 +87,13 @@ impl Sizer {
         let sizing = size_kept(alloc, statement, &reading, &letters, state, symbols, meter)?;
         let effect = sizing.effect(statement);
         let is_bare = self.note(&reading, statement.location, sizing.defines(), &effect)?;
+        let kept = reading.kept(alloc, statement, base)?;
         let sized = SizedStatement {
             cards: count,
             operation: statement.operation,
             label: label_of(statement.location),
             is_bare,
-            kept: reading.kept(),
+            kept,
             sizing,
         };
         self.put(alloc, sized, &effect)?;
@@ -143,7 +143,7 @@ impl Sizer {
     }
 
     /// Takes in the literals of a statement that was sized before, what it defines, and the words that
-    /// it reaches: its operand is read again where what was kept does not show them.
+    /// it reaches: its operand is not looked at where it is known to have neither literals nor names.
     fn note_kept(
         &mut self,
         statement: &Statement<'_>,
@@ -152,43 +152,23 @@ impl Sizer {
     ) -> Result<(), AllocError>
         requires blocks { block_names self.old.lengths ≡ names_of_blocks self.old.state.blocks }
         requires accepted { IsAccepted (change_as effect.now.change) self.old.state }
-        ensures noted { OnOk result ((operand : operands.Operand) → IsKeptReading sized.now.kept operand → (sized.now.is_bare ≡ true → operand_literals operand ≡ []) →
-            operand ≡ operand_of statement.now.kind sized.now.sizing.number_base (operation_as statement.now.operation) statement.now.name.now statement.now.variable.now →
+        ensures noted { OnOk result ((operand : operands.Operand) → IsKeptReading statement.now.kind (operation_as sized.now.operation) sized.now.kept operand → (sized.now.is_bare ≡ true → IsBareOperand operand) →
             IsNoted statement.now.location.now operand sized.now.sizing.defines (effect_as effect.now) self.old self.new) }
         ensures state { self.new.state ≡ self.old.state }
         ensures pieces { self.new.pieces ≡ self.old.pieces }
     {
-        if is_told(statement.operation, &sized.kept) {
-            return self.note_told(sized, statement.location, effect);
+        if sized.is_bare {
+            return self.note_own(sized, statement.location, effect);
         }
-        self.note_again(statement, sized, effect)
-    }
-
-    /// Takes in the same of a statement whose operand is read again for it.
-    #[inline(never)]
-    fn note_again(
-        &mut self,
-        statement: &Statement<'_>,
-        sized: &SizedStatement,
-        effect: &Effect,
-    ) -> Result<(), AllocError>
-        requires blocks { block_names self.old.lengths ≡ names_of_blocks self.old.state.blocks }
-        requires accepted { IsAccepted (change_as effect.now.change) self.old.state }
-        ensures noted { OnOk result ((operand : operands.Operand) →
-            operand ≡ operand_of statement.now.kind sized.now.sizing.number_base (operation_as statement.now.operation) statement.now.name.now statement.now.variable.now →
-            IsNoted statement.now.location.now operand sized.now.sizing.defines (effect_as effect.now) self.old self.new) }
-        ensures state { self.new.state ≡ self.old.state }
-        ensures pieces { self.new.pieces ≡ self.old.pieces }
-    {
+        let reading = sized.kept.reading(statement.kind, sized.operation);
         let defines = sized.sizing.defines();
-        let read = statement.read_operand(sized.sizing.number_base());
-        self.note(&read.reading, statement.location, defines, effect)?;
+        self.note(&reading, statement.location, defines, effect)?;
         Ok(())
     }
 
-    /// Takes in the same of a statement whose operand was kept, which is not read for it: such an
-    /// operand gives no names. Some of it is taken in where memory runs out.
-    fn note_told(
+    /// Takes in the same of a statement whose operand has neither literals nor names. Some of it is taken
+    /// in where memory runs out.
+    fn note_own(
         &mut self,
         sized: &SizedStatement,
         location: &[u8],
@@ -196,20 +176,18 @@ impl Sizer {
     ) -> Result<(), AllocError>
         requires blocks { block_names self.old.lengths ≡ names_of_blocks self.old.state.blocks }
         requires accepted { IsAccepted (change_as effect.now.change) self.old.state }
-        ensures noted { OnOk result ((operand : operands.Operand) → IsTold sized.now.kept operand → (sized.now.is_bare ≡ true → operand_literals operand ≡ []) →
-            IsNoted location.now operand sized.now.sizing.defines (effect_as effect.now) self.old self.new) }
+        ensures noted { OnOk result ((operand : operands.Operand) → IsBareOperand operand → IsNoted location.now operand sized.now.sizing.defines (effect_as effect.now) self.old self.new) }
         ensures state { self.new.state ≡ self.old.state }
         ensures pieces { self.new.pieces ≡ self.old.pieces }
     {
-        add_told_literals(&mut self.literals, sized)?;
         define_own(&mut self.symbols, location, &sized.sizing)?;
         self.lengths.follow(&self.state, effect)?;
         Ok(())
     }
 
     /// Takes in what a statement gives to its deck: its literals, what it defines, and the words that
-    /// it reaches; and returns whether its operand is known to have no literal. Some of it is taken in
-    /// where memory runs out.
+    /// it reaches; and returns whether its operand is known to have neither literals nor names. Some of it
+    /// is taken in where memory runs out.
     fn note(
         &mut self,
         reading: &Reading<'_>,
@@ -219,9 +197,8 @@ impl Sizer {
     ) -> Result<bool, AllocError>
         requires blocks { block_names self.old.lengths ≡ names_of_blocks self.old.state.blocks }
         requires accepted { IsAccepted (change_as effect.now.change) self.old.state }
-        requires lawful { IsLawful reading.now }
-        ensures noted { OnOk result ((operand : operands.Operand) → IsReading reading.now operand → IsNoted location.now operand defines (effect_as effect.now) self.old self.new) }
-        ensures bare { IfOk result (λ bare. bare ≡ true → (operand : operands.Operand) → IsReading reading.now operand → operand_literals operand ≡ []) }
+        ensures noted { OnOk result ((operand : operands.Operand) → IsReading reading.now operand → IsLawful reading.now → IsNoted location.now operand defines (effect_as effect.now) self.old self.new) }
+        ensures bare { IfOk result (λ bare. bare ≡ true → (operand : operands.Operand) → IsReading reading.now operand → IsLawful reading.now → IsBareOperand operand) }
         ensures state { self.new.state ≡ self.old.state }
         ensures pieces { self.new.pieces ≡ self.old.pieces }
     {

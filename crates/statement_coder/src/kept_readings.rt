@@ -1,17 +1,26 @@
-//! What is kept of a statement's operand, so that coding does not read it again.
-ghost use Rattle.std.specs.Prelude.{◌≡◌, true, Some};
+//! What is kept of a statement's operand, so that coding does not read its cards again.
+ghost use Rattle.std.specs.Prelude.{◌≡◌, true, is_some, IfOk, IfSome, IsOk};
 ghost use Rattle.definitions.specs.Operands as operands;
-ghost use Rattle.statement_coder.specs.Joins.KeptReadings.{IsKeptReading, is_kept_always, reading_of};
-ghost use Rattle.statement_coder.specs.Joins.Readings.{IsReading};
+ghost use Rattle.definitions.specs.Operands.{operand_of};
+ghost use Rattle.definitions.specs.Operations as definitions;
+ghost use Rattle.definitions.specs.declared.deck_kind.DeckKind as kinds;
+ghost use Rattle.operations.specs.Joins.OperationsAs.{operation_as};
+ghost use Rattle.statement_coder.specs.Joins.KeptReadings.{has_no_text, IsKeptReading};
+ghost use Rattle.statement_coder.specs.Joins.Readings.{IsLawful, IsReading, IsWhole};
 
-use crate::readings::Reading;
+use crate::readings::{Reading, read_operand};
+use crate::spellings::Spelling;
+use crate::statement::Statement;
+use definitions::{DeckKind, NumberBase};
 use expr_forms::{KeptBits, KeptData, KeptExpr, KeptShape, UseField};
+use operations::Operation;
+use std::alloc::{AllocError, Global};
 
 /// What was read in a variable field, without the text that it borrows.
 #[derive(Drop)]
 pub enum KeptReading {
-    /// Nothing is kept: it is read again.
-    Again,
+    /// Its text: names, that of CON and DIS, and what is too long for few bytes.
+    Spelt(Box<Spelling>),
     Unread,
     Bad,
     Instruction(KeptShape),
@@ -22,54 +31,103 @@ pub enum KeptReading {
 }
 
 impl Reading<'_> {
-    /// What is kept of it: nothing of names, of CON and DIS, and of a long text; what has no text is
-    /// kept always.
-    pub fn kept(&self) -> KeptReading
-        ensures kept { (operand : operands.Operand) → IsReading self.now operand → IsKeptReading result operand }
-        ensures always { is_kept_always self.now ≡ true → reading_of result ≡ Some self.now }
+    /// What is kept of it without its text, where that can be; what has no text is.
+    #[inline(always)]
+    fn in_few_bytes(&self) -> Option<KeptReading>
+        ensures kept { IfSome result (λ kept. (kind : kinds.DeckKind) (operation : definitions.Operation) (operand : operands.Operand) → IsReading self.now operand → IsLawful self.now → IsKeptReading kind operation kept operand) }
+        ensures some { has_no_text self.now ≡ true → is_some result ≡ true }
     {
         match self {
-            Reading::Unread => KeptReading::Unread,
-            Reading::Bad => KeptReading::Bad,
+            Reading::Unread => Some(KeptReading::Unread),
+            Reading::Bad => Some(KeptReading::Bad),
             Reading::Instruction(shape) => match shape.kept() {
-                Some(kept) => KeptReading::Instruction(kept),
-                None => KeptReading::Again,
+                Some(kept) => Some(KeptReading::Instruction(kept)),
+                None => None,
             },
             Reading::Data(words) => match words.kept() {
-                Some(kept) => KeptReading::Data(kept),
-                None => KeptReading::Again,
+                Some(kept) => Some(KeptReading::Data(kept)),
+                None => None,
             },
             Reading::Vfd(fields) => match fields.kept() {
-                Some(kept) => KeptReading::Vfd(kept),
-                None => KeptReading::Again,
+                Some(kept) => Some(KeptReading::Vfd(kept)),
+                None => None,
             },
             Reading::Value(expression) => match expression.kept() {
-                Some(kept) => KeptReading::Value(kept),
-                None => KeptReading::Again,
+                Some(kept) => Some(KeptReading::Value(kept)),
+                None => None,
             },
-            Reading::Use(field) => KeptReading::Use(*field),
-            Reading::Con(_) => KeptReading::Again,
-            Reading::Text(_) => KeptReading::Again,
-            Reading::Names(_) => KeptReading::Again,
+            Reading::Use(field) => Some(KeptReading::Use(*field)),
+            Reading::Con(_) => None,
+            Reading::Text(_) => None,
+            Reading::Names(_) => None,
+        }
+    }
+
+    /// What is kept of the operand of a statement, which was read under this base: its text, in memory of its
+    /// own, where it does not go into few bytes.
+    #[inline(always)]
+    pub fn kept(
+        &self,
+        alloc: Global,
+        statement: &Statement<'_>,
+        base: NumberBase,
+    ) -> Result<KeptReading, AllocError>
+        ensures kept { IfOk result (λ kept. (operand : operands.Operand) → IsReading self.now operand → IsLawful self.now →
+            operand ≡ operand_of statement.now.kind base (operation_as statement.now.operation) statement.now.name.now statement.now.variable.now →
+            IsKeptReading statement.now.kind (operation_as statement.now.operation) kept operand) }
+        ensures needs_none { has_no_text self.now ≡ true → IsOk result }
+    {
+        match self.in_few_bytes() {
+            Some(kept) => Ok(kept),
+            None => KeptReading::spelt(alloc, statement, base),
         }
     }
 }
 
 impl KeptReading {
-    /// What was read, if it was kept.
+    /// The operand of a statement as it spells it, under this base.
+    #[inline(never)]
+    fn spelt(
+        alloc: Global,
+        statement: &Statement<'_>,
+        base: NumberBase,
+    ) -> Result<KeptReading, AllocError>
+        ensures { IfOk result (λ kept. (operand : operands.Operand) →
+            operand ≡ operand_of statement.now.kind base (operation_as statement.now.operation) statement.now.name.now statement.now.variable.now →
+            IsKeptReading statement.now.kind (operation_as statement.now.operation) kept operand) }
+    {
+        let name = Vec::from_slice(alloc, statement.name)?;
+        let variable = Vec::from_slice(alloc, statement.variable)?;
+        let spelling = Spelling {
+            base,
+            name,
+            variable,
+        };
+        Ok(KeptReading::Spelt(Box::new(alloc, spelling)?))
+    }
+
+    /// The operand of this operation in a deck of this kind, as it was read.
     #[inline(always)]
-    pub fn reading(&self) -> Option<Reading<'_>>
-        ensures { result ≡ reading_of self.now }
+    pub fn reading(&self, kind: DeckKind, operation: Operation) -> Reading<'_>
+        ensures reading { (operand : operands.Operand) → IsKeptReading kind (operation_as operation) self.now operand → IsReading result operand }
+        ensures lawful { (operand : operands.Operand) → IsKeptReading kind (operation_as operation) self.now operand → IsLawful result }
+        ensures whole { IsWhole kind result }
     {
         match self {
-            KeptReading::Again => None,
-            KeptReading::Unread => Some(Reading::Unread),
-            KeptReading::Bad => Some(Reading::Bad),
-            KeptReading::Instruction(kept) => Some(Reading::Instruction(kept.shape())),
-            KeptReading::Data(kept) => Some(Reading::Data(kept.words())),
-            KeptReading::Vfd(kept) => Some(Reading::Vfd(kept.fields())),
-            KeptReading::Value(kept) => Some(Reading::Value(kept.expression())),
-            KeptReading::Use(field) => Some(Reading::Use(*field)),
+            KeptReading::Spelt(spelling) => read_operand(
+                kind,
+                spelling.base,
+                operation,
+                spelling.name.as_slice(),
+                spelling.variable.as_slice(),
+            ),
+            KeptReading::Unread => Reading::Unread,
+            KeptReading::Bad => Reading::Bad,
+            KeptReading::Instruction(kept) => Reading::Instruction(kept.shape()),
+            KeptReading::Data(kept) => Reading::Data(kept.words()),
+            KeptReading::Vfd(kept) => Reading::Vfd(kept.fields()),
+            KeptReading::Value(kept) => Reading::Value(kept.expression()),
+            KeptReading::Use(field) => Reading::Use(*field),
         }
     }
 }

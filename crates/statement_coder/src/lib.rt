@@ -7,9 +7,9 @@
 //! `Sizing::effect` is what the statement does to the state.
 //! `code_read` takes what was read with that, the values of all symbols and literals
 //! (`FinalSymbols`) and the bases, and gives fields and letters; `code` has the statement alone. `kept_operand` has the operand of the
-//! `KeptReading` that was made while the statement was sized, and what was not kept is read again.
+//! `KeptReading` that was made while the statement was sized: that has few bytes, or the text of the operand.
 //! No other calls size or code, and each of the four adds one to the `Meter`. Sizing takes memory only
-//! for the names of an EXT, and for what is kept of an unusual sizing; coding only for data.
+//! for the names of an EXT, and for what is kept of an unusual sizing or operand; coding only for data.
 //!
 //! An `Item` has a width, at most one letter, and bits that are known or a form for the link: in
 //! ABS and PERIPH decks a form becomes a number here, in a REL deck one with a block or external
@@ -26,6 +26,7 @@ mod outcomes;
 mod placing;
 mod read_operands;
 mod readings;
+mod spellings;
 mod statement;
 mod statement_cards;
 

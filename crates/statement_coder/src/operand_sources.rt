@@ -1,11 +1,10 @@
-//! Where coding has the operand of a sized statement from: it is read again, or it was kept.
-ghost use Rattle.std.specs.Prelude.{◌≡◌, true, IfSome};
-ghost use Rattle.std.specs.Option.{option_map};
+//! Where the operand of a statement comes from: it is read, or it was kept.
+ghost use Rattle.std.specs.Prelude.{◌≡◌, true};
 ghost use Rattle.definitions.specs.Operands.{operand_of};
 ghost use Rattle.definitions.specs.Operations.{is_data};
 ghost use Rattle.definitions.specs.Settled.{Settled};
 ghost use Rattle.operations.specs.Joins.OperationsAs.{operation_as};
-ghost use Rattle.statement_coder.specs.Joins.KeptReadings.{IsKeptReading, reading_of};
+ghost use Rattle.statement_coder.specs.Joins.KeptReadings.{IsKeptReading};
 ghost use Rattle.statement_coder.specs.Joins.ReadOperands.{IsReadOperand};
 ghost use Rattle.statement_coder.specs.Joins.Readings.{IsReading, IsLawful, is_listed};
 
@@ -36,25 +35,17 @@ impl<'a> Statement<'a> {
     }
 }
 
-/// The operand of a statement that was kept, with its operation, in a deck of this kind; none where, and
-/// only where, it is to be read again.
+/// The operand of a statement that was kept, with its operation, in a deck of this kind.
 #[inline(always)]
-pub fn kept_operand(
-    kind: DeckKind,
-    operation: Operation,
-    kept: &KeptReading,
-) -> Option<ReadOperand<'_>>
-    ensures kind { IfSome result (λ read. read.kind ≡ kind) }
-    ensures operation { IfSome result (λ read. read.operation ≡ operation) }
-    ensures kept { option_map (λ read. read.reading) result ≡ reading_of kept.now }
-    ensures read { IfSome result (λ read. (settled : Settled) → settled.read.operation ≡ operation_as operation → IsKeptReading kept.now settled.read.operand → IsReadOperand read settled) }
+pub fn kept_operand(kind: DeckKind, operation: Operation, kept: &KeptReading) -> ReadOperand<'_>
+    ensures kind { result.kind ≡ kind }
+    ensures operation { result.operation ≡ operation }
+    ensures read { (settled : Settled) → settled.read.operation ≡ operation_as operation → IsKeptReading kind (operation_as operation) kept.now settled.read.operand → IsReadOperand result settled }
 {
-    match kept.reading() {
-        Some(reading) => Some(ReadOperand {
-            kind,
-            operation,
-            reading,
-        }),
-        None => None,
+    let reading = kept.reading(kind, operation);
+    ReadOperand {
+        kind,
+        operation,
+        reading,
     }
 }

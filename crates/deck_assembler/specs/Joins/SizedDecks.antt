@@ -1,9 +1,13 @@
 -- When what is kept of a deck is what its cards make.
-use Rattle.std.specs.Prelude.{ℕ, ◌≡◌, ⊤, ◌+◌, ◌<◌, ◌≤◌, List, [], ◌∷◌, ◌++◌, IfSome, true, take, drop, length, reverse}
-use Rattle.definitions.specs.{Cards.Card, DeckKinds.{up_to_end, behind_end, kind_of_statements}, Entries.externals_of, Lengths.lengths_of, Literals.{literal_words, operand_literals}, Settled.defined, Settling.{settle, settled_all, number_base_of}, Statements.{Statement, statements_of}, Laws.States.state_after, declared.deck_kind.DeckKind.DeckKind}
+use Rattle.std.specs.Prelude.{ℕ, ◌≡◌, ⊤, ◌+◌, ◌<◌, ◌≤◌, List, [], ◌∷◌, ◌++◌, true, take, drop, length, reverse}
+use Rattle.definitions.specs.{Cards.Card, DeckKinds.{up_to_end, behind_end, kind_of_statements}, Entries.externals_of, Lengths.lengths_of, Literals.literal_words, Settled.{ReadStatement, defined}, Settling.{settle, settled_all, number_base_of}, Statements.{Statement, statements_of}, Laws.{Agreement.own_symbols, States.state_after}, declared.deck_kind.DeckKind.DeckKind}
 use Rattle.operations.specs.Joins.OperationsAs.{operation_as}
 use Rattle.statement_coder.specs.Joins.{KeptReadings.IsKeptReading, Sizings.IsSizing}
-use Rattle.deck_assembler.specs.{Joins.DeckParts.{DeckPiece, DeckParts, sized_in}, Joins.FirstSymbols.symbol_in, declared.sized_statement.SizedStatement.SizedStatement}
+use Rattle.deck_assembler.specs.{Joins.DeckParts.{DeckPiece, DeckParts, sized_in}, Joins.FirstSymbols.symbol_in, Joins.LiteralsRead.IsBareOperand, declared.sized_statement.SizedStatement.SizedStatement}
+
+-- the symbol of its location field that a statement defines
+abbrev pub own_of : ReadStatement → List (List ℕ)
+own_of read = own_symbols read.operation read.fields.location
 
 -- a statement behind these, newest first, was sized; its cards are the next of those ahead, and so many stood before them
 pub record IsSizedStatement (deck_kind : DeckKind) (earlier : List Statement) (stood : ℕ) (ahead : List Card) (sized : SizedStatement) (statement : Statement) : Type 0 where
@@ -15,9 +19,9 @@ pub record IsSizedStatement (deck_kind : DeckKind) (earlier : List Statement) (s
   pub sizing : IsSizing (λ name. defined name (settled_all deck_kind earlier)) (settle deck_kind (settled_all deck_kind earlier) statement) sized.sizing
   pub number_base : sized.sizing.number_base ≡ number_base_of (settled_all deck_kind earlier)
   pub operation : (settle deck_kind (settled_all deck_kind earlier) statement).read.operation ≡ operation_as sized.operation
-  pub label : IfSome sized.label (λ label. label ≡ (settle deck_kind (settled_all deck_kind earlier) statement).read.fields.location)
-  pub kept : IsKeptReading sized.kept (settle deck_kind (settled_all deck_kind earlier) statement).read.operand
-  pub bare : sized.is_bare ≡ true → operand_literals (settle deck_kind (settled_all deck_kind earlier) statement).read.operand ≡ []
+  pub label : own_symbols (operation_as sized.operation) sized.label ≡ own_of (settle deck_kind (settled_all deck_kind earlier) statement).read
+  pub kept : IsKeptReading deck_kind (operation_as sized.operation) sized.kept (settle deck_kind (settled_all deck_kind earlier) statement).read.operand
+  pub bare : sized.is_bare ≡ true → IsBareOperand (settle deck_kind (settled_all deck_kind earlier) statement).read.operand
 
 -- a statement is the next so many cards of those ahead, and so many stood before them
 pub record IsListedStatement (stood : ℕ) (ahead : List Card) (count : ℕ) (statement : Statement) : Type 0 where

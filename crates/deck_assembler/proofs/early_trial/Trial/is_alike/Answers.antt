@@ -1,8 +1,7 @@
 -- What was kept of the next statement is what it is.
-use Rattle.std.{proofs.Common.{◌≡◌, ◌∙◌, List, ℕ, Option, true≢false, sym, subst}, specs.Prelude.{IfSome, MatchOption, ⊤}}
-use Rattle.definitions.specs.Settling.{settle, settled_all}
+use Rattle.std.proofs.Common.{◌∙◌, true≢false, ap, sym, subst}
+use Rattle.definitions.specs.{Laws.Agreement.own_symbols, Settling.{settle, settled_all}}
 use Rattle.operations.specs.Joins.OperationsAs.{operation_as}
-use Rattle.statement_coder.specs.{Joins.Readings.IsReading, declared.readings.Reading.Reading}
 use Rattle.deck_assembler.{specs.Joins.Agreements.AreExternalsAlike, specs.Joins.FirstSymbols.symbol_in, proofs.AlikeLaws.{alike-parts, operand-of, own-of}, proofs.TrialLaws.both-alike}
 use Rattle.deck_assembler.proofs.early_trial.Trial.is_alike.Goals as goal
 
@@ -13,10 +12,9 @@ returns-clause-alike c = λ e earlier stood given is.
     let w = symbol_in c.args.self.now.second.now in
     let sized = c.args.sized.now in
     let settled = settle kind (settled_all kind earlier) given in
-    let label = subst (λ (l : Option (List ℕ)). IfSome l (λ label. label ≡ settled.read.fields.location)) c.in-Some.is is.label in
-    let operand : IsReading c.in-Some-reading.reading settled.read.operand =
-    subst (λ (r : Option Reading). MatchOption r ⊤ (λ reading. IsReading reading settled.read.operand)) (sym c.reading.ensures ∙ c.in-Some-reading.is) is.kept in
-    both-alike v w settled.read sized.sizing.defines (operation_as sized.operation) c.as_slice.result.now (sym is.operation) (c.as_slice.ensures.name ∙ label)
+    let operand = c.reading-reading.ensures.reading settled.read.operand is.kept in
+    both-alike v w settled.read sized.sizing.defines (operation_as sized.operation) c.as_slice-label.result.now (sym is.operation)
+    (ap (own_symbols (operation_as sized.operation)) c.as_slice-label.ensures.name ∙ is.label)
     (c.is_own_alike.ensures.0 c.if-not-is_own_alike.false)
     (c.is_operand_alike.ensures.early e settled.read.operand operand) (subst (AreExternalsAlike v w settled.read.operand) c.defines-defines.ensures (c.is_operand_alike.ensures.externals e settled.read.operand operand))
 
@@ -28,8 +26,8 @@ returns-then-not-is_own_alike-clause-all c = λ later s.
     let sized = c.args.sized.now in
     let here = (alike-parts trial.kind trial.ahead.now v w sized later s).0 in
     let settled = settle trial.kind (settled_all trial.kind here.earlier) here.given in
-    let label = subst (λ (l : Option (List ℕ)). IfSome l (λ label. label ≡ settled.read.fields.location)) c.in-Some.is here.is.label in
-    let own = own-of v w settled.read sized.sizing.defines (operation_as sized.operation) c.as_slice.result.now (sym here.is.operation) (c.as_slice.ensures.name ∙ label) here.alike in
+    let own = own-of v w settled.read sized.sizing.defines (operation_as sized.operation) c.as_slice-label.result.now
+    (ap (own_symbols (operation_as sized.operation)) c.as_slice-label.ensures.name ∙ here.is.label) here.alike in
     absurd (true≢false (sym (c.is_own_alike.ensures.1 own) ∙ c.if-not-is_own_alike.true))
 
 pub returns-clause-all : goal.returns-clause-all
@@ -40,6 +38,5 @@ returns-clause-all c = λ later s.
     let sized = c.args.sized.now in
     let here = (alike-parts trial.kind trial.ahead.now v w sized later s).0 in
     let settled = settle trial.kind (settled_all trial.kind here.earlier) here.given in
-    let operand : IsReading c.in-Some-reading.reading settled.read.operand =
-    subst (λ (r : Option Reading). MatchOption r ⊤ (λ reading. IsReading reading settled.read.operand)) (sym c.reading.ensures ∙ c.in-Some-reading.is) here.is.kept in
+    let operand = c.reading-reading.ensures.reading settled.read.operand here.is.kept in
     c.is_operand_alike.ensures.all settled.read.operand operand (operand-of v w settled.read sized.sizing.defines (operation_as sized.operation) (sym here.is.operation) here.alike) (subst (AreExternalsAlike v w settled.read.operand) (sym c.defines-defines.ensures) here.alike.externals)

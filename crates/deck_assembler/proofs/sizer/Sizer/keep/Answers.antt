@@ -1,7 +1,8 @@
 -- A statement that is kept is one statement more.
-use Rattle.std.{proofs.Common.{◌≡◌, List, ℕ, refl, sym, ap, ◌∙◌, subst}, specs.Prelude.reverse}
-use Rattle.definitions.specs.{Operands.operand_of, Settling.{number_base_of, settle, settled_all}, Laws.States.advanced}
+use Rattle.std.{proofs.Common.{List, ℕ, refl, sym, ap, ◌∙◌, subst}, specs.Prelude.reverse}
+use Rattle.definitions.specs.{Settling.{number_base_of, settle, settled_all}, Laws.States.advanced, declared.deck_kind.DeckKind.DeckKind}
 use Rattle.operations.specs.Joins.OperationsAs.{operation_as}
+use Rattle.statement_coder.specs.Joins.KeptReadings.{IsKeptReading}
 use Rattle.use_blocks.specs.Joins.{EffectsAs.effect_as, BlockLengths.block_names}
 use Rattle.deck_assembler.{specs.Joins.FirstSymbols.symbol_in, specs.Joins.PieceSteps.with_statement, specs.Joins.Sizers.IsNoted, proofs.SizerSteps.sizer-step}
 use Rattle.deck_assembler.proofs.sizer.Sizer.keep.Goals as goal
@@ -15,9 +16,8 @@ returns c = λ kind cards earlier given read next is sized_is.
     let settled = settle kind all given in
     let operand = settled.read.operand in
     let effect = effect_as c.effect-effect.result in
-    let same : operand ≡ operand_of code.kind sized.sizing.number_base (operation_as code.operation) code.name.now code.variable.now =
-    λ i. operand_of (sym read.kind i) (sym sized_is.number_base i) (sym read.operation i) (sym read.name i) (sym read.variable i) in
-    let noted = subst (λ (l : List ℕ). IsNoted l operand sized.sizing.defines effect old c.note_kept.new.self) read.location (c.in_ok-note_kept.ensures.noted operand sized_is.kept sized_is.bare same) in
+    let kept = subst (λ (k : DeckKind). IsKeptReading k (operation_as sized.operation) sized.kept operand) (sym read.kind) sized_is.kept in
+    let noted = subst (λ (l : List ℕ). IsNoted l operand sized.sizing.defines effect old c.note_kept.new.self) read.location (c.in_ok-note_kept.ensures.noted operand kept sized_is.bare) in
     sizer-step kind cards earlier given effect sized old c.put.new.self next is (record {
       sizing = sized_is.sizing;
       number_base = sized_is.number_base;
