@@ -7,7 +7,7 @@ use cards::{Card, StatementRoom};
 use deck_assembler::{SizedDeck, SizedStatement};
 use expr_forms::{BitFields, ConWords, Datum, Expr, Field, Form, LinkedNames, Part, Relocation};
 use operations::Operation;
-use statement_coder::{Defines, ReadOperand, Reading, Statement};
+use statement_coder::{Defines, ReadOperand, Reading, Statement, kept_operand};
 use std::alloc::{AllocError, Global};
 use std::hash::RandomState;
 use text_ports::Text;
@@ -136,7 +136,7 @@ impl Mentions {
         sized: &SizedStatement,
         card: u32,
     ) -> Result<(), AllocError> {
-        let read = statement.read_operand(sized.sizing.number_base());
+        let read = kept_operand(statement.kind, sized.operation, &sized.kept);
         match (&sized.sizing.defines(), &read.reading) {
             (Defines::Symbol(_), _) => self.note(statement.location, false, card)?,
             (Defines::Externals, Reading::Names(names)) => self.note_names(names, false, card)?,

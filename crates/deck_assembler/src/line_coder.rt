@@ -14,7 +14,7 @@ use crate::SizedStatement;
 use crate::deck_view::DeckView;
 use crate::statement_lines::coded_line;
 use deck_objects::{Line, Unlinked};
-use statement_coder::{Item, Meter, ReadOperand, code_read};
+use statement_coder::{Item, Meter, ReadOperand, code};
 use std::alloc::AllocError;
 
 /// The line of a statement whose operand was read, and whose block has this index. Its fields are put
@@ -40,7 +40,7 @@ pub(crate) fn statement_line(
     ensures sized { meter.new.sized ≡ meter.old.sized }
 {
     let bases = Unlinked { bases: view.bases };
-    let coded = code_read(read, &sized.sizing, view, &bases, items, meter)?;
+    let coded = code(read, &sized.sizing, view, &bases, items, meter)?;
     let line = coded_line(read.operation, block, &sized.sizing, coded.items, items)?;
     Ok(Line {
         cards: sized.cards,

@@ -135,13 +135,13 @@ impl<'a> OldDeck<'a> {
         ensures stage { self.new.stage ≡ self.old.stage }
     {
         let statement = Statement::read(self.kind, next_cards(self.ahead, 0, sized.cards), room);
-        let read = statement.read_operand(sized.sizing.number_base());
+        let reading = sized.kept.reading(self.kind, sized.operation);
         let defines = sized.sizing.defines();
         define(
             &mut self.symbols,
             &mut Vec::new(alloc),
             statement.location,
-            &read.reading,
+            &reading,
             defines,
         )?;
         self.state.advance(&sized.sizing.effect(&statement))?;

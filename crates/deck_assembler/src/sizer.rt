@@ -23,9 +23,7 @@ use crate::pieces::{Piece, add_statement};
 use crate::sized_statement::{SizedStatement, label_of};
 use crate::symbol_table::SymbolTable;
 use expr_forms::Name;
-use statement_coder::{
-    Defines, Meter, Reading, Statement, operand_letters, read_operand, size_kept,
-};
+use statement_coder::{Defines, Meter, Reading, Statement, operand_letters, read_operand, size};
 use std::alloc::{AllocError, Global};
 use std::hash::RandomState;
 use use_blocks::{BlockState, Effect, Lengths, Literals};
@@ -84,7 +82,7 @@ impl Sizer {
         let (state, symbols) = (&self.state, &self.symbols);
         let keys = symbols.keys();
         let letters = operand_letters(alloc, keys, statement, &reading, symbols, meter)?;
-        let sizing = size_kept(alloc, statement, &reading, &letters, state, symbols, meter)?;
+        let sizing = size(alloc, statement, &reading, &letters, state, symbols, meter)?;
         let effect = sizing.effect(statement);
         let is_bare = self.note(&reading, statement.location, sizing.defines(), &effect)?;
         let kept = reading.kept(alloc, statement, base)?;

@@ -1,19 +1,15 @@
-//! Items and values as the manual's words, the bits of instructions, and fields that expressions and numbers give.
+//! Items and values as the manual's words, the bits of instructions, and fields as they are shown.
 ghost use Rattle.std.specs.Prelude.{◌≤◌};
 
 use crate::expression_topics::form;
-use crate::field_topics::kind_of;
 use crate::outputs::Answer;
 use definitions::{DeckKind, Letter, NumberBase};
 use expr_forms::{
-    CountedItem, Expr, Field, Form, Magnitude, Name, Number, Part, Relocation, Shape, Sign,
-    characters_number, coded_in, counted_item_in, counted_item_word, item_literal, item_number,
+    CountedItem, Expr, Field, Shape, characters_number, coded_in, counted_item_in,
+    counted_item_word, item_literal, item_number,
 };
-use statement_coder::{
-    Content, InstructionItems, Item, bit_field_item, count_item, displacement_item,
-    expression_item, instruction_items, number_item, shift_item, value_item, zeros_to_word,
-};
-use test_parts::{KnownNames, OneBlock, cut, small};
+use statement_coder::{Content, InstructionItems, Item};
+use test_parts::{cut, small};
 
 /// What an item with this letter gives: in a field of 60 bits, as words, as a literal and as a number.
 pub fn counted_item(answer: &mut Answer, text: &str) {
@@ -77,9 +73,7 @@ pub fn shape_of(text: &str) -> Option<Shape<'_>> {
         "absent" => (0, 5, Field::Absent),
         "address" => (0, 4, Field::Address(first)),
         "short" => (0, 2, Field::Short(first)),
-        "mask" => (0o430, 3, Field::Count(first)),
         "long" => (0o50, 2, Field::Long(first, None)),
-        "long,5" => (0o50, 2, Field::Long(first, expression("5").ok())),
         _ => return None,
     };
     Some(Shape {
@@ -120,67 +114,4 @@ pub fn fields_of_instruction(answer: &mut Answer, items: &InstructionItems) {
         answer.word(";");
         item(answer, second);
     }
-}
-
-/// A word of block A.
-fn in_block(number: i64) -> Form {
-    Form::new(
-        number,
-        Some(Part::Added(Relocation::Block(Name::new(b"A")))),
-    )
-}
-
-/// Every symbol is 5 words behind the beginning of block A; each literal stands at 1, the location
-/// counter at 1000 octal, and the origin counter at 2.
-fn names_of_block() -> KnownNames {
-    KnownNames {
-        value: Some(in_block(5)),
-        literal: Form::absolute(1),
-        location: Form::absolute(0o1000),
-        origin: Form::absolute(2),
-    }
-}
-
-/// The field of a kind, which an expression gives.
-pub fn item_field(answer: &mut Answer, text: &str) {
-    let (kind, text) = cut(text);
-    let names = names_of_block();
-    let Ok(expression) = expression(text) else {
-        return answer.word("no such row");
-    };
-    let found = match kind {
-        "count" => count_item(&names, &expression),
-        "shift" => shift_item(DeckKind::Periph, &OneBlock, &names, &expression),
-        "displacement" => displacement_item(DeckKind::Periph, &OneBlock, &names, &expression),
-        "rel60" => expression_item(DeckKind::Rel, &OneBlock, &names, 60, &expression),
-        "rel17" => value_item(DeckKind::Rel, &OneBlock, 17, Ok(in_block(5))),
-        "abs18" => bit_field_item(DeckKind::Abs, &OneBlock, &names, 18, &Some(expression)),
-        _ => bit_field_item(DeckKind::Rel, &OneBlock, &names, 18, &Some(expression)),
-    };
-    item(answer, &found)
-}
-
-/// A field of so many bits with minus 1.
-pub fn negative(answer: &mut Answer, width: &str) {
-    let one = Number::Value(Magnitude { value: 1 });
-    item(answer, &number_item(width_of(width), Sign::Minus, one))
-}
-
-/// The zeros behind so many bits of a deck of a kind.
-pub fn zeros(answer: &mut Answer, text: &str) {
-    let (kind, bits) = cut(text);
-    item(answer, &zeros_to_word(kind_of(kind), small(bits)))
-}
-
-/// The fields of an instruction with a field of a kind: of a REL deck where that is a mask.
-pub fn instruction_field(answer: &mut Answer, text: &str) {
-    let Some(shape) = shape_of(text) else {
-        return answer.word("no such row");
-    };
-    let kind = match &shape.field {
-        Field::Count(_) => DeckKind::Rel,
-        _ => DeckKind::Periph,
-    };
-    let items = instruction_items(kind, &OneBlock, &names_of_block(), &shape);
-    fields_of_instruction(answer, &items)
 }

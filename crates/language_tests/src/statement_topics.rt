@@ -1,18 +1,24 @@
 //! Single statements as a deck writes them: their sizes, their codes and their effects; and lists of literals.
-ghost use Rattle.std.specs.Prelude.{◌≡◌};
+ghost use Rattle.std.specs.Prelude.{◌≡◌, IfOk};
 ghost use Rattle.definitions.specs.Laws.States.{names_of_blocks};
 ghost use Rattle.use_blocks.specs.Joins.BlockLengths.{block_names};
+ghost use Rattle.use_blocks.specs.Joins.Changes.{IsAccepted};
+ghost use Rattle.use_blocks.specs.Joins.EffectsAs.{change_as};
 
 use crate::expression_topics::form;
+use crate::field_topics::kind_of;
 use crate::item_topics::{fields_of_instruction, item};
 use crate::outputs::Answer;
 use cards::{Card, StatementRoom};
 use definitions::DeckKind;
-use expr_forms::{Form, Name};
-use statement_coder::{Coded, CodedItems, Defines, KeptSizing, Sizing, Statement, code, size};
+use expr_forms::{Form, Name, Part, Relocation};
+use statement_coder::{
+    BlockBases, Coded, CodedItems, Defines, KeptSizing, ReadOperand, Statement, code,
+    operand_letters, size,
+};
 use std::alloc::{AllocError, Global};
 use std::hash::RandomState;
-use test_parts::{KnownNames, NoBases, card_of, cut, cut_line, number, octal, small};
+use test_parts::{KnownNames, NoBases, OneBlock, card_of, cut, cut_line, number, octal, small};
 use use_blocks::{
     Bases, BlockState, Counting, Effect, Lengths, Literals, LocationSetting, Position,
     blocks_are_bounded, blocks_are_few, location, origin,
@@ -71,6 +77,24 @@ fn names(value: &str) -> KnownNames {
     }
 }
 
+/// A word of block A.
+fn in_block(number: i64) -> Form {
+    Form::new(
+        number,
+        Some(Part::Added(Relocation::Block(Name::new(b"A")))),
+    )
+}
+
+/// Every symbol is 5 words behind the beginning of block A.
+fn names_of_block() -> KnownNames {
+    KnownNames {
+        value: Some(in_block(5)),
+        literal: Form::absolute(1),
+        location: Form::absolute(0),
+        origin: Form::absolute(0),
+    }
+}
+
 /// How many statements were sized and coded.
 pub fn counts(answer: &mut Answer, sized: u64, coded: u64) {
     answer.word("done");
@@ -93,55 +117,96 @@ fn defined(answer: &mut Answer, defines: &Defines) {
     }
 }
 
-/// One card behind no other, in a REL deck: its sizing or its code; the first word is the value of
-/// each symbol.
+/// One card behind no other: its sizing or its code. The first word is the value of each symbol, in a
+/// REL deck, or the kind of a deck in which each symbol is relative to block A.
 pub fn one_card(answer: &mut Answer, topic: &str, text: &str) -> Result<(), AllocError> {
-    let (value, line) = cut(text);
-    one_statement(answer, topic == "codes", &names(value), &[card_of(line)?])
+    let (first, line) = cut(text);
+    let cards = [card_of(line)?];
+    match first {
+        "REL" | "ABS" | "PERIPH" => {
+            let symbols = names_of_block();
+            one_statement(answer, true, kind_of(first), &symbols, &OneBlock, &cards)
+        }
+        _ => {
+            let is_coded = topic == "codes";
+            let symbols = names(first);
+            one_statement(answer, is_coded, DeckKind::Rel, &symbols, &NoBases, &cards)
+        }
+    }
 }
 
 /// The sizing of the statement of a card, or its code, and what was done.
-fn one_statement(
+fn one_statement<B: BlockBases>(
     answer: &mut Answer,
     is_coded: bool,
+    kind: DeckKind,
     symbols: &KnownNames,
+    bases: &B,
     cards: &[Card; 1],
 ) -> Result<(), AllocError> {
     let (alloc, keys) = (answer.alloc, answer.keys);
     let mut room = StatementRoom::new();
-    let statement = Statement::read(DeckKind::Rel, cards, &mut room);
+    let statement = Statement::read(kind, cards, &mut room);
     let state = BlockState::new(alloc)?;
+    let read = statement.read_operand(state.number_base());
     let mut done = work_meter::begin();
-    let sizing = size(alloc, keys, &statement, &state, symbols, &mut done)?;
+    let sizing = sized(alloc, keys, &statement, &read, &state, symbols, &mut done)?;
     if is_coded {
-        let kept = KeptSizing::new(alloc, statement.kind, true, sizing)?;
-        coded(answer, &statement, &kept, symbols, &mut done)?;
+        coded(answer, &read, &sizing, symbols, bases, &mut done)?;
     } else {
-        sizing_shown(answer, &sizing);
+        sizing_shown(answer, &sizing, &sizing.effect(&statement));
     }
     meter(answer, &done);
     Ok(())
 }
 
-fn sizing_shown(answer: &mut Answer, sizing: &Sizing) {
-    answer.either(sizing.is_placed, "placed", "-");
-    answer.either(sizing.asks, "asks", "-");
-    answer.number(&sizing.place);
-    answer.number(&sizing.end);
-    answer.quoted(sizing.letters.text().as_slice());
-    defined(answer, &sizing.defines)
+/// The sizing of a statement whose operand was read; the state before it accepts its change.
+fn sized(
+    alloc: Global,
+    keys: RandomState,
+    statement: &Statement<'_>,
+    read: &ReadOperand<'_>,
+    state: &BlockState,
+    symbols: &KnownNames,
+    done: &mut Meter,
+) -> Result<KeptSizing, AllocError>
+    ensures { IfOk result (λ sizing. IsAccepted (change_as sizing.change) state.now) }
+{
+    let letters = operand_letters(alloc, keys, statement, &read.reading, symbols, done)?;
+    size(
+        alloc,
+        statement,
+        &read.reading,
+        &letters,
+        state,
+        symbols,
+        done,
+    )
+}
+
+fn sizing_shown(answer: &mut Answer, sizing: &KeptSizing, effect: &Effect) {
+    answer.either(sizing.is_placed(), "placed", "-");
+    match effect.position {
+        Some(position) => answer.either(position.asks(), "asks", "-"),
+        None => answer.word("-"),
+    }
+    answer.number(&sizing.place());
+    answer.number(&sizing.end());
+    answer.quoted(sizing.letters().text().as_slice());
+    defined(answer, &sizing.defines())
 }
 
 /// The code of a statement that was sized.
-fn coded(
+fn coded<B: BlockBases>(
     answer: &mut Answer,
-    statement: &Statement<'_>,
+    read: &ReadOperand<'_>,
     sizing: &KeptSizing,
     symbols: &KnownNames,
+    bases: &B,
     done: &mut Meter,
 ) -> Result<(), AllocError> {
     let mut list = Vec::new(answer.alloc);
-    let coded = code(statement, sizing, symbols, &NoBases, &mut list, done)?;
+    let coded = code(read, sizing, symbols, bases, &mut list, done)?;
     coded_shown(answer, &coded);
     for listed in &list {
         answer.word(";");
@@ -192,7 +257,8 @@ impl Blocks {
         let mut room = StatementRoom::new();
         let statement = Statement::read(DeckKind::Rel, cards, &mut room);
         let mut done = work_meter::begin();
-        let sizing = size(alloc, keys, &statement, &state, &names("none"), &mut done)?;
+        let (symbols, read) = (names("none"), statement.read_operand(state.number_base()));
+        let sizing = sized(alloc, keys, &statement, &read, &state, &symbols, &mut done)?;
         let effect = sizing.effect(&statement);
         lengths.follow(&state, &effect)?;
         state.advance(&effect)?;

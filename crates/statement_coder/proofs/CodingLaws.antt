@@ -1,11 +1,8 @@
--- A statement that is read again is the settled one, and sees the names of its deck.
-use Rattle.std.proofs.Common.{◌≡◌, ◌∙◌, Result, ap, ap₂, sym, subst}
-use Rattle.definitions.specs.{Expressions.Literal, Fields.fields_of, Forms.Form, Literals.literal_form, Operands.{Operand, operand_of}, Settled.{ReadStatement, Settled, defined, read_of}, Settling.View, StatementItems.Context, Statements.Statement, declared.deck_kind.DeckKind.DeckKind, declared.letter.Letter.Letter}
-use Rattle.statement_coder.{specs.Joins.Items.AreSeen, specs.Joins.ReadOperands.IsReadOperand, specs.Joins.Readings.{IsReading, IsWhole}, specs.Joins.Sizings.IsCodable, specs.Joins.StatementsRead.IsRead, specs.declared.readings.Reading.Reading, specs.declared.sizing.Sizing.Sizing, proofs.OperandLaws.FillsWords}
-use Rattle.operations.specs.Joins.OperationsAs.{operation_as}
-use Rattle.statement_coder.specs.declared.read_operands.ReadOperand as operands
+-- A statement sees the names of its deck, and a text that was read fills its words.
+use Rattle.std.proofs.Common.{◌≡◌, Result, subst}
+use Rattle.definitions.specs.{Expressions.Literal, Forms.Form, Literals.literal_form, Operands.Operand, Settled.{Settled, defined}, Settling.View, StatementItems.Context, declared.deck_kind.DeckKind.DeckKind, declared.letter.Letter.Letter}
+use Rattle.statement_coder.{specs.Joins.Items.AreSeen, specs.Joins.Readings.{IsReading, IsWhole}, specs.declared.readings.Reading.Reading, proofs.OperandLaws.FillsWords}
 use Rattle.statement_coder.specs.declared.readings.Reading.TheVariants as reading
-use Rattle.statement_coder.specs.declared.statement.Statement as statements
 
 -- the names of a deck and the counters of a statement are what it sees
 pub are_seen : (symbol : View) (literal : Literal → Result Form Letter) (location origin : Form) (context : Context) (settled : Settled) →
@@ -25,26 +22,3 @@ read_whole kind (reading.Vfd fields) operand is fills = tt
 read_whole kind (reading.Value e) operand is fills = tt
 read_whole kind (reading.Names names) operand is fills = tt
 read_whole kind (reading.Use field) operand is fills = tt
-
--- a statement that was read, under the base that its sizing keeps
-pub codable : (kind : DeckKind) (given : Statement) (code : statements.Statement) (sizing : Sizing) (settled : Settled) →
-    IsRead kind given.cards code → settled.read ≡ read_of kind sizing.number_base given → IsCodable code sizing settled
-codable kind given code sizing settled read e =
-    let fields = fields_of given.cards in
-    let base = sizing.number_base in
-    record {
-      operation = ap (λ (r : ReadStatement). r.operation) e ∙ sym read.operation;
-      operand = ap (λ (r : ReadStatement). r.operand) e
-          ∙ ap (λ o. operand_of kind base o fields.operation fields.variable) (sym read.operation)
-          ∙ ap₂ (λ name text. operand_of kind base (operation_as code.operation) name text) (sym read.name) (sym read.variable)
-          ∙ ap (λ k. operand_of k base (operation_as code.operation) code.name.now code.variable.now) (sym read.kind);
-    }
-
--- an operand that was read again is the settled one
-pub read_again : (code : statements.Statement) (sizing : Sizing) (settled : Settled) (again : operands.ReadOperand) → IsCodable code sizing settled →
-    again.operation ≡ code.operation → IsReading again.reading (operand_of code.kind sizing.number_base (operation_as code.operation) code.name.now code.variable.now) →
-    IsReadOperand again settled
-read_again code sizing settled again codes same is = record {
-  operation = codes.operation ∙ ap operation_as (sym same);
-  operand = subst (IsReading again.reading) (sym codes.operand) is;
-}

@@ -1,7 +1,6 @@
 //! What a sized statement is once all names have their values: its fields, and all its letters.
 ghost use Rattle.std.specs.Prelude.{◌≡◌, ◌≤◌, ◌+◌, ◌-◌, ◌^◌, [], List, IfOk, OnErr, true, false, min, nat_le, if◌then◌else◌};
 ghost use Rattle.definitions.specs.Operands as operands;
-ghost use Rattle.definitions.specs.Operations.{is_data};
 ghost use Rattle.definitions.specs.Settled.{Settled};
 ghost use Rattle.definitions.specs.Settling.{View};
 ghost use Rattle.definitions.specs.StatementItems as definitions;
@@ -10,7 +9,7 @@ ghost use Rattle.definitions.specs.declared.deck_kind.DeckKind as kinds;
 ghost use Rattle.statement_coder.specs.declared.items.Item as fields;
 ghost use Rattle.operations.specs.Joins.OperationsAs.{operation_as};
 ghost use Rattle.statement_coder.specs.Joins.CodedItems.{AreTold, is_zeros, stores_zeros};
-ghost use Rattle.statement_coder.specs.Joins.CodedReads.{AreCodedItems, AreCodedLetters, HasLetters, ListsItems};
+ghost use Rattle.statement_coder.specs.Joins.CodedReads.{AreCodedItems, AreCodedLetters};
 ghost use Rattle.statement_coder.specs.Joins.Readings.{is_listed};
 ghost use Rattle.statement_coder.specs.Joins.Sizings.{IsSizing};
 ghost use Rattle.statement_coder.specs.declared.sizing.Sizing as sizings;
@@ -21,7 +20,6 @@ use crate::final_names::{FinalNames, FinalSymbols};
 use crate::kept_sizing::KeptSizing;
 use crate::operand_fields::{fields_told, take_back, told_letters};
 use crate::read_operands::ReadOperand;
-use crate::statement::Statement;
 use crate::{BlockBases, Item};
 use operations::Operation;
 use std::alloc::AllocError;
@@ -102,7 +100,7 @@ fn coded<S: FinalSymbols, B: BlockBases>(
 /// literals have their values and all blocks their places, counted in the meter: exactly those of the
 /// definitions. The fields of data are put at the end of the list, and they alone take memory; where
 /// it runs out the list is as it was.
-pub fn code_read<S: FinalSymbols, B: BlockBases>(
+pub fn code<S: FinalSymbols, B: BlockBases>(
     read: &ReadOperand<'_>,
     sizing: &KeptSizing,
     symbols: &S,
@@ -121,27 +119,4 @@ pub fn code_read<S: FinalSymbols, B: BlockBases>(
 {
     count_coded(meter);
     coded(read, sizing, symbols, bases, list)
-}
-
-/// The fields of a sized statement, and all its letters, as `code_read` has them; its operand is read
-/// again.
-pub fn code<S: FinalSymbols, B: BlockBases>(
-    statement: &Statement<'_>,
-    sizing: &KeptSizing,
-    symbols: &S,
-    bases: &B,
-    list: &mut Vec<Item>,
-    meter: &mut Meter,
-) -> Result<Coded, AllocError>
-    ensures items { IfOk result (λ coded. ListsItems statement.now sizing.now (S.symbols symbols.now) (S.literals symbols.now) (B.rows bases.now) coded list.old.items list.new.items) }
-    ensures letters { IfOk result (HasLetters statement.now sizing.now (S.symbols symbols.now) (S.literals symbols.now) (B.rows bases.now)) }
-    ensures zeros { IfOk result (λ coded. is_zeros coded.items ≡ stores_zeros (operation_as statement.now.operation)) }
-    ensures unchanged { OnErr result (list.new.items ≡ list.old.items) }
-    ensures listed { OnErr result (is_data (operation_as statement.now.operation) ≡ true) }
-    ensures coded { meter.new.coded ≡ min (meter.old.coded + 1) (2 ^ 64 - 1) }
-    ensures rises { meter.old.coded ≤ meter.new.coded }
-    ensures sized { meter.new.sized ≡ meter.old.sized }
-{
-    let read = statement.read_operand(sizing.number_base());
-    code_read(&read, sizing, symbols, bases, list, meter)
 }

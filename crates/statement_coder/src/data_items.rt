@@ -9,8 +9,10 @@ ghost use Rattle.statement_coder.specs.Joins.Items.{AreSeen, deck_with, item_as}
 ghost use Rattle.statement_coder.specs.Joins.CodedItems.{IsKept};
 ghost use Rattle.statement_coder.specs.Joins.WordItems.{in_words};
 
+use crate::items::{number_item, zeros_to_word};
 use crate::listing::{known_word, push, push_item};
-use crate::{BlockBases, Item, bit_field_item, expression_item, number_item, zeros_to_word};
+use crate::values::{bit_field_item, expression_item};
+use crate::{BlockBases, Item};
 use definitions::DeckKind;
 use expr_forms::{BitFields, ConWords, CountedItem, DataWords, Datum, Names};
 use std::alloc::AllocError;

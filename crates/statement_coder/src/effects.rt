@@ -68,7 +68,7 @@ impl Sizing {
     /// What the statement that was sized does to the state before it: exactly the definitions' effect.
     /// Its position is in units of the block, what it reaches in words. The state that it was sized
     /// from accepts its change.
-    pub fn effect(&self, statement: &Statement<'_>) -> Effect
+    pub(crate) fn effect(&self, statement: &Statement<'_>) -> Effect
         ensures effect { (kind : kinds.DeckKind) (given : statements.Statement) (base : bases.NumberBase) (view : View) (settled : Settled) →
             IsRead kind given.cards statement.now → settled.read ≡ read_of kind base given → IsSizing view settled self.now →
             effect_as result ≡ effect_of kind settled }

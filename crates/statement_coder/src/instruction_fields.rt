@@ -79,7 +79,7 @@ fn shape_items<B: BlockBases, N: Names>(
 }
 
 /// The fields of an instruction in a deck of this kind, with the letters that flag them.
-pub fn instruction_items<B: BlockBases, N: Names>(
+pub(crate) fn instruction_items<B: BlockBases, N: Names>(
     kind: DeckKind,
     bases: &B,
     names: &N,

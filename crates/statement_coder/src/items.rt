@@ -71,7 +71,7 @@ pub fn signed(sign: Sign, size: u64) -> i64
 }
 
 /// A signed number in a field of 1 to 60 bits: 0 with A where it does not fit.
-pub fn number_item(width: u32, sign: Sign, number: Number) -> Item
+pub(crate) fn number_item(width: u32, sign: Sign, number: Number) -> Item
     requires some { 1 ≤ width }
     requires most { width ≤ 60 }
     ensures { item_as result ≡ number_item width (sign_as sign) (number_as number) }
@@ -83,7 +83,7 @@ pub fn number_item(width: u32, sign: Sign, number: Number) -> Item
 }
 
 /// The zeros that fill the last word of fields that have so many bits together.
-pub fn zeros_to_word(kind: DeckKind, bits: u32) -> Item
+pub(crate) fn zeros_to_word(kind: DeckKind, bits: u32) -> Item
     ensures { item_as result ≡ zeros_to_word (word_bits kind) bits }
 {
     let word = kind.word_bits();

@@ -261,7 +261,7 @@ impl KeptSizing {
 
     /// Keeps a sizing of a deck of this kind; its counters may differ only where a LOC is in force. It
     /// takes memory where it is not a usual one alone.
-    pub fn new(
+    pub(crate) fn new(
         alloc: Global,
         kind: DeckKind,
         is_counted: bool,

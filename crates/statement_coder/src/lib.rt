@@ -1,14 +1,14 @@
 //! One statement: what it is once the state before it is known, and its fields and letters once all
 //! names have their values, exactly as the definitions have them.
 //!
-//! `size` takes a statement, the `BlockState` before it and the symbols that earlier statements
-//! define (`EarlySymbols`), and promises what the definitions settle of any such state, so an edit
-//! may begin anywhere; `size_kept` is the same for whoever has read the operand, in few bytes: a `KeptSizing`.
-//! `Sizing::effect` is what the statement does to the state.
-//! `code_read` takes what was read with that, the values of all symbols and literals
-//! (`FinalSymbols`) and the bases, and gives fields and letters; `code` has the statement alone. `kept_operand` has the operand of the
-//! `KeptReading` that was made while the statement was sized: that has few bytes, or the text of the operand.
-//! No other calls size or code, and each of the four adds one to the `Meter`. Sizing takes memory only
+//! `size` takes a statement with the operand that was read of it and the letters of that (`operand_letters`),
+//! the `BlockState` before it and the symbols that earlier statements define (`EarlySymbols`), and promises
+//! what the definitions settle of any such state, so an edit may begin anywhere: a sizing in few bytes, a
+//! `KeptSizing`. `KeptSizing::effect` is what the statement does to the state.
+//! `code` takes the operand with that, the values of all symbols and literals (`FinalSymbols`) and the
+//! bases, and gives fields and letters. `kept_operand` has the operand of the `KeptReading` that was made
+//! while the statement was sized: that has few bytes, or the text of the operand.
+//! No other calls size or code, and each of the two adds one to the `Meter`. Sizing takes memory only
 //! for the names of an EXT, and for what is kept of an unusual sizing or operand; coding only for data.
 //!
 //! An `Item` has a width, at most one letter, and bits that are known or a form for the link: in
@@ -65,12 +65,12 @@ mod listing;
 mod operand_fields;
 
 pub use coded::{Coded, CodedItems};
-pub use coding::{code, code_read};
+pub use coding::code;
 pub use definitions_made::Defines;
 pub use early_values::EarlySymbols;
 pub use final_names::FinalSymbols;
-pub use instruction_fields::{InstructionItems, instruction_items};
-pub use items::{Content, Item, number_item, signed, zeros_to_word};
+pub use instruction_fields::InstructionItems;
+pub use items::{Content, Item, signed};
 pub use kept_readings::KeptReading;
 pub use kept_sizing::KeptSizing;
 pub use laws::lists_keep_bits;
@@ -78,10 +78,8 @@ pub use numbers::{BlockBases, number_coded, number_in};
 pub use operand_sources::kept_operand;
 pub use read_operands::ReadOperand;
 pub use readings::{Reading, read_operand};
-pub use six_bits::{count_item, displacement_item, shift_item};
-pub use sized::{operand_letters, size, size_kept};
+pub use sized::{operand_letters, size};
 pub use sizing::Sizing;
 pub use statement::Statement;
 pub use statement_cards::known_statement;
-pub use values::{bit_field_item, expression_item, value_item};
 pub use work_meter::Meter;

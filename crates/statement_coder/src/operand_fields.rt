@@ -16,10 +16,11 @@ ghost use Rattle.statement_coder.specs.declared.sizing.Sizing as sizings;
 
 use crate::coded::CodedItems;
 use crate::data_items::{push_bits, push_con, push_data};
+use crate::instruction_fields::instruction_items;
 use crate::item_letters::{instruction_letters, list_letters};
 use crate::listing::push_text;
 use crate::readings::Reading;
-use crate::{BlockBases, Item, instruction_items};
+use crate::{BlockBases, Item};
 use definitions::DeckKind;
 use expr_forms::Names;
 use operations::Letters;

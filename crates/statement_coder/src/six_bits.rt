@@ -63,7 +63,7 @@ fn count_in(number: i64) -> Item
 
 /// The field n of LX, AX and MX: R where its value has a block or external, A where it is not -60
 /// to 63 (6600 reference 60100000, shift and mask instructions).
-pub fn count_item<N: Names>(names: &N, expression: &Expr<'_>) -> Item
+pub(crate) fn count_item<N: Names>(names: &N, expression: &Expr<'_>) -> Item
     ensures { (context : definitions.Context) (statement : Settled) → AreSeen (N.names names.now) context statement →
         item_as result ≡ count_of (small_value context statement expression.now (whole_counted_item expression.now.sign expression.now.terms)) }
 {
@@ -127,7 +127,7 @@ fn short_distance<B: BlockBases>(bases: &B, form: Form, from: Form) -> Item
 
 /// The count of SHN, from -37 to 37 octal, else A (6600 reference 60100000, peripheral
 /// instructions).
-pub fn shift_item<B: BlockBases, N: Names>(
+pub(crate) fn shift_item<B: BlockBases, N: Names>(
     kind: DeckKind,
     bases: &B,
     names: &N,
@@ -146,7 +146,7 @@ pub fn shift_item<B: BlockBases, N: Names>(
 
 /// The displacement of a short jump: an absolute value from -37 to 37 octal as it is, else the
 /// distance from the location counter, or A (COMPASS 60492600, peripheral instructions).
-pub fn displacement_item<B: BlockBases, N: Names>(
+pub(crate) fn displacement_item<B: BlockBases, N: Names>(
     kind: DeckKind,
     bases: &B,
     names: &N,

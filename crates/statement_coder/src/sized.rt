@@ -6,14 +6,12 @@ ghost use Rattle.definitions.specs.Counters.{counters_at};
 ghost use Rattle.definitions.specs.Operands as operands;
 ghost use Rattle.definitions.specs.Letters.{in_order};
 ghost use Rattle.definitions.specs.Operations as op;
-ghost use Rattle.definitions.specs.Settling.{is_run, operand_letters, settled_from};
+ghost use Rattle.definitions.specs.Settling.{is_run, operand_letters};
 ghost use Rattle.definitions.specs.Laws.States.{seen_from};
-ghost use Rattle.definitions.specs.declared.deck_kind.DeckKind as kinds;
 ghost use Rattle.operations.specs.Joins.OperationsAs.{operation_as};
 ghost use Rattle.use_blocks.specs.Joins.Changes.{IsAccepted, block_now};
 ghost use Rattle.use_blocks.specs.Joins.EffectsAs.{change_as, setting_as};
 ghost use Rattle.statement_coder.specs.Joins.Readings.{IsReading, has_names, is_plain};
-ghost use Rattle.statement_coder.specs.Joins.StatementsRead.{IsRead};
 ghost use Rattle.statement_coder.specs.Joins.Sizings.{read_as, settled_read, IsSizing};
 
 use crate::block_changes::change_of;
@@ -22,7 +20,7 @@ use crate::early_values::{EarlyNames, EarlySymbols, early_value, equated};
 use crate::kept_sizing::KeptSizing;
 use crate::outcomes::outcome_of;
 use crate::placing::{Placed, asks_after, placed_in};
-use crate::readings::{Reading, read_operand};
+use crate::readings::Reading;
 use crate::size_letters::{found_letters, size_letters};
 use crate::sizing::Sizing;
 use crate::statement::Statement;
@@ -162,7 +160,7 @@ fn kept_settled<S: EarlySymbols>(
 /// known, and the letters of its operand; counted in the meter. The state accepts its change. An operand
 /// that takes no value, and is not that of a USE, takes no memory where no LOC is in force.
 #[inline(always)]
-pub fn size_kept<S: EarlySymbols>(
+pub fn size<S: EarlySymbols>(
     alloc: Global,
     statement: &Statement<'_>,
     reading: &Reading<'_>,
@@ -186,38 +184,4 @@ pub fn size_kept<S: EarlySymbols>(
         Some(usual) => Ok(KeptSizing::usual(usual)),
         None => kept_settled(alloc, statement, reading, of_operand, state, symbols),
     }
-}
-
-/// What a statement is once the state before it and the early values of symbols are known, counted in
-/// the meter: exactly what the definitions settle from these. The state accepts its change. The names of
-/// an EXT alone take memory.
-pub fn size<S: EarlySymbols>(
-    alloc: Global,
-    keys: RandomState,
-    statement: &Statement<'_>,
-    state: &BlockState,
-    symbols: &S,
-    meter: &mut Meter,
-) -> Result<Sizing, AllocError>
-    ensures sizing { IfOk result (λ sizing. (kind : kinds.DeckKind) (given : statements.Statement) → IsRead kind given.cards statement.now →
-        IsSizing (S.view symbols.now) (settled_from kind (seen_from state.now (S.view symbols.now)) given) sizing) }
-    ensures accepted { IfOk result (λ sizing. IsAccepted (change_as sizing.change) state.now) }
-    ensures number_base { IfOk result (λ sizing. sizing.number_base ≡ state.now.number_base) }
-    ensures origin { IfOk result (λ sizing. sizing.origin ≡ (counters_at statement.now.kind sizing.block sizing.place None).origin) }
-    ensures uncounted { IfOk result (λ sizing. (block_now state.now).counting ≡ None → sizing.location ≡ sizing.origin) }
-    ensures names { OnErr result (operation_as statement.now.operation ≡ op.Ext) }
-    ensures sized { meter.new.sized ≡ min (meter.old.sized + 1) (2 ^ 64 - 1) }
-    ensures rises { meter.old.sized ≤ meter.new.sized }
-    ensures coded { meter.new.coded ≡ meter.old.coded }
-{
-    let reading = read_operand(
-        statement.kind,
-        state.number_base(),
-        statement.operation,
-        statement.name,
-        statement.variable,
-    );
-    let letters = operand_letters(alloc, keys, statement, &reading, symbols, meter)?;
-    count_sized(meter);
-    Ok(settle(statement, &reading, state, symbols, &letters))
 }

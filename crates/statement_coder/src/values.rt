@@ -35,7 +35,7 @@ fn linked_item(width: u32, form: Form) -> Item
 /// The field of a value, of 1 to 60 bits, or 0 with its letter: A where it does not fit, R where a
 /// block or external has too few bits for the link. In ABS and PERIPH decks the blocks have their
 /// places, and externals are 0.
-pub fn value_item<B: BlockBases>(
+pub(crate) fn value_item<B: BlockBases>(
     kind: DeckKind,
     bases: &B,
     width: u32,
@@ -58,7 +58,7 @@ pub fn value_item<B: BlockBases>(
 
 /// The field of an expression, of 1 to 60 bits: a counted item alone is placed in it, of all else
 /// the value is taken.
-pub fn expression_item<B: BlockBases, N: Names>(
+pub(crate) fn expression_item<B: BlockBases, N: Names>(
     kind: DeckKind,
     bases: &B,
     names: &N,
@@ -81,7 +81,7 @@ pub fn expression_item<B: BlockBases, N: Names>(
 }
 
 /// A field of a VFD, of 1 to 60 bits: 0 where it has no expression.
-pub fn bit_field_item<B: BlockBases, N: Names>(
+pub(crate) fn bit_field_item<B: BlockBases, N: Names>(
     kind: DeckKind,
     bases: &B,
     names: &N,

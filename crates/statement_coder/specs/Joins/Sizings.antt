@@ -1,6 +1,6 @@
 -- What a statement is once the state before it is known, in the words of the definitions.
 use Rattle.std.specs.Prelude.{◌≡◌}
-use Rattle.definitions.specs.{Statements.Statement, Operands.{Operand, operand_of}, Settled.{ReadStatement, Settled}, Counters.counters_at, EarlyValues.{early_names, early_value}, Letters.in_order, Settling.{View, Seen, place_of, settled_with}, declared.deck_kind.DeckKind.DeckKind}
+use Rattle.definitions.specs.{Statements.Statement, Operands.Operand, Settled.{ReadStatement, Settled}, Counters.counters_at, EarlyValues.{early_names, early_value}, Letters.in_order, Settling.{View, Seen, place_of, settled_with}, declared.deck_kind.DeckKind.DeckKind}
 use Rattle.operations.specs.Joins.OperationsAs.{operation_as}
 use Rattle.use_blocks.specs.Joins.EffectsAs.{change_as, setting_as}
 use Rattle.statement_coder.specs.{Joins.Definitions.{defined_by, IsOfExt}, declared.sizing.Sizing.Sizing}
@@ -37,8 +37,3 @@ pub record IsSizing (view : View) (settled : Settled) (sizing : Sizing) : Type 0
   pub definitions : defined_by view settled.read.fields.location settled.read.operand sizing.defines ≡ settled.definitions
   pub externals : IsOfExt settled.read.operation sizing.defines
   pub letters : sizing.letters ≡ in_order settled.letters
-
--- a settled statement with the operation of a statement, and the operand that it has under the base that its sizing keeps
-pub record IsCodable (statement : statements.Statement) (sizing : Sizing) (settled : Settled) : Type 0 where
-  pub operation : settled.read.operation ≡ operation_as statement.operation
-  pub operand : settled.read.operand ≡ operand_of statement.kind sizing.number_base (operation_as statement.operation) statement.name.now statement.variable.now

@@ -14,10 +14,10 @@ returns-clause-line c =
     let context = context_in whole in
     let sizing = c.args.sized.now.sizing in
     let view : View = λ name. defined name before in
-    let told = subst (λ k. AreTold k settled.read.operand sizing c.in_ok-coded.coded.items c.args.items.now.items c.code_read.new.list.items
+    let told = subst (λ k. AreTold k settled.read.operand sizing c.in_ok-coded.coded.items c.args.items.now.items c.code.new.list.items
     (items_of (deck_with k whole.rows (all_settled whole) whole.deck.literals) settled settled.read.operation)) same
     (c.in_ok-coded.ensures.items view settled (all_settled whole) whole.deck.literals is.sized.symbols refl sized.sizing taken) in
-    let is_told : IsTold kind view settled sizing c.in_ok-coded.coded.items c.args.items.now.items c.code_read.new.list.items (items_of context settled settled.read.operation) = record {
+    let is_told : IsTold kind view settled sizing c.in_ok-coded.coded.items c.args.items.now.items c.code.new.list.items (items_of context settled settled.read.operation) = record {
       is_sizing = sized.sizing;
       are_told = told;
       zeros = c.in_ok-coded.ensures.zeros ∙ ap stores_zeros (sym taken.operation);

@@ -1,16 +1,16 @@
-use Rattle.std.proofs.Common.{sym, subst}
-use Rattle.definitions.specs.{Laws.States.seen_from, Operands.operand_of}
-use Rattle.operations.specs.Joins.OperationsAs.{operation_as}
-use Rattle.statement_coder.{specs.Joins.Readings.IsReading, proofs.ReadLaws.settled-sizing}
+use Rattle.std.{proofs.Common.{true≢false, ap, sym, subst, ◌∙◌}, specs.Prelude.is_some}
+use Rattle.definitions.specs.Laws.States.{seen_from}
+use Rattle.statement_coder.specs.Joins.Sizings.{read_as, settled_read, IsSizing}
 use Rattle.statement_coder.proofs.sized.size.Goals as goal
 
-pub returns-clause-sizing : goal.returns-clause-sizing
-returns-clause-sizing g c =
+pub returns-in-Some-clause-sizing : goal.returns-in-Some-clause-sizing
+returns-in-Some-clause-sizing g c =
     let view = g.S.EarlySymbols.view c.args.symbols.now in
     let code = c.args.statement.now in
-    let state = c.args.state.now in
-    let operand = operand_of code.kind state.number_base (operation_as code.operation) code.name.now code.variable.now in
-    let reading : IsReading c.read_operand-reading.result operand =
-    subst (λ base. IsReading c.read_operand-reading.result (operand_of code.kind base (operation_as code.operation) code.name.now code.variable.now)) c.number_base.ensures c.read_operand-reading.ensures.reading in
-    λ kind given read. settled-sizing view (seen_from state view) kind given code c.settle.result read
-    (c.settle.ensures.sizing given operand (sym read.stray) reading (c.in_ok-letters.ensures.letters operand reading))
+    λ given operand stray reading letters.
+    subst (IsSizing view (settled_read code.kind (seen_from c.args.state.now view) (read_as code given operand))) (sym c.usual.ensures)
+    (c.in-Some.ensures.sizing given operand stray reading letters)
+
+pub returns-in-None-clause-needs_none : goal.returns-in-None-clause-needs_none
+returns-in-None-clause-needs_none g c = λ counting plain.
+    absurd (true≢false (sym (c.size_usual.ensures.some counting plain) ∙ ap is_some c.in-None.is))
