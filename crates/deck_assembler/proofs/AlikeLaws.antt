@@ -1,38 +1,27 @@
--- Where two views agree on the statements that are left of a deck, each trial of these passes.
-use Rattle.std.proofs.Common.{◌≡◌, ℕ, ◌+◌, ◌≤◌, Option, List, [], ◌∷◌, ◌++◌, drop, length, refl, sym, ap, ◌∙◌, subst, append_assoc, append-nil}
+-- Where two views agree on the statements that are left of a deck, a trial finds it; and only there.
+use Rattle.std.{proofs.Common.{◌≡◌, ℕ, ◌+◌, Option, Some, List, [], ◌∷◌, ◌++◌, drop, refl, sym, ap, ◌∙◌, subst, append_assoc}, specs.Prelude.slice_get, specs.List.AllByRecursion}
 use Rattle.definitions.{specs.Cards.Card, specs.Forms.Form, specs.Operations.Operation, specs.Settled.ReadStatement, specs.Settling.{View, settle, settled_all}, specs.Statements.Statement, specs.Operands.{Operand, NamesOperand}, specs.Laws.Agreement.{Agree, early_symbols, lawful_names, own_symbols, operand_symbols}, specs.declared.deck_kind.DeckKind.DeckKind, proofs.NamesLaws.{all-front, all-behind}}
 use Rattle.statement_coder.specs.declared.definitions_made.Defines as code
 use Rattle.statement_coder.specs.declared.definitions_made.Defines.TheVariants as defines
-use Rattle.deck_assembler.specs.{Joins.Agreements.{left, DoesAgree, IsAgreeing, IsAlike, AreAlikeFrom, AreAlike, AreExternalsAlike, AreNamesAlike, StandAlike}, Joins.DeckParts.{DeckPiece, sized_in}, Joins.FirstSymbols.symbol_in, Joins.SizedDecks.{own_of, IsSizedStatement, AreSizedFrom}, declared.early_trial.Trial.Trial, declared.old_deck.OldDeck.OldDeck, declared.sized_statement.SizedStatement.SizedStatement}
+use Rattle.deck_assembler.specs.{Joins.Agreements.{left, DoesAgree, IsAgreeing, IsAlike, IsAlikeEver, IsAlikeOnce, AreAlikeFrom, AreExternalsAlike, AreNamesAlike, StandAlike}, Joins.DeckParts.{DeckPiece, sized_in}, Joins.FirstSymbols.symbol_in, Joins.SizedDecks.{own_of, AreSizedFrom}, declared.early_trial.Trial.Trial, declared.old_deck.OldDeck.OldDeck, declared.sized_statement.SizedStatement.SizedStatement}
 
--- the next statement was sized behind some others, and two views agree on it
-pub record IsNextAgreed (kind : DeckKind) (ahead : List Card) (v w : View) (sized : SizedStatement) : Type 0 where
-  pub earlier : List Statement
-  pub stood : ℕ
-  pub given : Statement
-  pub is : IsSizedStatement kind earlier stood ahead sized given
-  pub alike : IsAlike v w (settle kind (settled_all kind earlier) given).read sized.sizing.defines
+-- what is alike wherever it was sized is so where it stands
+all-alike : (trial : Trial) (sized : List SizedStatement) → AllByRecursion (IsAlikeEver trial) sized → (earlier : List Statement) (stood : ℕ) (ahead : List Card) (statements : List Statement) (behind : List ℕ) (others : List Statement) →
+    AreSizedFrom trial.kind earlier stood ahead sized statements behind others → AreAlikeFrom trial.kind (symbol_in trial.first.now) (symbol_in trial.second.now) earlier sized statements
+all-alike trial [] all earlier stood ahead statements behind others are = tt
+all-alike trial (sized ∷ later) all earlier stood ahead [] behind others are = tt
+all-alike trial (sized ∷ later) all earlier stood ahead (statement ∷ statements) behind others are =
+    (all.0 earlier stood ahead statement are.0, all-alike trial later all.1 (statement ∷ earlier) (stood + sized.cards) (drop sized.cards ahead) statements behind others are.1)
 
--- the next statement, and those behind it
-pub alike-parts : (kind : DeckKind) (ahead : List Card) (v w : View) (sized : SizedStatement) (later : List SizedStatement) → StandAlike kind ahead v w (sized ∷ later) →
-    IsNextAgreed kind ahead v w sized × StandAlike kind (drop sized.cards ahead) v w later
-alike-parts kind ahead v w sized later s = by s.earlier s.stood s.statements s.behind s.others s.are s.alike
-  where
-    by : (earlier : List Statement) (stood : ℕ) (statements : List Statement) (behind : List ℕ) (others : List Statement) → AreSizedFrom kind earlier stood ahead (sized ∷ later) statements behind others →
-        AreAlikeFrom kind v w earlier (sized ∷ later) statements → IsNextAgreed kind ahead v w sized × StandAlike kind (drop sized.cards ahead) v w later
-    by earlier stood [] behind others are alike = absurd are
-    by earlier stood (statement ∷ statements) behind others are alike = (
-      record { earlier = earlier; stood = stood; given = statement; is = are.0; alike = alike.0 },
-      record { earlier = statement ∷ earlier; stood = stood + sized.cards; statements = statements; behind = behind; others = others; are = are.1; alike = alike.1 },
-    )
-
--- a trial that has gone behind the next statement
-pub alike-step : (old new : Trial) (sized : SizedStatement) (later : List SizedStatement) → new.kind ≡ old.kind → new.first.now ≡ old.first.now → new.second.now ≡ old.second.now →
-    (sized.cards ≤ length old.ahead.now → new.ahead.now ≡ drop sized.cards old.ahead.now) → AreAlike old (sized ∷ later) → AreAlike new later
-alike-step old new sized later kind first second ahead s =
-    let parts = alike-parts old.kind old.ahead.now (symbol_in old.first.now) (symbol_in old.second.now) sized later s in
-    subst (λ (all : (DeckKind × List Card) × (List (ℕ × Form) × List (ℕ × Form))). StandAlike all.0.0 all.0.1 (symbol_in all.1.0) (symbol_in all.1.1) later)
-    (λ i. ((sym kind i, sym (ahead parts.0.is.within) i), (sym first i, sym second i))) parts.1
+-- statements that stand alike are so where they were sized
+all-once : (trial : Trial) (sized : List SizedStatement) (earlier : List Statement) (stood : ℕ) (ahead : List Card) (statements : List Statement) (behind : List ℕ) (others : List Statement) →
+    AreSizedFrom trial.kind earlier stood ahead sized statements behind others → AreAlikeFrom trial.kind (symbol_in trial.first.now) (symbol_in trial.second.now) earlier sized statements → AllByRecursion (IsAlikeOnce trial) sized
+all-once trial [] earlier stood ahead statements behind others are alike = tt
+all-once trial (sized ∷ later) earlier stood ahead [] behind others are alike = absurd are
+all-once trial (sized ∷ later) earlier stood ahead (statement ∷ statements) behind others are alike = (
+  record { earlier = earlier; stood = stood; ahead = ahead; given = statement; is = are.0; alike = alike.0 },
+  all-once trial later (statement ∷ earlier) (stood + sized.cards) (drop sized.cards ahead) statements behind others are.1 alike.1,
+)
 
 -- what a statement defines by its location field
 pub own-of : (v w : View) (read : ReadStatement) (what : code.Defines) (operation : Operation) (label : List ℕ) → own_symbols operation label ≡ own_of read → IsAlike v w read what → Agree v w (own_symbols operation label)
@@ -46,37 +35,44 @@ operand-of v w read what operation o is =
     subst (λ (operation : Operation). Agree v w (operand_symbols read.operand operation)) (sym o)
     (all-behind (λ name. v name ≡ w name) (own_symbols read.operation read.fields.location) (operand_symbols read.operand read.operation) is.early)
 
--- some pieces: the statements of one, and those behind it
-pub pieces-next : (pieces : List DeckPiece) (place : ℕ) (piece : DeckPiece) (later : List SizedStatement) → drop place pieces ≡ piece ∷ drop (place + 1) pieces →
-    sized_in (drop place pieces) ++ later ≡ piece.statements ++ (sized_in (drop (place + 1) pieces) ++ later)
-pieces-next pieces place piece later e = ap (λ (l : List DeckPiece). sized_in l ++ later) e ∙ append_assoc piece.statements (sized_in (drop (place + 1) pieces)) later
-
 pub sized_in-append : (a b : List DeckPiece) → sized_in (a ++ b) ≡ sized_in a ++ sized_in b
 sized_in-append [] b = refl
 sized_in-append (piece ∷ a) b = ap (λ (l : List SizedStatement). piece.statements ++ l) (sized_in-append a b) ∙ sym (append_assoc piece.statements (sized_in a) (sized_in b))
 
--- where a piece begins, what is left are the statements of the pieces
-pub pieces-left : (deck : OldDeck) (p q : List DeckPiece) → deck.statements.items ≡ [] → p ++ q ≡ deck.pieces.items → left deck ≡ sized_in p ++ (sized_in q ++ [])
-pieces-left deck p q none e =
-    sym (
-    ap (λ (l : List SizedStatement). sized_in p ++ l) (append-nil (sized_in q)) ∙ sym (sized_in-append p q) ∙ ap sized_in e
-    ∙ ap (λ (l : List SizedStatement). l ++ sized_in deck.pieces.items) (sym none)
-    )
+-- a trial of a deck of which a piece begins
+pub record IsTrialOf (deck : OldDeck) (symbols : List (ℕ × Form)) (trial : Trial) : Type 0 where
+  pub kind : trial.kind ≡ deck.kind
+  pub first : trial.first.now ≡ deck.symbols
+  pub second : trial.second.now ≡ symbols
+  pub begun : deck.statements.items ≡ []
 
--- the trial of a deck that agrees
-pub trial-agrees : (deck : OldDeck) (symbols : List (ℕ × Form)) (trial : Trial) (sized : List SizedStatement) → trial.kind ≡ deck.kind → trial.ahead.now ≡ deck.ahead.now → trial.first.now ≡ deck.symbols →
-    trial.second.now ≡ symbols → left deck ≡ sized → DoesAgree deck symbols → AreAlike trial sized
-trial-agrees deck symbols trial sized kind ahead first second e agree =
-    subst (λ (all : ((DeckKind × List Card) × (List (ℕ × Form) × List (ℕ × Form))) × List SizedStatement). StandAlike all.0.0.0 all.0.0.1 (symbol_in all.0.1.0) (symbol_in all.0.1.1) all.1)
-    (λ i. (((sym kind i, sym ahead i), (sym first i, sym second i)), e i)) agree
+-- a deck agrees where the statements of its pieces are alike, and these are alike where it does
+pub ever-agrees : (deck : OldDeck) (symbols : List (ℕ × Form)) (trial : Trial) → IsTrialOf deck symbols trial → AllByRecursion (IsAlikeEver trial) (sized_in deck.pieces.items) → IsAgreeing deck symbols
+ever-agrees deck symbols trial of all = λ earlier stood statements behind others are.
+    let pieces = sized_in deck.pieces.items in
+    let whole : left deck ≡ pieces = ap (λ (l : List SizedStatement). l ++ pieces) of.begun in
+    let there : AreSizedFrom trial.kind earlier stood deck.ahead.now pieces statements behind others =
+    subst (λ (both : DeckKind × List SizedStatement). AreSizedFrom both.0 earlier stood deck.ahead.now both.1 statements behind others) (λ i. (sym of.kind i, whole i)) are in
+    subst (λ (all : (DeckKind × List SizedStatement) × (List (ℕ × Form) × List (ℕ × Form))). AreAlikeFrom all.0.0 (symbol_in all.1.0) (symbol_in all.1.1) earlier all.0.1 statements)
+    (λ i. ((of.kind i, sym whole i), (of.first i, of.second i))) (all-alike trial pieces all earlier stood deck.ahead.now statements behind others there)
 
--- what is left, where a piece begins: pieces that are passed over, the next one, and all behind it
-pub pieces-split : (deck : OldDeck) (p q before rest : List DeckPiece) (piece : DeckPiece) → deck.statements.items ≡ [] → p ++ q ≡ deck.pieces.items → p ≡ before ++ (piece ∷ rest) →
-    left deck ≡ sized_in before ++ (piece.statements ++ (sized_in rest ++ (sized_in q ++ [])))
-pieces-split deck p q before rest piece none e cut =
-    let behind : List SizedStatement = sized_in q ++ [] in
-    pieces-left deck p q none e ∙ ap (λ (l : List DeckPiece). sized_in l ++ behind) cut ∙ ap (λ (l : List SizedStatement). l ++ behind) (sized_in-append before (piece ∷ rest))
-    ∙ append_assoc (sized_in before) (piece.statements ++ sized_in rest) behind ∙ ap (λ (l : List SizedStatement). sized_in before ++ l) (append_assoc piece.statements (sized_in rest) behind)
+pub agrees-once : (deck : OldDeck) (symbols : List (ℕ × Form)) (trial : Trial) → IsTrialOf deck symbols trial → DoesAgree deck symbols → AllByRecursion (IsAlikeOnce trial) (sized_in deck.pieces.items)
+agrees-once deck symbols trial of agree =
+    let pieces = sized_in deck.pieces.items in
+    let there : StandAlike trial.kind deck.ahead.now (symbol_in trial.first.now) (symbol_in trial.second.now) pieces =
+    subst (λ (all : (DeckKind × List SizedStatement) × (List (ℕ × Form) × List (ℕ × Form))). StandAlike all.0.0 deck.ahead.now (symbol_in all.1.0) (symbol_in all.1.1) all.0.1)
+    (λ i. ((sym of.kind i, ap (λ (l : List SizedStatement). l ++ pieces) of.begun i), (sym of.first i, sym of.second i))) agree in
+    all-once trial pieces there.earlier there.stood deck.ahead.now there.statements there.behind there.others there.are there.alike
+
+-- what is stated of the statements of some pieces is stated of those of each
+pub of-first : (P : SizedStatement → Type 0) (front back later : List DeckPiece) (piece : DeckPiece) → slice_get back 0 ≡ Some piece → AllByRecursion P (sized_in ((front ++ back) ++ later)) → AllByRecursion P piece.statements
+of-first P front [] later piece e all = absurd cc
+of-first P front (first ∷ back) later piece e all =
+    let rest = sized_in (back ++ later) in
+    let whole : sized_in ((front ++ first ∷ back) ++ later) ≡ sized_in front ++ (first.statements ++ rest) = ap sized_in (append_assoc front (first ∷ back) later) ∙ sized_in-append front (first ∷ (back ++ later)) in
+    let same : first ≡ piece = cc in
+    subst (λ (p : DeckPiece). AllByRecursion P p.statements) same
+    (all-front P first.statements rest (all-behind P (sized_in front) (first.statements ++ rest) (subst (AllByRecursion P) whole all)))
 
 -- a view agrees with itself
 agree-itself : (v : View) (names : List (List ℕ)) → Agree v v names

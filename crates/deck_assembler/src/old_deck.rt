@@ -177,13 +177,11 @@ impl<'a> OldDeck<'a> {
     /// A trial under these symbols of all that is left.
     fn trial<'t>(&'t self, symbols: &'t SymbolTable) -> Trial<'t>
         ensures kind { result.kind ≡ self.now.kind }
-        ensures ahead { result.ahead.now ≡ self.now.ahead.now }
         ensures first { result.first.now ≡ self.now.symbols }
         ensures second { result.second.now ≡ symbols.now }
     {
         Trial {
             kind: self.kind,
-            ahead: self.ahead,
             first: &self.symbols,
             second: symbols,
         }
@@ -200,13 +198,10 @@ impl<'a> OldDeck<'a> {
         };
         let pieces = self.pieces.as_slices().0;
         let passed = pieces.len().saturating_sub(missed.pieces);
-        let (before, from) = pieces.split_at(passed);
-        let Some(piece) = from.first() else {
+        let Some(piece) = pieces.split_at(passed).1.first() else {
             return false;
         };
-        let mut trial = self.trial(symbols);
-        trial.pass_over_all(before);
-        !trial.passes_all(piece.statements())
+        !self.trial(symbols).are_alike(piece.statements())
     }
 
     /// The first piece in which something is not alike under these symbols. Asked where a piece begins.
@@ -215,7 +210,7 @@ impl<'a> OldDeck<'a> {
         ensures alike { result ≡ None → IsAgreeing self.now symbols.now }
         ensures all { DoesAgree self.now symbols.now → result ≡ None }
     {
-        let mut trial = self.trial(symbols);
+        let trial = self.trial(symbols);
         let pieces = self.pieces.as_slices();
         match trial.first_missed(pieces.0, pieces.1.len()) {
             Some(missed) => Some(missed),

@@ -42,24 +42,20 @@ pub record StandAlike (kind : DeckKind) (ahead : List Card) (v w : View) (sized 
   pub are : AreSizedFrom kind earlier stood ahead sized statements behind others
   pub alike : AreAlikeFrom kind v w earlier sized statements
 
--- the two tables of a trial agree on all of these statements, which are the next ones
-abbrev pub AreAlike : Trial → List SizedStatement → Type 0
-AreAlike trial sized = StandAlike trial.kind trial.ahead.now (symbol_in trial.first.now) (symbol_in trial.second.now) sized
-
--- the two tables of a trial agree on a statement that is the next one
-abbrev pub IsNextAlike : Trial → SizedStatement → Type 0
-IsNextAlike trial sized =
-    (earlier : List Statement) (stood : ℕ) (given : Statement) → IsSizedStatement trial.kind earlier stood trial.ahead.now sized given →
+-- the two tables of a trial agree on a statement, wherever it was sized
+abbrev pub IsAlikeEver : Trial → SizedStatement → Type 0
+IsAlikeEver trial sized =
+    (earlier : List Statement) (stood : ℕ) (ahead : List Card) (given : Statement) → IsSizedStatement trial.kind earlier stood ahead sized given →
     IsAlike (symbol_in trial.first.now) (symbol_in trial.second.now) (settle trial.kind (settled_all trial.kind earlier) given).read sized.sizing.defines
 
--- the statements that a trial has passed agree, where those that are left do
-abbrev pub AreTried : Trial → Trial → List SizedStatement → List SizedStatement → Type 0
-AreTried before trial all left =
-    (earlier : List Statement) (stood : ℕ) (statements : List Statement) (behind : List ℕ) (others : List Statement) →
-    AreSizedFrom before.kind earlier stood before.ahead.now all statements behind others →
-    ((earlier' : List Statement) (stood' : ℕ) (statements' : List Statement) → AreSizedFrom trial.kind earlier' stood' trial.ahead.now left statements' behind others →
-    AreAlikeFrom trial.kind (symbol_in trial.first.now) (symbol_in trial.second.now) earlier' left statements') →
-    AreAlikeFrom before.kind (symbol_in before.first.now) (symbol_in before.second.now) earlier all statements
+-- a statement was sized behind some others, and the two tables of a trial agree on it
+pub record IsAlikeOnce (trial : Trial) (sized : SizedStatement) : Type 0 where
+  pub earlier : List Statement
+  pub stood : ℕ
+  pub ahead : List Card
+  pub given : Statement
+  pub is : IsSizedStatement trial.kind earlier stood ahead sized given
+  pub alike : IsAlike (symbol_in trial.first.now) (symbol_in trial.second.now) (settle trial.kind (settled_all trial.kind earlier) given).read sized.sizing.defines
 
 -- the statements of a deck that are left
 abbrev pub left : OldDeck → List SizedStatement
