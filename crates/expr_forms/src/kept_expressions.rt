@@ -136,8 +136,7 @@ impl Model for KeptExpr {
 
 impl Expr<'_> {
     /// The same expression without what it borrows, where its text is short and it begins with no
-    /// item, no literal of one and no great number. Contracts do not say where: what is not kept is
-    /// read again.
+    /// item, no literal of one and no great number. Contracts do not say where.
     #[inline(always)]
     pub fn kept(&self) -> Option<KeptExpr>
         ensures { IfSome result (λ kept. kept ≡ self.now) }
