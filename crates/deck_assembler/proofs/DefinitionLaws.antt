@@ -69,7 +69,7 @@ fresh-where v false location counter = tt
 
 -- what a statement defines is new
 pub fresh-of : (v : View) (kind : DeckKind) (operation : Operation) (operand : Operand) (location : List ℕ) (value counter : Form) → IsLawfulOperand operand →
-    AreFresh v (definitions_of kind operation operand location value counter v)
+    AreFresh v (definitions_of kind operation operand (record { location = location; value = value; counter = counter; symbol = v }))
 fresh-of v Rel op.Equ operand location value counter l = fresh-first v location value
 fresh-of v Rel op.Ext (NamesOperand names) location value counter l = fresh-externals v names [] l tt
 fresh-of v Rel operation operand location value counter l = fresh-where v (is_labelled operation) location counter

@@ -1,6 +1,6 @@
 -- Neutral statements settle alike in every kind of deck but for their two counters, and decks of two kinds begin alike by neutral ones alone.
 use Rattle.std.{proofs.Common.{◌≡◌, ◌∙◌, ℕ, codes, ◌⊎◌, inl, inr, Bool, true, false, ◌&&◌, List, [], ◌∷◌, ◌++◌, Option, Some, None, map, flat_map, refl, sym, ap, ap₂, subst, if◌then◌else◌, append_assoc}, specs.Prelude.{reverse, nat_le, ◌||◌}, specs.List.AllByRecursion, proofs.lemmas.Bool.true≢false, proofs.lemmas.List.{map-append, reverse-append}}
-use Rattle.definitions.{specs.Blocks.{changes, open_names, block_in_use, blocks_used, nominal}, specs.Characters.same_text, specs.Counters.{counting_in, counters_at}, specs.DeckKinds.{is_end, has_end, kind_made, kind_of, kind_of_statements, number_base_after}, specs.EarlyValues.{early_names, early_value}, specs.Fields.{Fields, fields_of}, specs.Forms.Form, specs.Letters.{entry_letters, letters_of}, specs.Operands.{Operand, Unread, BadOperand, base_operand, operand_of}, specs.Operations.{Operation, is_neutral, operation_of, or_instruction, is_instruction_name, pseudo_among, pseudo_instructions}, specs.Places.{no_position, position_in}, specs.Settled.{ReadStatement, Settled, NoChange, Unchanged, defined, defined_in, or_form}, specs.Settling.{Seen, View, seen_of, number_base_of, all_neutral, settle, settled_all, settled_from, settled_with, place_of}, specs.StatementItems.{Context, Item, items_of, operand_items}, specs.Statements.Statement, specs.declared.deck_kind.DeckKind.DeckKind, specs.declared.deck_kind.DeckKind.TheVariants.{Rel, Abs, Periph}, specs.declared.letter.Letter.Letter, specs.declared.number_base.NumberBase.NumberBase, proofs.TextLaws.same_text-true}
+use Rattle.definitions.{specs.Blocks.{changes, open_names, block_in_use, blocks_used, nominal}, specs.Characters.same_text, specs.Counters.counting_in, specs.DeckKinds.{is_end, has_end, kind_made, kind_of, kind_of_statements, number_base_after}, specs.Fields.{Fields, fields_of}, specs.Forms.Form, specs.Letters.{entry_letters, letters_of}, specs.Operands.{Operand, Unread, BadOperand, base_operand, operand_of}, specs.Operations.{Operation, is_neutral, operation_of, or_instruction, is_instruction_name, pseudo_among, pseudo_instructions}, specs.Places.{no_position, position_in}, specs.Settled.{Settled, NoChange, Unchanged, defined, defined_in, or_form}, specs.Settling.{Seen, View, seen_of, number_base_of, all_neutral, settle, settled_all, settled_from, settled_read}, specs.StatementItems.{Context, Item, items_of, operand_items}, specs.Statements.Statement, specs.declared.deck_kind.DeckKind.DeckKind, specs.declared.deck_kind.DeckKind.TheVariants.{Rel, Abs, Periph}, specs.declared.letter.Letter.Letter, specs.declared.number_base.NumberBase.NumberBase, proofs.TextLaws.same_text-true}
 use Rattle.definitions.specs.Operations as op
 use Rattle.deck_assembler.specs.Joins.Heads.{counter_of}
 
@@ -38,10 +38,7 @@ calm_seen base neutral symbol =
 abbrev closed : DeckKind → NumberBase → Bool → Statement → Operation → Operand → Settled
 closed kind base neutral statement operation operand =
     let fields = fields_of statement.cards in
-    let read : ReadStatement = record { statement = statement; fields = fields; operation = operation; operand = operand } in
-    let place = place_of kind operation operand fields.location no_position in
-    let counters = counters_at kind nominal place None in
-    settled_with kind (calm_seen base neutral (λ name. None)) read place counters (early_value (early_names (λ name. None) counters) operand)
+    settled_read kind (calm_seen base neutral (λ name. None)) (record { statement = statement; fields = fields; operation = operation; operand = operand })
 
 -- what a neutral statement is: it reads nothing, or is a faulty BASE
 abbrev IsPlain : Operation → Operand → Type 0

@@ -1,9 +1,9 @@
 -- One statement more, sized behind those before it.
 use Rattle.std.{proofs.Common.{◌≡◌, ℕ, Bool, true, false, List, ◌∷◌, refl, sym, ap, ap₂, ◌∙◌, subst, if◌then◌else◌}, specs.Prelude.reverse}
-use Rattle.definitions.{specs.Blocks.{block_in_use, is_accepted, change_of}, specs.Cards.Card, specs.Literals.{operand_literals, with_literals}, specs.Operands.{Operand, UseName, UseBefore, operand_of}, specs.Settled.{BlockChange, NoChange, Opens, defined}, specs.Settling.{View, Seen, seen_of, number_base_of, settle, settled_all, settled_from}, specs.Statements.Statement, specs.Laws.Agreement.own_symbols, specs.Laws.States.{BlockState, Effect, state_after, seen_from, effect_of, advanced, lengths_advanced, names_of_blocks}, specs.declared.deck_kind.DeckKind.DeckKind, specs.declared.number_base.NumberBase.NumberBase, proofs.StateSteps.{seen_of-state, state_after-step, lengths_of-step, settled_all-in_use}}
+use Rattle.definitions.{specs.Blocks.{block_in_use, is_accepted, change_of}, specs.Cards.Card, specs.Literals.{operand_literals, with_literals}, specs.Operands.{Operand, UseName, UseBefore, operand_of}, specs.Settled.{BlockChange, NoChange, Opens, defined}, specs.Settling.{View, Seen, seen_of, number_base_of, settle, settled_all, settled_from, settled_read}, specs.Statements.Statement, specs.Laws.Agreement.own_symbols, specs.Laws.States.{BlockState, Effect, state_after, seen_from, effect_of, advanced, lengths_advanced, names_of_blocks}, specs.declared.deck_kind.DeckKind.DeckKind, specs.declared.number_base.NumberBase.NumberBase, proofs.StateSteps.{seen_of-state, state_after-step, lengths_of-step, settled_all-in_use}}
 use Rattle.operations.specs.Joins.OperationsAs.{operation_as}
 use Rattle.use_blocks.specs.Joins.{Changes.IsAccepted, EffectsAs.change_as}
-use Rattle.statement_coder.{specs.Joins.KeptReadings.IsKeptReading, specs.Joins.Readings.IsReading, specs.Joins.Sizings.{read_as, settled_read, IsSizing}, specs.Joins.StatementsRead.IsRead, specs.declared.sizing.Sizing.Sizing, proofs.ReadLaws.settled-sizing}
+use Rattle.statement_coder.{specs.Joins.KeptReadings.IsKeptReading, specs.Joins.Readings.IsReading, specs.Joins.Sizings.{read_as, IsSizing}, specs.Joins.StatementsRead.IsRead, specs.declared.sizing.Sizing.Sizing, proofs.ReadLaws.settled-sizing}
 use Rattle.statement_coder.specs.declared.readings.Reading as readings
 use Rattle.statement_coder.specs.declared.statement.Statement as statements
 use Rattle.deck_assembler.{specs.Joins.FirstSymbols.with_defined, specs.Joins.LiteralsRead.IsBareOperand, specs.Joins.PieceSteps.{with_statement, sized_newest}, specs.Joins.Sizers.{stood, ahead, IsNext, IsNoted, AreSized, HaveStates, AreFilledNewest, IsSizer}, specs.Joins.SharedNames.with_new_by, specs.Joins.SizedDecks.{own_of, IsSizedStatement}, specs.declared.sized_statement.SizedStatement.SizedStatement, specs.declared.sizer.Sizer.Sizer, proofs.DefinitionLaws.defined-step, proofs.ExternalLaws.externals-step, proofs.PieceSteps.{sized-step, states-step, filled-step}}

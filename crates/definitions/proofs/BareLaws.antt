@@ -1,6 +1,6 @@
 -- Statements without a place, and those of ORG, have no fields.
-use Rattle.std.{proofs.Common.{ℕ, ◌≡◌, Bool, true, false, List, [], ◌∷◌, Option, Result, refl}, specs.Prelude.nat_le}
-use Rattle.definitions.{specs.Characters.{is_among, same_text, slash}, specs.Pieces.{Piece, pieces_of, subfields_of}, specs.Statements.Statement, specs.Forms.Form, specs.Operations.{Operation, has_place}, specs.Operands.{Operand, CentralOperand, PeripheralOperand, WordsOperand, BitsOperand, TextOperand, Unread, BadOperand, ValueOperand, UseName, UseBefore, UseRefused, one_value, common_operand, use_operand, base_operand, operand_of, is_common_name}, specs.Symbols.is_block_name, specs.EarlyValues.{early_value, early_names}, specs.Counters.{Counters, counters_at}, specs.Settled.{Settled, ReadStatement, read_of}, specs.Settling.{Seen, seen_of, place_of, settle, settled_with}, specs.StatementItems.{Item, Context, operand_items, items_of}, specs.declared.deck_kind.DeckKind.DeckKind, specs.declared.deck_kind.DeckKind.TheVariants.{Rel, Abs, Periph}, specs.declared.number_base.NumberBase.NumberBase, specs.declared.letter.Letter.Letter, proofs.WordLaws.picked_cond, proofs.OperandLaws.{IsValue, one_value-value}}
+use Rattle.std.{proofs.Common.{ℕ, ◌≡◌, Bool, true, false, List, [], ◌∷◌, refl}, specs.Prelude.nat_le}
+use Rattle.definitions.{specs.Characters.{is_among, same_text, slash}, specs.Pieces.{Piece, pieces_of, subfields_of}, specs.Statements.Statement, specs.Operations.{Operation, has_place}, specs.Operands.{Operand, CentralOperand, PeripheralOperand, WordsOperand, BitsOperand, TextOperand, Unread, BadOperand, ValueOperand, UseName, UseBefore, UseRefused, one_value, common_operand, use_operand, base_operand, operand_of, is_common_name}, specs.Symbols.is_block_name, specs.Settled.{Settled, ReadStatement, read_of}, specs.Settling.{Seen, seen_of, settle, settled_with, Standing, standing_of}, specs.StatementItems.{Item, Context, operand_items, items_of}, specs.declared.deck_kind.DeckKind.DeckKind, specs.declared.deck_kind.DeckKind.TheVariants.{Rel, Abs, Periph}, specs.declared.number_base.NumberBase.NumberBase, proofs.WordLaws.picked_cond, proofs.OperandLaws.{IsValue, one_value-value}}
 use Rattle.definitions.specs.Operations as op
 
 -- the operations whose operands have fields
@@ -85,10 +85,10 @@ items_of-none context settled op.Bssz e h = cc
 items_of-none context settled _ e h =
     picked_cond (λ (items : List Item). items ≡ []) (nat_le settled.end settled.place) [] (operand_items context settled settled.read.operand) refl (operand_items-none context settled settled.read.operand h)
 
-with-bare : (kind : DeckKind) (context : Context) (seen : Seen) (read : ReadStatement) (place : ℕ) (counters : Counters) (value : Option (Result Form Letter)) (base : NumberBase) (name text : List ℕ) →
-    read.operand ≡ operand_of kind base read.operation name text → has_fields read.operation ≡ false → items_of context (settled_with kind seen read place counters value) read.operation ≡ []
-with-bare kind context seen read place counters value base name text is e =
-    items_of-none context (settled_with kind seen read place counters value) read.operation e (rw is (operand_of-bare kind base read.operation name text e))
+with-bare : (kind : DeckKind) (context : Context) (seen : Seen) (read : ReadStatement) (standing : Standing) (base : NumberBase) (name text : List ℕ) →
+    read.operand ≡ operand_of kind base read.operation name text → has_fields read.operation ≡ false → items_of context (settled_with kind seen read standing) read.operation ≡ []
+with-bare kind context seen read standing base name text is e =
+    items_of-none context (settled_with kind seen read standing) read.operation e (rw is (operand_of-bare kind base read.operation name text e))
 
 -- a statement whose operation has no fields
 pub settle-bare : (kind : DeckKind) (earlier : List Settled) (statement : Statement) (context : Context) →
@@ -96,6 +96,4 @@ pub settle-bare : (kind : DeckKind) (earlier : List Settled) (statement : Statem
 settle-bare kind earlier statement context =
     let seen = seen_of earlier in
     let read = read_of kind seen.number_base statement in
-    let place = place_of kind read.operation read.operand read.fields.location seen.position in
-    let counters = counters_at kind seen.block place seen.counting in
-    with-bare kind context seen read place counters (early_value (early_names seen.symbol counters) read.operand) seen.number_base read.fields.operation read.fields.variable refl
+    with-bare kind context seen read (standing_of kind seen read) seen.number_base read.fields.operation read.fields.variable refl

@@ -1,6 +1,6 @@
 -- The fields of a statement fill its place, fit, and are whole words where they are long.
 use Rattle.std.{proofs.Common.{ℕ, ◌≡◌, ◌≢◌, ◌+◌, ◌-◌, ◌*◌, ◌/◌, ◌%◌, ◌<◌, ◌≤◌, Bool, true, false, List, [], ◌∷◌, Option, Some, None, Result, Ok, Err, refl, subst, arith}, specs.Prelude.{nat_le, if◌then◌else◌}, proofs.lemmas.Bool.leb-false}
-use Rattle.definitions.{specs.Statements.Statement, specs.Kinds.{word_bits, units, unit_bits, most_words}, specs.Pieces.{pieces_of, subfields_of}, specs.Forms.{Form, Names}, specs.Operations.Operation, specs.Operands.{Operand, BadOperand, ValueOperand, operand_of}, specs.Sizes.size_of, specs.EarlyValues.{Outcome, outcome_of, outcome_of_size, reserved_outcome, reserved, stays_with, early_value, early_names}, specs.Counters.{Counters, counters_at}, specs.Settled.{Settled, Unchanged, ReadStatement, read_of}, specs.Settling.{Seen, seen_of, place_of, settle, settled_with}, specs.StatementItems.{Item, Context, operand_items, items_of}, specs.Words.width_of, specs.declared.deck_kind.DeckKind.DeckKind, specs.declared.deck_kind.DeckKind.TheVariants.{Rel, Abs, Periph}, specs.declared.number_base.NumberBase.NumberBase, specs.declared.letter.Letter.Letter, proofs.WordLaws.{pow_positive, picked_cond}, specs.Laws.Filling.{HasFields, DoFill, DoFit, AreLongWhole}, proofs.OperandShapes.IsMade, proofs.OperandLaws.{IsValue, one_value-value, operand_of-made}, proofs.FieldRoomLaws.{words_whole, operand-fields}}
+use Rattle.definitions.{specs.Statements.Statement, specs.Kinds.{word_bits, units, unit_bits, most_words}, specs.Pieces.{pieces_of, subfields_of}, specs.Forms.{Form, Names}, specs.Operations.Operation, specs.Operands.{Operand, BadOperand, ValueOperand, operand_of}, specs.Sizes.size_of, specs.EarlyValues.{Outcome, outcome_of, outcome_of_size, reserved_outcome, reserved, stays_with, early_value, early_names}, specs.Counters.Counters, specs.Settled.{Settled, Unchanged, ReadStatement, read_of}, specs.Settling.{Seen, seen_of, settle, settled_with, Standing, standing_of}, specs.StatementItems.{Item, Context, operand_items, items_of}, specs.Words.width_of, specs.declared.deck_kind.DeckKind.DeckKind, specs.declared.deck_kind.DeckKind.TheVariants.{Rel, Abs, Periph}, specs.declared.number_base.NumberBase.NumberBase, specs.declared.letter.Letter.Letter, proofs.WordLaws.{pow_positive, picked_cond}, specs.Laws.Filling.{HasFields, DoFill, DoFit, AreLongWhole}, proofs.OperandShapes.IsMade, proofs.OperandLaws.{IsValue, one_value-value, operand_of-made}, proofs.FieldRoomLaws.{words_whole, operand-fields}}
 use Rattle.definitions.specs.Operations as op
 use Rattle.definitions.specs.declared.letter.Letter.TheVariants as letter
 
@@ -123,10 +123,10 @@ items-long context settled _ made =
 -- a statement that is settled from what is read of it
 with-ended : (context : Context) (seen : Seen) (read : ReadStatement) (place : ℕ) (counters : Counters) (names : Names) (base : NumberBase) (name text : List ℕ) →
     read.operand ≡ operand_of context.kind base read.operation name text →
-    IsEnded context (settled_with context.kind seen read place counters (early_value names read.operand)) read.operation
+    IsEnded context (settled_with context.kind seen read (record { place = place; counters = counters; value = early_value names read.operand })) read.operation
 with-ended context seen read place counters names base name text is =
     let made : IsMade context.kind read.operand = rw is (operand_of-made context.kind base read.operation name text) in
-    let settled = settled_with context.kind seen read place counters (early_value names read.operand) in
+    let settled = settled_with context.kind seen read (record { place = place; counters = counters; value = early_value names read.operand }) in
     record {
       sized = operand-fill context settled read.operation read.operand seen.block place names made;
       made = made;
@@ -138,9 +138,8 @@ settle-ended : (context : Context) (earlier : List Settled) (statement : Stateme
 settle-ended context earlier statement =
     let seen = seen_of earlier in
     let read = read_of context.kind seen.number_base statement in
-    let place = place_of context.kind read.operation read.operand read.fields.location seen.position in
-    let counters = counters_at context.kind seen.block place seen.counting in
-    with-ended context seen read place counters (early_names seen.symbol counters) seen.number_base read.fields.operation read.fields.variable refl
+    let standing = standing_of context.kind seen read in
+    with-ended context seen read standing.place standing.counters (early_names seen.symbol standing.counters) seen.number_base read.fields.operation read.fields.variable refl
 
 -- the fields of a statement fill its place
 pub settle-fill : (kind : DeckKind) (earlier : List Settled) (statement : Statement) (context : Context) → context.kind ≡ kind →
@@ -149,9 +148,9 @@ settle-fill kind earlier statement context e =
     subst (λ k. (let settled = settle k earlier statement in DoFill k settled.place settled.end (items_of context settled settled.read.operation))) e
     (let settled = settle context.kind earlier statement in items-fill context settled settled.read.operation (settle-ended context earlier statement))
 
-with-ordered : (kind : DeckKind) (seen : Seen) (read : ReadStatement) (place : ℕ) (counters : Counters) (value : Option (Result Form Letter)) → read.operation ≡ op.Bssz →
-    (let settled = settled_with kind seen read place counters value in settled.place ≤ settled.end)
-with-ordered kind seen read place counters value e = rw e (bssz-ordered kind read.operand seen.block place value)
+with-ordered : (kind : DeckKind) (seen : Seen) (read : ReadStatement) (standing : Standing) → read.operation ≡ op.Bssz →
+    (let settled = settled_with kind seen read standing in settled.place ≤ settled.end)
+with-ordered kind seen read standing e = rw e (bssz-ordered kind read.operand seen.block standing.place standing.value)
 
 -- a statement that has fields does not end before its place
 pub settle-ordered : (kind : DeckKind) (earlier : List Settled) (statement : Statement) (context : Context) →
@@ -159,10 +158,8 @@ pub settle-ordered : (kind : DeckKind) (earlier : List Settled) (statement : Sta
 settle-ordered kind earlier statement context =
     let seen = seen_of earlier in
     let read = read_of kind seen.number_base statement in
-    let place = place_of kind read.operation read.operand read.fields.location seen.position in
-    let counters = counters_at kind seen.block place seen.counting in
     let settled = settle kind earlier statement in
-    items-ordered context settled settled.read.operation (with-ordered kind seen read place counters (early_value (early_names seen.symbol counters) read.operand))
+    items-ordered context settled settled.read.operation (with-ordered kind seen read (standing_of kind seen read))
 
 -- and but for BSSZ it ends behind it
 pub settle-some : (kind : DeckKind) (earlier : List Settled) (statement : Statement) (context : Context) →

@@ -1,6 +1,6 @@
 -- An instruction reaches at most four units, and any other statement with fields stands from a word to a word.
 use Rattle.std.{proofs.Common.{ℕ, ◌≡◌, ◌≢◌, ◌+◌, ◌-◌, ◌*◌, ◌/◌, ◌%◌, ◌≤◌, Bool, true, false, not, List, [], ◌∷◌, length, Option, Some, None, Result, Ok, Err, refl, arith}, specs.Prelude.{nat_le, nat_eq, map, reverse, take_while, drop, if◌then◌else◌}}
-use Rattle.definitions.{specs.DeckInput.Deck, specs.DeckKinds.{kind_of_statements, up_to_end}, specs.Statements.{Statement, statements_of}, specs.Kinds.{units, word_bits, most_words, allows_literals}, specs.Characters.comma, specs.Symbols.number_read, specs.Pieces.{Piece, pieces_of, subfields_of}, specs.Expressions.Expression, specs.Forms.Form, specs.PeripheralTable.{PeripheralForm, Ignored, Short, ShortJump, Shift, Wide, Long, PeripheralRow, peripheral_row}, specs.Matching.{Instruction, Field, NoField, OfK, OfN, central_of}, specs.Operations.{Operation, has_place}, specs.Operands.{Operand, Datum, BitField, CentralOperand, PeripheralOperand, WordsOperand, BitsOperand, TextOperand, BadOperand, plain_of, all_words, data_word, con_word, all_fields, vfd_field, words_operand, bits_operand, text_operand, dis_operand, one_value, count_read, central_operand, one_or_two, just_one, by_form, peripheral_operand, instruction_operand, operand_of}, specs.Sizes.{size_of, data_words, bits_of, field_width, form_units}, specs.Places.{Position, is_bad, is_at_word}, specs.EarlyValues.{Outcome, outcome_of, outcome_of_value, outcome_of_size, origin_outcome, origin_word, location_outcome, location_value, reserved_outcome, reserved, stays_with, early_value, early_names}, specs.Counters.{Counters, counters_at}, specs.Settled.{Settled, Unchanged, ReadStatement, read_of}, specs.Settling.{Seen, seen_of, place_of, settle, settled_with, settled_all}, specs.StatementItems.{Context, operand_items, items_of}, specs.Objects.{coded_of, context_of, object_of}, specs.declared.deck_kind.DeckKind.DeckKind, specs.declared.deck_kind.DeckKind.TheVariants.{Rel, Abs, Periph}, specs.declared.number_base.NumberBase.NumberBase, specs.declared.letter.Letter.Letter, proofs.WordLaws.picked_cond, proofs.PlaceLaws.least_place-lawful, specs.Laws.Filling.HasFields, specs.Laws.Reaching.{DoesReach, DoReach}, proofs.CentralLaws.{IsWholeIf, central_of-whole}, proofs.BareLaws.{IsBare, has_fields, one_value-bare, operand_of-bare, items_of-none}}
+use Rattle.definitions.{specs.DeckInput.Deck, specs.DeckKinds.{kind_of_statements, up_to_end}, specs.Statements.{Statement, statements_of}, specs.Kinds.{units, word_bits, most_words, allows_literals}, specs.Characters.comma, specs.Symbols.number_read, specs.Pieces.{Piece, pieces_of, subfields_of}, specs.Expressions.Expression, specs.Forms.Form, specs.PeripheralTable.{PeripheralForm, Ignored, Short, ShortJump, Shift, Wide, Long, PeripheralRow, peripheral_row}, specs.Matching.{Instruction, Field, NoField, OfK, OfN, central_of}, specs.Operations.{Operation, has_place}, specs.Operands.{Operand, Datum, BitField, CentralOperand, PeripheralOperand, WordsOperand, BitsOperand, TextOperand, BadOperand, plain_of, all_words, data_word, con_word, all_fields, vfd_field, words_operand, bits_operand, text_operand, dis_operand, one_value, count_read, central_operand, one_or_two, just_one, by_form, peripheral_operand, instruction_operand, operand_of}, specs.Sizes.{size_of, data_words, bits_of, field_width, form_units}, specs.Places.{Position, is_bad, is_at_word}, specs.EarlyValues.{Outcome, outcome_of, outcome_of_value, outcome_of_size, origin_outcome, origin_word, location_outcome, location_value, reserved_outcome, reserved, stays_with}, specs.Counters.Counters, specs.Settled.{Settled, Unchanged, ReadStatement, read_of}, specs.Settling.{Seen, seen_of, place_of, settle, settled_with, settled_all, standing_of}, specs.StatementItems.{Context, operand_items, items_of}, specs.Objects.{coded_of, context_of, object_of}, specs.declared.deck_kind.DeckKind.DeckKind, specs.declared.deck_kind.DeckKind.TheVariants.{Rel, Abs, Periph}, specs.declared.number_base.NumberBase.NumberBase, specs.declared.letter.Letter.Letter, proofs.WordLaws.picked_cond, proofs.PlaceLaws.least_place-lawful, specs.Laws.Filling.HasFields, specs.Laws.Reaching.{DoesReach, DoReach}, proofs.CentralLaws.{IsWholeIf, central_of-whole}, proofs.BareLaws.{IsBare, has_fields, one_value-bare, operand_of-bare, items_of-none}}
 use Rattle.definitions.specs.Operations as op
 use Rattle.definitions.specs.declared.letter.Letter.TheVariants as letter
 
@@ -181,10 +181,10 @@ data-at_word context settled operation other h bare =
 -- a statement that is settled from what is read of it
 with-reach : (context : Context) (kind : DeckKind) (seen : Seen) (read : ReadStatement) (counters : Counters) (value : Option (Result Form Letter)) (base : NumberBase) (name text : List ℕ) →
     read.operand ≡ operand_of kind base read.operation name text →
-    DoesReach kind (coded_of context (settled_with kind seen read (place_of kind read.operation read.operand read.fields.location seen.position) counters value))
+    DoesReach kind (coded_of context (settled_with kind seen read (record { place = place_of kind read.operation read.operand read.fields.location seen.position; counters = counters; value = value })))
 with-reach context kind seen read counters value base name text is =
     let place = place_of kind read.operation read.operand read.fields.location seen.position in
-    let settled = settled_with kind seen read place counters value in
+    let settled = settled_with kind seen read (record { place = place; counters = counters; value = value }) in
     let at_word : HasFields (items_of context settled read.operation) → read.operation ≢ op.Instruction → place % units kind ≡ 0 = λ some other.
     (let must = data-at_word context settled read.operation other some (λ e. rw is (operand_of-bare kind base read.operation name text e)) in
     place_of-at_word kind read.operation read.operand read.fields.location seen.position must.0 must.1) in
@@ -199,9 +199,8 @@ settle-reach : (kind : DeckKind) (earlier : List Settled) (statement : Statement
 settle-reach kind earlier statement context =
     let seen = seen_of earlier in
     let read = read_of kind seen.number_base statement in
-    let place = place_of kind read.operation read.operand read.fields.location seen.position in
-    let counters = counters_at kind seen.block place seen.counting in
-    with-reach context kind seen read counters (early_value (early_names seen.symbol counters) read.operand) seen.number_base read.fields.operation read.fields.variable refl
+    let standing = standing_of kind seen read in
+    with-reach context kind seen read standing.counters standing.value seen.number_base read.fields.operation read.fields.variable refl
 
 -- all statements reach so
 pub statements-reach : (kind : DeckKind) (statements : List Statement) (context : Context) → DoReach kind (map (coded_of context) (settled_all kind statements))

@@ -1,6 +1,6 @@
 -- Statements stand behind one another in the runs of their blocks.
-use Rattle.std.{proofs.Common.{ℕ, ◌≡◌, ◌*◌, ◌%◌, ◌<◌, ◌≤◌, Bool, true, false, ◌&&◌, List, [], ◌∷◌, Option, Result, refl, subst, arith}, specs.Prelude.{map, All, reverse, if◌then◌else◌}, specs.List.AllByRecursion, proofs.lemmas.List.Elements.All-from_recursion}
-use Rattle.definitions.{specs.Characters.same_text, specs.DeckInput.Deck, specs.DeckKinds.{kind_of_statements, up_to_end}, specs.Statements.{Statement, statements_of}, specs.Kinds.{units, most_words}, specs.Forms.Form, specs.Operations.{Operation, has_place}, specs.Places.{Position, position_in}, specs.EarlyValues.{early_value, early_names}, specs.Counters.{Counters, counters_at}, specs.Settled.{Settled, ReadStatement, read_of}, specs.Settling.{Seen, seen_of, place_of, settle, settled_with, settled_all}, specs.StatementItems.{Item, Context, items_of}, specs.Words.Coded, specs.Objects.{coded_of, context_of, object_of}, specs.declared.deck_kind.DeckKind.DeckKind, specs.declared.letter.Letter.Letter, proofs.WordLaws.picked_cond, proofs.TextLaws.same_text-true, specs.Laws.Rising.{end_with, run_end, IsLaidOut, AreLaidOut}, proofs.FillLaws.{settle-fill, settle-fit, settle-long}, proofs.EndLaws.{place_of-behind, place_of-within, outcome-ending}, proofs.BareLaws.{has_fields, unplaced_bare, settle-bare}}
+use Rattle.std.{proofs.Common.{ℕ, ◌≡◌, ◌*◌, ◌%◌, ◌<◌, ◌≤◌, Bool, true, false, ◌&&◌, List, [], ◌∷◌, refl, subst, arith}, specs.Prelude.{map, All, reverse, if◌then◌else◌}, specs.List.AllByRecursion, proofs.lemmas.List.Elements.All-from_recursion}
+use Rattle.definitions.{specs.Characters.same_text, specs.DeckInput.Deck, specs.DeckKinds.{kind_of_statements, up_to_end}, specs.Statements.{Statement, statements_of}, specs.Kinds.{units, most_words}, specs.Operations.{Operation, has_place}, specs.Places.{Position, position_in}, specs.Settled.{Settled, ReadStatement, read_of}, specs.Settling.{Seen, seen_of, settle, settled_with, settled_all, Standing, standing_of}, specs.StatementItems.{Item, Context, items_of}, specs.Words.Coded, specs.Objects.{coded_of, context_of, object_of}, specs.declared.deck_kind.DeckKind.DeckKind, proofs.WordLaws.picked_cond, proofs.TextLaws.same_text-true, specs.Laws.Rising.{end_with, run_end, IsLaidOut, AreLaidOut}, proofs.FillLaws.{settle-fill, settle-fit, settle-long}, proofs.EndLaws.{place_of-behind, place_of-within, outcome-ending}, proofs.BareLaws.{has_fields, unplaced_bare, settle-bare}}
 use Rattle.definitions.specs.Operations as op
 
 -- a statement behind those that are settled stands at or behind the end of its block
@@ -18,18 +18,16 @@ record EndsWell (kind : DeckKind) (settled : Settled) : Type 0 where
   at_word : settled.begins_run ≡ true → settled.end % units kind ≡ 0
   in_block : settled.begins_run ≡ true → settled.end < units kind * most_words kind
 
-with-ends : (kind : DeckKind) (seen : Seen) (read : ReadStatement) (place : ℕ) (counters : Counters) (value : Option (Result Form Letter)) → EndsWell kind (settled_with kind seen read place counters value)
-with-ends kind seen read place counters value =
-    let ending = outcome-ending kind read.operation read.operand seen.block place value in
+with-ends : (kind : DeckKind) (seen : Seen) (read : ReadStatement) (standing : Standing) → EndsWell kind (settled_with kind seen read standing)
+with-ends kind seen read standing =
+    let ending = outcome-ending kind read.operation read.operand seen.block standing.place standing.value in
     record { ordered = ending.ordered; within = ending.within; is_origin = ending.is_origin; at_word = ending.at_word; in_block = ending.in_block }
 
 settle-ends : (kind : DeckKind) (earlier : List Settled) (statement : Statement) → EndsWell kind (settle kind earlier statement)
 settle-ends kind earlier statement =
     let seen = seen_of earlier in
     let read = read_of kind seen.number_base statement in
-    let place = place_of kind read.operation read.operand read.fields.location seen.position in
-    let counters = counters_at kind seen.block place seen.counting in
-    with-ends kind seen read place counters (early_value (early_names seen.symbol counters) read.operand)
+    with-ends kind seen read (standing_of kind seen read)
 
 -- a statement that begins no run ends at or behind its place
 pub settle-ordered : (kind : DeckKind) (earlier : List Settled) (statement : Statement) → (let settled = settle kind earlier statement in settled.begins_run ≡ false → settled.place ≤ settled.end)

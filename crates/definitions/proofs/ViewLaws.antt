@@ -1,6 +1,6 @@
 -- A statement rests on the early values of its own symbols and of those that its operand reads early, and on no others.
 use Rattle.std.{proofs.Common.{◌≡◌, ℕ, Bool, true, false, ◌||◌, List, [], ◌∷◌, ◌++◌, Option, Some, None, refl, ap, ap₂, ◌∙◌}, specs.Prelude.{if◌then◌else◌, is_some, flat_map}}
-use Rattle.definitions.{specs.Statements.{Statement, is_stray}, specs.Symbols.is_symbol, specs.Expressions.{Element, ANumber, ACountedItem, ASymbol, ARegister, LocationCounter, OriginCounter, ALiteral, Expression, elements_of}, specs.Forms.{Form, element_form, symbol_form, value_of}, specs.Operations.{Operation, is_labelled}, specs.Operands.{Operand, NamesOperand, ValueOperand}, specs.Settled.{ReadStatement, read_of, Settled, Definition, defined_in}, specs.Counters.{Counters, counters_at}, specs.EarlyValues.{early_names, early_value, equated, outcome_of}, specs.Settling.{View, is_known, external, externals, external_letters, letter_where, location_letters, first_definition, definitions_of, operand_letters, settled_letters, is_refused, settled_with, settled_from, place_of}, specs.Laws.States.{BlockState, seen_from}, specs.Laws.Agreement.{symbols_of_element, symbols_in, own_symbols, operand_symbols, lawful_names, defines_location, early_symbols, Agree}, specs.declared.deck_kind.DeckKind.DeckKind, specs.declared.deck_kind.DeckKind.TheVariants.{Rel, Abs, Periph}, specs.declared.letter.Letter.Letter, proofs.NamesLaws.{all-front, all-behind, Alike, value_of-alike}}
+use Rattle.definitions.{specs.Statements.{Statement, is_stray}, specs.Symbols.is_symbol, specs.Expressions.{Element, ANumber, ACountedItem, ASymbol, ARegister, LocationCounter, OriginCounter, ALiteral, Expression, elements_of}, specs.Forms.{Form, element_form, symbol_form, value_of}, specs.Operations.{Operation, is_labelled}, specs.Operands.{Operand, NamesOperand, ValueOperand}, specs.Settled.{ReadStatement, read_of, Settled, Definition, defined_in}, specs.Counters.Counters, specs.EarlyValues.{early_names, early_value, equated, outcome_of}, specs.Settling.{View, is_known, external, externals, external_letters, letter_where, location_letters, first_definition, Label, definitions_of, operand_letters, settled_letters, is_refused, Standing, standing_of, settled_with, settled_from}, specs.Laws.States.{BlockState, seen_from}, specs.Laws.Agreement.{symbols_of_element, symbols_in, own_symbols, operand_symbols, lawful_names, defines_location, early_symbols, Agree}, specs.declared.deck_kind.DeckKind.DeckKind, specs.declared.deck_kind.DeckKind.TheVariants.{Rel, Abs, Periph}, specs.declared.letter.Letter.Letter, proofs.NamesLaws.{all-front, all-behind, Alike, value_of-alike}}
 use Rattle.definitions.specs.Operations as op
 use Rattle.definitions.specs.declared.letter.Letter.TheVariants as letter
 
@@ -81,8 +81,11 @@ own_seen v w operation operand location h d symbol s e =
     own-agree v w operation location (agree-front v w (own_symbols operation location) (operand_symbols operand operation) h) true d symbol s refl e
 
 -- what a statement defines
+abbrev label_in : List ℕ → Form → Form → View → Label
+label_in location value counter view = record { location = location; value = value; counter = counter; symbol = view }
+
 definitions_of-agree : (v w : View) (kind : DeckKind) (operation : Operation) (operand : Operand) (location : List ℕ) (value counter : Form) → own_front v w operation operand location →
-    definitions_of kind operation operand location value counter v ≡ definitions_of kind operation operand location value counter w
+    definitions_of kind operation operand (label_in location value counter v) ≡ definitions_of kind operation operand (label_in location value counter w)
 definitions_of-agree v w kind op.Equ operand location value counter h =
     first_definition-agree v w location value (is_symbol location) refl (own_seen v w op.Equ operand location h refl (is_symbol location) refl)
 definitions_of-agree v w Rel op.Ext (NamesOperand names) location value counter h = externals-agree v w names [] (agree-behind v w (own_symbols op.Ext location) (lawful_names names) h)
@@ -157,7 +160,7 @@ settled_letters-agree : (v w : View) (kind : DeckKind) (state : BlockState) (rea
     settled_letters kind (seen_from state v) read outcome ≡ settled_letters kind (seen_from state w) read outcome
 settled_letters-agree v w kind state read outcome h =
     let location = read.fields.location in
-    let refused = is_refused kind read.operation read.operand location state.neutral (seen_from state v).blocks in
+    let refused = is_refused kind read.operation read.operand (record { location = location; neutral = state.neutral; blocks = (seen_from state v).blocks }) in
     ap₂ (λ own rest. own ++ (if refused then letter.O ∷ [] else rest ++ outcome))
     (location_letters-agree v w kind read.operation read.operand location h) (operand_letters-agree v w kind read.operation read.operand location h)
 
@@ -179,18 +182,21 @@ with_definitions_and_letters settled definitions letters = record {
   letters = letter_where (is_stray settled.read.statement.cards) letter.C ++ letters;
 }
 
+-- the same place and counters, with the early value that a view gives
+abbrev with_view : Standing → Operand → View → Standing
+with_view standing operand view = record standing { value = early_value (early_names view standing.counters) operand }
+
 -- a statement settled from what it sees with an early value
-settled_with-agree : (kind : DeckKind) (state : BlockState) (read : ReadStatement) (place : ℕ) (counters : Counters) (v w : View) → Agree v w (early_symbols read) →
-    settled_with kind (seen_from state v) read place counters (early_value (early_names v counters) read.operand)
-    ≡ settled_with kind (seen_from state w) read place counters (early_value (early_names w counters) read.operand)
-settled_with-agree kind state read place counters v w h =
+settled_with-agree : (kind : DeckKind) (state : BlockState) (read : ReadStatement) (standing : Standing) (v w : View) → Agree v w (early_symbols read) →
+    settled_with kind (seen_from state v) read (with_view standing read.operand v) ≡ settled_with kind (seen_from state w) read (with_view standing read.operand w)
+settled_with-agree kind state read standing v w h =
     let location = read.fields.location in
-    let block = (seen_from state v).block in
-    let second = early_value (early_names w counters) read.operand in
-    let outcome = outcome_of kind read.operation read.operand block place second in
-    ap (λ value. settled_with kind (seen_from state v) read place counters value) (early_value-agree v w counters read.operation read.operand location h)
-    ∙ ap₂ (λ definitions letters. with_definitions_and_letters (settled_with kind (seen_from state v) read place counters second) definitions letters)
-    (definitions_of-agree v w kind read.operation read.operand location (equated second) counters.location h)
+    let seen = seen_from state v in
+    let second = with_view standing read.operand w in
+    let outcome = outcome_of kind read.operation read.operand seen.block second.place second.value in
+    ap (λ value. settled_with kind seen read (record standing { value = value })) (early_value-agree v w standing.counters read.operation read.operand location h)
+    ∙ ap₂ (λ definitions letters. with_definitions_and_letters (settled_with kind seen read second) definitions letters)
+    (definitions_of-agree v w kind read.operation read.operand location (equated second.value) standing.counters.location h)
     (settled_letters-agree v w kind state read outcome.letters h)
 
 -- a statement, settled from a state and two views that agree on what matters early to it
@@ -198,6 +204,4 @@ pub settled_from-agree : (kind : DeckKind) (state : BlockState) (v w : View) (st
     settled_from kind (seen_from state v) statement ≡ settled_from kind (seen_from state w) statement
 settled_from-agree kind state v w statement h =
     let read = read_of kind state.number_base statement in
-    let seen = seen_from state v in
-    let place = place_of kind read.operation read.operand read.fields.location seen.position in
-    settled_with-agree kind state read place (counters_at kind seen.block place seen.counting) v w h
+    settled_with-agree kind state read (standing_of kind (seen_from state v) read) v w h

@@ -61,16 +61,27 @@ location_letters kind operation location before =
     else if is_symbol location then letter_where (is_some before) letter.D
     else letter_where (not (is_plain_location kind operation location)) letter.L
 
+-- a USE whose block is not to be had, where these are used
+abbrev pub is_refused_use : Operand → List (List ℕ) → Bool
+is_refused_use UseRefused blocks = true
+is_refused_use (UseName name) blocks = not (is_accepted name blocks)
+is_refused_use _ blocks = false
+
+-- what an operation may be misplaced by: its location field, a statement before that is not neutral, and the blocks used
+pub record Surroundings : Type 0 where
+  pub location : List ℕ
+  pub neutral : Bool
+  pub blocks : List (List ℕ)
+
 -- an operation that is unknown, or misplaced
-abbrev pub is_refused : DeckKind → Operation → Operand → List ℕ → Bool → List (List ℕ) → Bool
-is_refused kind op.Unknown operand location neutral blocks = true
-is_refused kind op.EmptyField operand location neutral blocks = not (length location == 0)
-is_refused kind (op.Kind made) operand location neutral blocks = not neutral
-is_refused kind op.Use UseRefused location neutral blocks = true
-is_refused kind op.Use (UseName name) location neutral blocks = not (is_accepted name blocks)
-is_refused Periph op.Entry operand location neutral blocks = true
-is_refused kind op.Ext operand location neutral blocks = is_absolute_deck kind
-is_refused kind operation operand location neutral blocks = false
+abbrev pub is_refused : DeckKind → Operation → Operand → Surroundings → Bool
+is_refused kind op.Unknown operand around = true
+is_refused kind op.EmptyField operand around = not (length around.location == 0)
+is_refused kind (op.Kind made) operand around = not around.neutral
+is_refused kind op.Use operand around = is_refused_use operand around.blocks
+is_refused Periph op.Entry operand around = true
+is_refused kind op.Ext operand around = is_absolute_deck kind
+is_refused kind operation operand around = false
 
 -- a name that EXT defines: its value is the external of that name
 abbrev pub external : List ℕ → Definition
@@ -98,11 +109,19 @@ external_letters symbol (Some name ∷ names) so_far =
 abbrev pub first_definition : List ℕ → Form → Option Form → List Definition
 first_definition name form before = if is_symbol name && not (is_some before) then record { name = name; form = form } ∷ [] else []
 
+-- a location field with what its symbol may be worth, and the symbols that are defined before
+pub record Label : Type 0 where
+  pub location : List ℕ
+  -- the value of an EQU, and `*`
+  pub value : Form
+  pub counter : Form
+  pub symbol : View
+
 -- what a statement defines: EQU its symbol as the value, EXT its externals, other labelled ones theirs as `*`
-abbrev pub definitions_of : DeckKind → Operation → Operand → List ℕ → Form → Form → View → List Definition
-definitions_of kind op.Equ operand location value counter symbol = first_definition location value (symbol location)
-definitions_of Rel op.Ext (NamesOperand names) location value counter symbol = externals symbol names []
-definitions_of kind operation operand location value counter symbol = if is_labelled operation then first_definition location counter (symbol location) else []
+abbrev pub definitions_of : DeckKind → Operation → Operand → Label → List Definition
+definitions_of kind op.Equ operand label = first_definition label.location label.value (label.symbol label.location)
+definitions_of Rel op.Ext (NamesOperand names) label = externals label.symbol names []
+definitions_of kind operation operand label = if is_labelled operation then first_definition label.location label.counter (label.symbol label.location) else []
 
 -- whether a run begins: an ORG that is not faulty begins one
 abbrev pub is_run : LocationSetting → Bool
@@ -117,8 +136,9 @@ operand_letters kind operation operand symbol = letter_where (is_bad operand) le
 -- the letters of the location field, and O alone where the operation is refused, else those of the operand and of what comes of it
 abbrev pub settled_letters : DeckKind → Seen → ReadStatement → List Letter → List Letter
 settled_letters kind seen read outcome =
+    let around : Surroundings = record { location = read.fields.location; neutral = seen.neutral; blocks = seen.blocks } in
     location_letters kind read.operation read.fields.location (seen.symbol read.fields.location)
-    ++ (if is_refused kind read.operation read.operand read.fields.location seen.neutral seen.blocks then letter.O ∷ []
+    ++ (if is_refused kind read.operation read.operand around then letter.O ∷ []
     else operand_letters kind read.operation read.operand seen.symbol ++ outcome)
 
 -- what stands nowhere has the position of its block as its place, moved to a word where upper is asked
@@ -127,33 +147,46 @@ place_of kind operation operand location position =
     if has_place operation then least_place kind operation operand location position.asks position.end
     else if position.asks then to_word kind position.end else position.end
 
--- a statement with its place, its counters and its early value: what it is worth and defines, and its letters, follow from what it sees
-abbrev pub settled_with : DeckKind → Seen → ReadStatement → ℕ → Counters → Option (Result Form Letter) → Settled
-settled_with kind seen read place counters value =
-    let outcome = outcome_of kind read.operation read.operand seen.block place value in
+-- where a statement stands: its place, its counters there, and its early value
+pub record Standing : Type 0 where
+  pub place : ℕ
+  pub counters : Counters
+  pub value : Option (Result Form Letter)
+
+-- where a statement stands behind what it sees
+abbrev pub standing_of : DeckKind → Seen → ReadStatement → Standing
+standing_of kind seen read =
+    let place = place_of kind read.operation read.operand read.fields.location seen.position in
+    let counters = counters_at kind seen.block place seen.counting in
+    record { place = place; counters = counters; value = early_value (early_names seen.symbol counters) read.operand }
+
+-- a statement that stands so: what it is worth and defines, and its letters, follow from what it sees
+abbrev pub settled_with : DeckKind → Seen → ReadStatement → Standing → Settled
+settled_with kind seen read standing =
+    let outcome = outcome_of kind read.operation read.operand seen.block standing.place standing.value in
     record {
       read = read;
       block = seen.block;
       change = change_of read.operand seen.blocks;
       is_placed = has_place read.operation;
-      place = place;
+      place = standing.place;
       end = outcome.end;
       asks = asks_after kind read.operation read.operand read.fields.operation (length (subfields_of (pieces_of read.fields.variable)));
       begins_run = is_run outcome.setting;
       setting = outcome.setting;
-      location = counters.location;
-      origin = counters.origin;
-      definitions = definitions_of kind read.operation read.operand read.fields.location (equated value) counters.location seen.symbol;
+      location = standing.counters.location;
+      origin = standing.counters.origin;
+      definitions = definitions_of kind read.operation read.operand (record { location = read.fields.location; value = equated standing.value; counter = standing.counters.location; symbol = seen.symbol });
       letters = letter_where (is_stray read.statement.cards) letter.C ++ settled_letters kind seen read outcome.letters;
     }
 
+-- a statement that was read, settled from what it sees
+abbrev pub settled_read : DeckKind → Seen → ReadStatement → Settled
+settled_read kind seen read = settled_with kind seen read (standing_of kind seen read)
+
 -- a statement, settled from what it sees
 abbrev pub settled_from : DeckKind → Seen → Statement → Settled
-settled_from kind seen statement =
-    let read = read_of kind seen.number_base statement in
-    let place = place_of kind read.operation read.operand read.fields.location seen.position in
-    let counters = counters_at kind seen.block place seen.counting in
-    settled_with kind seen read place counters (early_value (early_names seen.symbol counters) read.operand)
+settled_from kind seen statement = settled_read kind seen (read_of kind seen.number_base statement)
 
 -- the next statement behind those that are settled
 abbrev pub settle : DeckKind → List Settled → Statement → Settled

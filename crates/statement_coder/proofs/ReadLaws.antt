@@ -1,8 +1,8 @@
 -- A statement that was read is that of the definitions.
 use Rattle.std.proofs.Common.{◌≡◌, ◌∙◌, ap, ap₂, sym, subst}
-use Rattle.definitions.specs.{Statements.Statement, Fields.{Fields, fields_of}, Operations.{Operation, operation_of}, Operands.operand_of, Settled.{ReadStatement, read_of}, Settling.{View, Seen, settled_from}, declared.deck_kind.DeckKind.DeckKind, declared.number_base.NumberBase.NumberBase}
+use Rattle.definitions.specs.{Statements.Statement, Fields.{Fields, fields_of}, Operations.{Operation, operation_of}, Operands.operand_of, Settled.{ReadStatement, read_of}, Settling.{View, Seen, settled_from, settled_read}, declared.deck_kind.DeckKind.DeckKind, declared.number_base.NumberBase.NumberBase}
 use Rattle.operations.specs.Joins.OperationsAs.{operation_as}
-use Rattle.statement_coder.specs.{Joins.Sizings.{read_as, settled_read, IsSizing}, Joins.StatementsRead.IsRead, declared.sizing.Sizing.Sizing}
+use Rattle.statement_coder.specs.{Joins.Sizings.{read_as, IsSizing}, Joins.StatementsRead.IsRead, declared.sizing.Sizing.Sizing}
 use Rattle.statement_coder.specs.declared.statement.Statement as statements
 
 -- a statement read from fields and an operation

@@ -1,18 +1,18 @@
 //! What a USE does to the stack of blocks, and which statements are refused (COMPASS 60492600, USE,
 //! ABS, PERIPH, ENTRY, EXT).
 ghost use Rattle.std.specs.Prelude.{◌≡◌, not};
-ghost use Rattle.definitions.specs.Operations as op;
 ghost use Rattle.expr_forms.specs.Joins.Readings.{use_as};
 ghost use Rattle.definitions.specs.Operands as operands;
 ghost use Rattle.definitions.specs.Blocks.{change_of, is_accepted};
-ghost use Rattle.definitions.specs.Settling.{is_refused};
+ghost use Rattle.definitions.specs.Settling.{is_refused_use};
 ghost use Rattle.definitions.specs.Laws.States.{names_of_blocks};
-ghost use Rattle.operations.specs.Joins.OperationsAs.{operation_as};
 ghost use Rattle.use_blocks.specs.Joins.Changes.{IsAccepted};
 ghost use Rattle.use_blocks.specs.Joins.EffectsAs.{change_as};
 ghost use Rattle.statement_coder.specs.Joins.Readings.{IsReading};
+ghost use Rattle.statement_coder.specs.Joins.Sizings.{refused_as};
 
 use crate::readings::Reading;
+use crate::statement::Statement;
 use definitions::DeckKind;
 use expr_forms::{Name, UseField};
 use operations::Operation;
@@ -63,14 +63,8 @@ fn is_refused_name(name: &Name, state: &BlockState) -> bool
 }
 
 /// Whether a USE with this field is refused.
-fn is_refused_use(
-    kind: DeckKind,
-    field: UseField,
-    location: &[u8],
-    neutral: bool,
-    state: &BlockState,
-) -> bool
-    ensures { (operand : operands.Operand) → operand ≡ use_as field → result ≡ is_refused kind op.Use operand location.now neutral (names_of_blocks state.now.blocks) }
+fn is_refused_use(field: UseField, state: &BlockState) -> bool
+    ensures { (operand : operands.Operand) → operand ≡ use_as field → result ≡ is_refused_use operand (names_of_blocks state.now.blocks) }
 {
     match field {
         UseField::UseName(name) => is_refused_name(&name, state),
@@ -81,18 +75,11 @@ fn is_refused_use(
 }
 
 /// Whether a USE is refused.
-fn is_refused_block(
-    kind: DeckKind,
-    reading: &Reading<'_>,
-    location: &[u8],
-    neutral: bool,
-    state: &BlockState,
-) -> bool
-    ensures { (operand : operands.Operand) → IsReading reading.now operand →
-        result ≡ is_refused kind op.Use operand location.now neutral (names_of_blocks state.now.blocks) }
+fn is_refused_block(reading: &Reading<'_>, state: &BlockState) -> bool
+    ensures { (operand : operands.Operand) → IsReading reading.now operand → result ≡ is_refused_use operand (names_of_blocks state.now.blocks) }
 {
     match reading {
-        Reading::Use(field) => is_refused_use(kind, *field, location, neutral, state),
+        Reading::Use(field) => is_refused_use(*field, state),
         Reading::Unread => false,
         Reading::Bad => false,
         Reading::Instruction(_) => false,
@@ -107,22 +94,19 @@ fn is_refused_block(
 
 /// Whether a statement is O: its operation is unknown or misplaced, or its block is not to be had.
 pub(crate) fn is_refused(
-    kind: DeckKind,
-    operation: Operation,
+    statement: &Statement<'_>,
     reading: &Reading<'_>,
-    location: &[u8],
     state: &BlockState,
 ) -> bool
-    ensures { (operand : operands.Operand) → IsReading reading.now operand →
-        result ≡ is_refused kind (operation_as operation) operand location.now state.now.neutral (names_of_blocks state.now.blocks) }
+    ensures { (operand : operands.Operand) → IsReading reading.now operand → result ≡ refused_as statement.now operand state.now }
 {
-    match operation {
+    match statement.operation {
         Operation::Unknown => true,
-        Operation::EmptyField => !location.is_empty(),
+        Operation::EmptyField => !statement.location.is_empty(),
         Operation::Kind(_) => !state.is_neutral(),
-        Operation::Use => is_refused_block(kind, reading, location, state.is_neutral(), state),
-        Operation::Entry => matches!(kind, DeckKind::Periph),
-        Operation::Ext => match kind {
+        Operation::Use => is_refused_block(reading, state),
+        Operation::Entry => matches!(statement.kind, DeckKind::Periph),
+        Operation::Ext => match statement.kind {
             DeckKind::Rel => false,
             DeckKind::Abs => true,
             DeckKind::Periph => true,

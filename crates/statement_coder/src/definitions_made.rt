@@ -94,7 +94,7 @@ fn has_names(reading: &Reading<'_>) -> bool
 /// What an EXT defines.
 fn externals(kind: DeckKind, reading: &Reading<'_>) -> Definition
     ensures definitions { (location : List ℕ) (value counter : forms.Form) (view : View) (operand : operands.Operand) → IsReading reading.now operand →
-        defined_by view location operand (made_as counter value result) ≡ definitions_of kind op.Ext operand location value counter view }
+        defined_by view location operand (made_as counter value result) ≡ definitions_of kind op.Ext operand (record { location = location; value = value; counter = counter; symbol = view }) }
     ensures externals { (value counter : forms.Form) → IsOfExt op.Ext (made_as counter value result) }
 {
     match kind {
@@ -121,7 +121,7 @@ pub(crate) fn definition_made(
     is_defined: bool,
 ) -> Definition
     ensures definitions { (view : View) (operand : operands.Operand) (value counter : forms.Form) → IsReading reading.now operand → is_some (view location.now) ≡ is_defined →
-        defined_by view location.now operand (made_as counter value result) ≡ definitions_of kind (operation_as operation) operand location.now value counter view }
+        defined_by view location.now operand (made_as counter value result) ≡ definitions_of kind (operation_as operation) operand (record { location = location.now; value = value; counter = counter; symbol = view }) }
     ensures externals { (value counter : forms.Form) → IsOfExt (operation_as operation) (made_as counter value result) }
 {
     match operation {

@@ -3,8 +3,7 @@ ghost use Rattle.std.specs.Prelude.{◌≡◌, ◌++◌, ◌∷◌, [], true, Li
 ghost use Rattle.definitions.specs.Forms as forms;
 ghost use Rattle.definitions.specs.Letters.{in_order};
 ghost use Rattle.definitions.specs.Operands as operands;
-ghost use Rattle.definitions.specs.Settling.{letter_where, location_letters, is_refused, operand_letters};
-ghost use Rattle.definitions.specs.Laws.States.{names_of_blocks};
+ghost use Rattle.definitions.specs.Settling.{letter_where, location_letters, operand_letters};
 ghost use Rattle.definitions.specs.Operations as op;
 ghost use Rattle.definitions.specs.Places.{is_bad};
 ghost use Rattle.definitions.specs.declared.deck_kind.DeckKind.TheVariants as kinds;
@@ -13,6 +12,7 @@ ghost use Rattle.definitions.specs.declared.letter.Letter.TheVariants as letter;
 ghost use Rattle.operations.specs.Joins.OperationsAs.{operation_as};
 ghost use Rattle.statement_coder.specs.Joins.LettersAs.{letters_as};
 ghost use Rattle.statement_coder.specs.Joins.Readings.{IsReading, has_names};
+ghost use Rattle.statement_coder.specs.Joins.Sizings.{refused_as};
 
 use crate::block_changes::is_refused;
 use crate::early_values::EarlySymbols;
@@ -118,12 +118,10 @@ fn variable_letters(
     outcome: Option<Letter>,
 ) -> Letters
     ensures { (operand : operands.Operand) (letters : List marks.Letter) → IsReading reading.now operand → of_operand.now ≡ in_order letters →
-        result ≡ in_order (if is_refused statement.now.kind (operation_as statement.now.operation) operand statement.now.location.now state.now.neutral (names_of_blocks state.now.blocks) then letter.O ∷ []
+        result ≡ in_order (if refused_as statement.now operand state.now then letter.O ∷ []
         else letters ++ letters_as outcome) }
 {
-    let kind = statement.kind;
-    let operation = statement.operation;
-    if is_refused(kind, operation, reading, statement.location, state) {
+    if is_refused(statement, reading, state) {
         Letters::of(Letter::O)
     } else {
         with_letter(of_operand, outcome)
@@ -143,7 +141,7 @@ pub(crate) fn size_letters(
     ensures { (operand : operands.Operand) (letters : List marks.Letter) (before : Option forms.Form) → IsReading reading.now operand → of_operand.now ≡ in_order letters → is_some before ≡ is_defined →
         result ≡ in_order (letter_where statement.now.is_stray letter.C
         ++ (location_letters statement.now.kind (operation_as statement.now.operation) statement.now.location.now before
-        ++ (if is_refused statement.now.kind (operation_as statement.now.operation) operand statement.now.location.now state.now.neutral (names_of_blocks state.now.blocks) then letter.O ∷ []
+        ++ (if refused_as statement.now operand state.now then letter.O ∷ []
         else letters ++ letters_as outcome))) }
 {
     let stray = with_letter(

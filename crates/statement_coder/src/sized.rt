@@ -6,13 +6,13 @@ ghost use Rattle.definitions.specs.Counters.{counters_at};
 ghost use Rattle.definitions.specs.Operands as operands;
 ghost use Rattle.definitions.specs.Letters.{in_order};
 ghost use Rattle.definitions.specs.Operations as op;
-ghost use Rattle.definitions.specs.Settling.{is_run, operand_letters};
+ghost use Rattle.definitions.specs.Settling.{is_run, operand_letters, settled_read};
 ghost use Rattle.definitions.specs.Laws.States.{seen_from};
 ghost use Rattle.operations.specs.Joins.OperationsAs.{operation_as};
 ghost use Rattle.use_blocks.specs.Joins.Changes.{IsAccepted, block_now};
 ghost use Rattle.use_blocks.specs.Joins.EffectsAs.{change_as, setting_as};
 ghost use Rattle.statement_coder.specs.Joins.Readings.{IsReading, has_names, is_plain};
-ghost use Rattle.statement_coder.specs.Joins.Sizings.{read_as, settled_read, IsSizing};
+ghost use Rattle.statement_coder.specs.Joins.Sizings.{read_as, IsSizing};
 
 use crate::block_changes::change_of;
 use crate::definitions_made::{defined_with, definition_made};

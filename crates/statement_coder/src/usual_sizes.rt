@@ -6,7 +6,7 @@ ghost use Rattle.definitions.specs.Forms as forms;
 ghost use Rattle.definitions.specs.Letters.{in_order};
 ghost use Rattle.definitions.specs.Operands as operands;
 ghost use Rattle.definitions.specs.Settled.{NoChange};
-ghost use Rattle.definitions.specs.Settling.{operand_letters};
+ghost use Rattle.definitions.specs.Settling.{operand_letters, settled_read};
 ghost use Rattle.definitions.specs.Laws.States.{seen_from};
 ghost use Rattle.definitions.specs.Statements as statements;
 ghost use Rattle.definitions.specs.Statements.{is_stray};
@@ -14,7 +14,7 @@ ghost use Rattle.operations.specs.Joins.OperationsAs.{operation_as};
 ghost use Rattle.use_blocks.specs.Joins.Changes.{block_now};
 ghost use Rattle.statement_coder.specs.Joins.KeptSizings.{usual_as};
 ghost use Rattle.statement_coder.specs.Joins.Readings.{IsReading, is_plain};
-ghost use Rattle.statement_coder.specs.Joins.Sizings.{read_as, settled_read, IsSizing};
+ghost use Rattle.statement_coder.specs.Joins.Sizings.{read_as, IsSizing};
 
 use crate::definitions_made::definition_made;
 use crate::early_values::EarlySymbols;

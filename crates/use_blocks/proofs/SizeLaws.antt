@@ -1,6 +1,6 @@
 -- How many blocks, literals and words a deck has at most.
 use Rattle.std.{proofs.Common.{ℕ, ◌≡◌, ◌+◌, ◌-◌, ◌*◌, ◌/◌, ◌<◌, ◌≤◌, ◌==◌, Bool, true, false, not, ◌&&◌, ◌||◌, List, [], ◌∷◌, ◌++◌, length, suc, max, Option, Some, None, Ok, Err, Result, refl, ap, subst, arith, length-append}, proofs.lemmas.List.length-map, proofs.lemmas.Bool.{leb-true, leb-false}, proofs.lemmas.List.Elements.All-from_recursion, specs.Prelude.{map, All, if◌then◌else◌, nat_lt, nat_le}, specs.List.{AllByRecursion, list_any}}
-use Rattle.definitions.specs.{Characters.same_text, Kinds.{units, most_words}, Forms.{Form, is_absolute}, Operations.{Operation, has_place}, Operands.{Operand, UseName, UseBefore}, Statements.Statement, Counters.{Counters, counters_at}, Sizes.size_of, Settled.{ReadStatement, read_of, Settled, NoChange, Opens, Unchanged}, Blocks.{blocks_used, changes, with_opened, is_named, is_accepted, change_of}, EarlyValues.{Outcome, outcome_of, outcome_of_value, outcome_of_size, origin_outcome, origin_word, location_outcome, location_value, reserved_outcome, reserved, that_ends, in_words, stays_with, letter_of, early_names, early_value}, Settling.{Seen, seen_of, place_of, settle, settled_all, settled_with, is_run}, Lengths.{BlockLength, block_rows, lengths_of, length_of, literals_row, reached, rows_from, local_words, placed_row, total_length}, Literals.{literal_words, with_literals, with_word, operand_literals, literal_word}, Expressions.Literal, declared.deck_kind.DeckKind.DeckKind, declared.deck_kind.DeckKind.TheVariants.{Rel, Abs, Periph}, declared.letter.Letter.Letter}
+use Rattle.definitions.specs.{Characters.same_text, Kinds.{units, most_words}, Forms.{Form, is_absolute}, Operations.{Operation, has_place}, Operands.{Operand, UseName, UseBefore}, Statements.Statement, Sizes.size_of, Settled.{ReadStatement, read_of, Settled, NoChange, Opens, Unchanged}, Blocks.{blocks_used, changes, with_opened, is_named, is_accepted, change_of}, EarlyValues.{Outcome, outcome_of, outcome_of_value, outcome_of_size, origin_outcome, origin_word, location_outcome, location_value, reserved_outcome, reserved, that_ends, in_words, stays_with, letter_of}, Settling.{Seen, seen_of, settle, settled_all, settled_with, is_run, Standing, standing_of}, Lengths.{BlockLength, block_rows, lengths_of, length_of, literals_row, reached, rows_from, local_words, placed_row, total_length}, Literals.{literal_words, with_literals, with_word, operand_literals, literal_word}, Expressions.Literal, declared.deck_kind.DeckKind.DeckKind, declared.deck_kind.DeckKind.TheVariants.{Rel, Abs, Periph}, declared.letter.Letter.Letter}
 use Rattle.definitions.specs.Operations as op
 use Rattle.definitions.specs.declared.letter.Letter.TheVariants as letter
 
@@ -143,19 +143,16 @@ placed-bounded kind is_placed place outcome within = step is_placed (nat_lt plac
     step true false e r f = none
     step false t e r f = none
 
-with-bounded : (kind : DeckKind) (seen : Seen) (read : ReadStatement) (place : ℕ) (counters : Counters) (value : Option (Result Form Letter)) →
-    reached kind (settled_with kind seen read place counters value) ≤ most_words kind
-with-bounded kind seen read place counters value =
-    placed-bounded kind (has_place read.operation) place (outcome_of kind read.operation read.operand seen.block place value)
-    (outcome-within kind read.operation read.operand seen.block place value)
+with-bounded : (kind : DeckKind) (seen : Seen) (read : ReadStatement) (standing : Standing) → reached kind (settled_with kind seen read standing) ≤ most_words kind
+with-bounded kind seen read standing =
+    placed-bounded kind (has_place read.operation) standing.place (outcome_of kind read.operation read.operand seen.block standing.place standing.value)
+    (outcome-within kind read.operation read.operand seen.block standing.place standing.value)
 
 pub reached-bounded : (kind : DeckKind) (earlier : List Settled) (statement : Statement) → reached kind (settle kind earlier statement) ≤ most_words kind
 reached-bounded kind earlier statement =
     let seen = seen_of earlier in
     let read = read_of kind seen.number_base statement in
-    let place = place_of kind read.operation read.operand read.fields.location seen.position in
-    let counters = counters_at kind seen.block place seen.counting in
-    with-bounded kind seen read place counters (early_value (early_names seen.symbol counters) read.operand)
+    with-bounded kind seen read (standing_of kind seen read)
 
 length-bounded : (kind : DeckKind) (statements : List Statement) (name : List ℕ) → length_of kind name (settled_all kind statements) ≤ most_words kind
 length-bounded kind [] name = omega arith

@@ -1,6 +1,6 @@
 -- What a statement is once the state before it is known, in the words of the definitions.
-use Rattle.std.specs.Prelude.{◌≡◌}
-use Rattle.definitions.specs.{Statements.Statement, Operands.Operand, Settled.{ReadStatement, Settled}, Counters.counters_at, EarlyValues.{early_names, early_value}, Letters.in_order, Settling.{View, Seen, place_of, settled_with}, declared.deck_kind.DeckKind.DeckKind}
+use Rattle.std.specs.Prelude.{◌≡◌, Bool}
+use Rattle.definitions.specs.{Statements.Statement, Operands.Operand, Settled.{ReadStatement, Settled}, Letters.in_order, Settling.{View, is_refused}, Laws.States.{BlockState, names_of_blocks}}
 use Rattle.operations.specs.Joins.OperationsAs.{operation_as}
 use Rattle.use_blocks.specs.Joins.EffectsAs.{change_as, setting_as}
 use Rattle.statement_coder.specs.{Joins.Definitions.{defined_by, IsOfExt}, declared.sizing.Sizing.Sizing}
@@ -15,12 +15,10 @@ read_as code statement operand = record {
   operand = operand;
 }
 
--- a statement that was read, settled from what it sees
-abbrev pub settled_read : DeckKind → Seen → ReadStatement → Settled
-settled_read kind seen read =
-    let place = place_of kind read.operation read.operand read.fields.location seen.position in
-    let counters = counters_at kind seen.block place seen.counting in
-    settled_with kind seen read place counters (early_value (early_names seen.symbol counters) read.operand)
+-- whether a statement with this operand is refused behind a state
+abbrev pub refused_as : statements.Statement → Operand → BlockState → Bool
+refused_as code operand state =
+    is_refused code.kind (operation_as code.operation) operand (record { location = code.location.now; neutral = state.neutral; blocks = names_of_blocks state.blocks })
 
 -- all that contracts see of a sizing is what is settled
 pub record IsSizing (view : View) (settled : Settled) (sizing : Sizing) : Type 0 where

@@ -1,6 +1,6 @@
 use Rattle.std.proofs.{Common.{sym, subst}, lemmas.Result.IfOk-weaker}
-use Rattle.definitions.specs.Laws.States.{seen_from}
-use Rattle.statement_coder.specs.Joins.Sizings.{read_as, settled_read, IsSizing}
+use Rattle.definitions.specs.{Laws.States.seen_from, Settling.settled_read}
+use Rattle.statement_coder.specs.Joins.Sizings.{read_as, IsSizing}
 use Rattle.statement_coder.proofs.sized.kept_settled.Goals as goal
 
 pub returns-clause-sizing : goal.returns-clause-sizing

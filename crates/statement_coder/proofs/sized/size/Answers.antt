@@ -1,6 +1,6 @@
 use Rattle.std.{proofs.Common.{true≢false, ap, sym, subst, ◌∙◌}, specs.Prelude.is_some}
-use Rattle.definitions.specs.Laws.States.{seen_from}
-use Rattle.statement_coder.specs.Joins.Sizings.{read_as, settled_read, IsSizing}
+use Rattle.definitions.specs.{Laws.States.seen_from, Settling.settled_read}
+use Rattle.statement_coder.specs.Joins.Sizings.{read_as, IsSizing}
 use Rattle.statement_coder.proofs.sized.size.Goals as goal
 
 pub returns-in-Some-clause-sizing : goal.returns-in-Some-clause-sizing
