@@ -76,13 +76,17 @@ onto_pieces (ByMark mark) pieces = IsMark mark ∷ pieces
 onto_pieces (ByCountedItem counted) pieces = IsCountedItem counted.item ∷ pieces
 onto_pieces (ByOther c) pieces = onto_plain c pieces
 
+-- a walk through a text from a spot on, where so many characters of an item are left: what each character, inside an item or where something begins, puts in front of what those behind it make
+abbrev pub walked : {A : Type 0} → (ℕ → List A → List A) → (ℕ → Begun → List A → List A) → Spot → ℕ → List ℕ → List A
+walked inside begins spot left [] = []
+walked inside begins spot (suc left) (c ∷ cs) = inside c (walked inside begins spot left cs)
+walked inside begins spot zero (c ∷ cs) =
+    let begun = begun_at spot c cs in
+    begins c begun (walked inside begins (spot_behind begun) (left_of begun) cs)
+
 -- the pieces of a text at a spot, behind so many characters of an item
 abbrev pub pieces_at : Spot → ℕ → List ℕ → List Piece
-pieces_at spot left [] = []
-pieces_at spot (suc left) (c ∷ cs) = pieces_at spot left cs
-pieces_at spot zero (c ∷ cs) =
-    let begun = begun_at spot c cs in
-    onto_pieces begun (pieces_at (spot_behind begun) (left_of begun) cs)
+pieces_at spot left text = walked (λ c pieces. pieces) (λ c begun pieces. onto_pieces begun pieces) spot left text
 
 -- the pieces of a variable field
 abbrev pub pieces_of : List ℕ → List Piece
@@ -96,9 +100,4 @@ subfields_of (piece ∷ pieces) = onto_first piece (subfields_of pieces)
 
 -- the text up to the first blank that lies in no item
 abbrev pub field_at : Spot → ℕ → List ℕ → List ℕ
-field_at spot left [] = []
-field_at spot (suc left) (c ∷ cs) = c ∷ field_at spot left cs
-field_at spot zero (c ∷ cs) =
-    let begun = begun_at spot c cs in
-    let rest = field_at (spot_behind begun) (left_of begun) cs in
-    if c == blank then [] else c ∷ rest
+field_at spot left text = walked (λ c field. c ∷ field) (λ c begun field. if c == blank then [] else c ∷ field) spot left text
