@@ -204,20 +204,24 @@ abbrev pub instruction_operand : DeckKind → NumberBase → List ℕ → List (
 instruction_operand Periph base operation subfields = peripheral_operand base (peripheral_row operation) subfields
 instruction_operand _ base operation subfields = central_operand (central_of base operation subfields)
 
+-- the operand of an operation whose variable field is read subfield by subfield
+abbrev pub subfields_operand : DeckKind → NumberBase → Operation → List ℕ → List (List Piece) → Operand
+subfields_operand kind base op.Org operation subfields = one_value base subfields
+subfields_operand kind base op.Loc operation subfields = one_value base subfields
+subfields_operand kind base op.Equ operation subfields = one_value base subfields
+subfields_operand kind base op.Bss operation subfields = one_value base subfields
+subfields_operand kind base op.Bssz operation subfields = one_value base subfields
+subfields_operand kind base op.Data operation subfields = words_operand (all_words (data_word base) subfields)
+subfields_operand kind base op.Con operation subfields = words_operand (all_words (con_word (allows_literals kind) base) subfields)
+subfields_operand kind base op.Vfd operation subfields = bits_operand (all_fields (vfd_field (allows_literals kind) base) subfields)
+subfields_operand kind base op.Entry operation subfields = NamesOperand (map linked_name subfields)
+subfields_operand kind base op.Ext operation subfields = NamesOperand (map linked_name subfields)
+subfields_operand kind base op.Instruction operation subfields = instruction_operand kind base operation subfields
+subfields_operand kind base _ operation subfields = Unread
+
 -- the operand of an operation: what its variable field is to it
 abbrev pub operand_of : DeckKind → NumberBase → Operation → List ℕ → List ℕ → Operand
 operand_of kind base op.Base operation text = base_operand text
 operand_of kind base op.Use operation text = use_operand kind text
-operand_of kind base op.Org operation text = one_value base (subfields_of (pieces_of text))
-operand_of kind base op.Loc operation text = one_value base (subfields_of (pieces_of text))
-operand_of kind base op.Equ operation text = one_value base (subfields_of (pieces_of text))
-operand_of kind base op.Bss operation text = one_value base (subfields_of (pieces_of text))
-operand_of kind base op.Bssz operation text = one_value base (subfields_of (pieces_of text))
-operand_of kind base op.Data operation text = words_operand (all_words (data_word base) (subfields_of (pieces_of text)))
-operand_of kind base op.Con operation text = words_operand (all_words (con_word (allows_literals kind) base) (subfields_of (pieces_of text)))
-operand_of kind base op.Vfd operation text = bits_operand (all_fields (vfd_field (allows_literals kind) base) (subfields_of (pieces_of text)))
 operand_of kind base op.Dis operation text = dis_operand kind base text
-operand_of kind base op.Entry operation text = NamesOperand (map linked_name (subfields_of (pieces_of text)))
-operand_of kind base op.Ext operation text = NamesOperand (map linked_name (subfields_of (pieces_of text)))
-operand_of kind base op.Instruction operation text = instruction_operand kind base operation (subfields_of (pieces_of text))
-operand_of kind base _ operation text = Unread
+operand_of kind base made operation text = subfields_operand kind base made operation (subfields_of (pieces_of text))
