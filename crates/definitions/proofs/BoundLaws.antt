@@ -1,6 +1,6 @@
 -- What the test of an element's two values shows: its form is the same in both decks, and its relocation stands where it stood.
-use Rattle.std.{proofs.Common.{◌≡◌, ℕ, Bool, true, false, not, List, [], ◌∷◌, Option, Some, None, refl, sym, ap, ap₂, ◌∙◌, subst}, specs.Prelude.{⊤, Result, Ok, Err, nat_lt, pos, if◌then◌else◌}, specs.List.{AllByRecursion, list_any}, proofs.lemmas.Bool.eqb-true, proofs.lemmas.Bool.Decides.Decides-int_eq}
-use Rattle.definitions.{specs.Expressions.{Literal, OfNumber, OfCountedItem, Element, ANumber, ACountedItem, ASymbol, ARegister, LocationCounter, OriginCounter, ALiteral}, specs.Forms.{Relocation, Block, External, Part, Added, Subtracted, Form, same_relocation, symbol_form, element_form}, specs.Symbols.{Value, TooGreat}, specs.Blocks.literals_block, specs.Literals.{most_literals, literal_word, offset_of, offset_form, literal_form}, specs.Settled.{Settled, defined}, specs.StatementItems.{Context, final_names}, specs.Laws.Rebound.{relocation_base, part_base, same_part, same_form, same_value, bound_alike}, specs.declared.letter.Letter.Letter, proofs.NamesLaws.{OfPart, OfValue}, proofs.TestLaws.{and_left, and_right, or_left, or_right, not_false}, proofs.TextLaws.same_text-true}
+use Rattle.std.{proofs.Common.{◌≡◌, ℕ, Bool, true, false, not, List, [], ◌∷◌, Option, Some, None, refl, sym, ap, ap₂, ◌∙◌, subst}, specs.Prelude.{⊤, Result, Ok, Err, nat_lt, pos, ok_or, if◌then◌else◌}, specs.List.{AllByRecursion, list_any}, proofs.lemmas.Bool.eqb-true, proofs.lemmas.Bool.Decides.Decides-int_eq}
+use Rattle.definitions.{specs.Expressions.{Literal, OfNumber, OfCountedItem, Element, ANumber, ACountedItem, ASymbol, ARegister, LocationCounter, OriginCounter, ALiteral}, specs.Forms.{Relocation, Block, External, Part, Added, Subtracted, Form, same_relocation, element_form}, specs.Symbols.{Value, TooGreat}, specs.Blocks.literals_block, specs.Literals.{most_literals, literal_word, offset_of, offset_form, literal_form}, specs.Settled.{Settled, defined}, specs.StatementItems.{Context, final_names}, specs.Laws.Rebound.{relocation_base, part_base, same_part, same_form, same_value, bound_alike}, specs.declared.letter.Letter.Letter, proofs.NamesLaws.{OfPart, OfValue}, proofs.TestLaws.{and_left, and_right, or_left, or_right, not_false}, proofs.TextLaws.same_text-true}
 use Rattle.definitions.specs.declared.letter.Letter.TheVariants as letter
 
 -- a relocation stands at one base in both decks
@@ -70,7 +70,7 @@ literals-same old new (Ok a) (Err b) h k e = cc
 literals-same old new (Err a) (Ok b) h k e = cc
 
 -- two values of a symbol that test the same are one
-symbols-same : (old new : Context) (a b : Option Form) → same_value old new (symbol_form a) (symbol_form b) ≡ true → symbol_form a ≡ symbol_form b
+symbols-same : (old new : Context) (a b : Option Form) → same_value old new (ok_or a letter.U) (ok_or b letter.U) ≡ true → ok_or a letter.U ≡ ok_or b letter.U
 symbols-same old new None None e = refl
 symbols-same old new (Some a) (Some b) e = ap Ok (forms-same old new a b e)
 symbols-same old new None (Some b) e = cc

@@ -1,7 +1,7 @@
 -- The rows of the central table make whole instructions: the digits of each code have their room, and with the field they fill 15 or 30 bits.
-use Rattle.std.{proofs.Common.{ℕ, ◌≡◌, suc, ◌+◌, ◌-◌, ◌*◌, ◌%◌, ◌^◌, ◌<◌, ◌≤◌, Bool, true, false, ◌&&◌, ◌||◌, List, [], ◌∷◌, ◌++◌, length, Option, Some, None, refl, ap, subst, arith}, specs.Prelude.{nat_eq, nat_le, map, filter, codes, if◌then◌else◌}, specs.List.{AllByRecursion, list_all, slice_split}, proofs.lemmas.Bool.{leb-true, eqb-true}}
+use Rattle.std.{proofs.Common.{ℕ, ◌≡◌, suc, ◌+◌, ◌-◌, ◌*◌, ◌%◌, ◌^◌, ◌<◌, ◌≤◌, Bool, true, false, ◌&&◌, ◌||◌, List, [], ◌∷◌, ◌++◌, length, Option, Some, None, refl, ap, subst, arith}, specs.Prelude.{nat_eq, nat_le, map, filter, codes, option_map, option_and_then, if◌then◌else◌}, specs.List.{AllByRecursion, list_all, slice_split}, proofs.lemmas.Bool.{leb-true, eqb-true}}
 use Rattle.std.proofs.Math.Nat.{pow-suc as pow-succ, mul-le-mul_right}
-use Rattle.definitions.{specs.Characters.{is_among, same_text, comma}, specs.Pieces.Piece, specs.Expressions.{Expression, Term, expression_of, is_plain}, specs.CentralTable.{Row, SumRow, central_rows, ignoring_rows, sum_rows}, specs.Matching.{RegisterDigits, no_ijk, is_ijk, with_ijk, is_octal_digit, matched, is_operation, Field, NoField, OfK, OfN, Instruction, Match, plain_text, plain_field, with_field, subfield_matched, subfields_matched, digit_in, code_digits, octal_number, instruction_of, with_registers, matched_instruction, ignoring_fit, row_fit, Sum, sum_code, sum_field, is_plain_field, sum_instruction, registers_matched, sum_fit, sum_read, single, rows_for, sum_rows_for, fits_of, first_fit, central_of}, specs.Sizes.field_width, specs.declared.number_base.NumberBase.NumberBase, proofs.WordLaws.picked_cond, proofs.OperandShapes.IsWhole, proofs.TestLaws.{and_left, and_right}}
+use Rattle.definitions.{specs.Characters.{is_among, same_text, comma}, specs.Pieces.Piece, specs.Expressions.{Expression, Term, expression_of, is_plain}, specs.CentralTable.{Row, SumRow, central_rows, ignoring_rows, sum_rows}, specs.Matching.{RegisterDigits, no_ijk, is_ijk, with_ijk, is_octal_digit, matched, is_operation, Field, NoField, OfK, OfN, Instruction, Match, plain_text, plain_field, with_field, subfield_matched, subfields_matched, digit_in, code_digits, octal_number, instruction_of, ignoring_fit, row_fit, Sum, sum_code, sum_field, is_plain_field, sum_instruction, sum_fit, sum_read, single, rows_for, sum_rows_for, fits_of, first_fit, central_of}, specs.Sizes.field_width, specs.declared.number_base.NumberBase.NumberBase, proofs.WordLaws.picked_cond, proofs.OperandShapes.IsWhole, proofs.TestLaws.{and_left, and_right}}
 
 -- the digits of registers are octal digits
 abbrev AreOctal : RegisterDigits → Type 0
@@ -206,12 +206,12 @@ is_central_row row = is_filling row.code (field_bits (slice_split (λ c. nat_eq 
 row_fit-whole : (base : NumberBase) (operation : List ℕ) (subfields : List (List Piece)) (row : Row) → is_central_row row ≡ true → IsWholeIf (row_fit base operation subfields row)
 row_fit-whole base operation subfields row e = step (matched row.operation operation no_ijk) refl
   where
-    last : (found : Option Match) → ((m : Match) → found ≡ Some m → IsFound (field_bits (slice_split (λ c. nat_eq c comma) row.operand) 0) m) → IsWholeIf (matched_instruction row.code found)
+    last : (found : Option Match) → ((m : Match) → found ≡ Some m → IsFound (field_bits (slice_split (λ c. nat_eq c comma) row.operand) 0) m) → IsWholeIf (option_map (instruction_of row.code) found)
     last None h = tt
     last (Some found) h = let is = h found refl in filling-whole row.code found _ e is.0 is.1
 
     step : (digits : Option RegisterDigits) → matched row.operation operation no_ijk ≡ digits →
-        IsWholeIf (matched_instruction row.code (subfields_matched base (slice_split (λ c. nat_eq c comma) row.operand) subfields (with_registers digits)))
+        IsWholeIf (option_map (instruction_of row.code) (subfields_matched base (slice_split (λ c. nat_eq c comma) row.operand) subfields (with_field NoField digits)))
     step None is = rw none_matched tt
     step (Some ijk) is =
         last (subfields_matched base (slice_split (λ c. nat_eq c comma) row.operand) subfields (Some (record { ijk = ijk; field = NoField })))
@@ -241,7 +241,7 @@ sum_instruction-whole code width sum (Some ijk) e wide h = step (is_plain_field 
     step true false is = tt
     step false t is = tt
 
-registers-octal : (row : SumRow) (sum : Sum) (digits : Option RegisterDigits) (ijk : RegisterDigits) → ((first : RegisterDigits) → digits ≡ Some first → AreOctal first) → registers_matched row sum digits ≡ Some ijk → AreOctal ijk
+registers-octal : (row : SumRow) (sum : Sum) (digits : Option RegisterDigits) (ijk : RegisterDigits) → ((first : RegisterDigits) → digits ≡ Some first → AreOctal first) → option_and_then (matched row.registers sum.registers) digits ≡ Some ijk → AreOctal ijk
 registers-octal row sum None ijk h e = cc
 registers-octal row sum (Some first) ijk h e = matched-octal row.registers sum.registers first ijk (h first refl) e
 
@@ -254,7 +254,7 @@ sum_fit-whole : (operation : List ℕ) (sum : Option Sum) (row : SumRow) → is_
 sum_fit-whole operation None row e = tt
 sum_fit-whole operation (Some sum) row e =
     let first = matched row.operation operation no_ijk in
-    sum-whole row sum (registers_matched row sum first) sum.others refl e
+    sum-whole row sum (option_and_then (matched row.registers sum.registers) first) sum.others refl e
     (λ ijk is. registers-octal row sum first ijk (λ digits f. matched-octal row.operation operation no_ijk digits no_ijk-octal f) is)
 
 -- an instruction that is found for an operation and its subfields is whole

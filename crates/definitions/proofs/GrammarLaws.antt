@@ -1,6 +1,6 @@
 -- What `pairs_of` reads, as a relation: elements, each behind the mark of its operator.
-use Rattle.std.{proofs.Common.{ℕ, ◌≡◌, inl, inr, List, [], ◌∷◌, ◌++◌, Option, Some, None, Bool, true, false, refl, sym, ◌∙◌, ap, subst, if◌then◌else◌}, specs.Prelude.codes}
-use Rattle.definitions.{specs.Characters.same_text, proofs.TextLaws.same_text-true, specs.Pieces.{Mark, Plus, Minus, Star, Slash, Equals, Piece, IsMark, IsCountedItem, Plain}, specs.Symbols.{Register, register_of, is_symbol, Number, number_read}, specs.Expressions.{Sign, NoSign, PlusSign, MinusSign, OfNumber, OfCountedItem, Element, ANumber, ACountedItem, ASymbol, ARegister, LocationCounter, OriginCounter, ALiteral, Operator, Times, Divide, Add, Subtract, OperatorElement, element_of_number, element_of_name, element_of_text, counter_of, literal_of, element_at, onto_pairs, pairs_of}, specs.Laws.Grammar.{IsNumberText, IsSymbolText, sign_pieces, IsElement}, specs.declared.number_base.NumberBase.NumberBase}
+use Rattle.std.{proofs.Common.{ℕ, ◌≡◌, inl, inr, List, [], ◌∷◌, ◌++◌, Option, Some, None, Bool, true, false, refl, sym, ◌∙◌, ap, subst, if◌then◌else◌}, specs.Prelude.{codes, option_map}}
+use Rattle.definitions.{specs.Characters.same_text, proofs.TextLaws.same_text-true, specs.Pieces.{Mark, Plus, Minus, Star, Slash, Equals, Piece, IsMark, IsCountedItem, Plain}, specs.Symbols.{Register, register_of, is_symbol, Number, number_read}, specs.Expressions.{Sign, NoSign, PlusSign, MinusSign, OfNumber, OfCountedItem, Element, ANumber, ACountedItem, ASymbol, ARegister, LocationCounter, OriginCounter, ALiteral, Operator, Times, Divide, Add, Subtract, OperatorElement, element_of_name, element_of_text, counter_of, literal_of, element_at, onto_pairs, pairs_of}, specs.Laws.Grammar.{IsNumberText, IsSymbolText, sign_pieces, IsElement}, specs.declared.number_base.NumberBase.NumberBase}
 
 -- an operator with the element that begins these pieces, and the pairs behind it
 abbrev pub pairs_from : NumberBase → Operator → List Piece → Option (List OperatorElement)
@@ -52,14 +52,14 @@ same_element base x y pieces e is = let same : x ≡ y = cc in subst (λ (z : El
 
 -- a run that reads as a number is a number
 pub number_is_element : (base : NumberBase) (text : List ℕ) (element : Element) → register_of text ≡ None → is_symbol text ≡ false →
-    (n : Option Number) → number_read base text ≡ n → element_of_number n ≡ Some element → IsElement base element (Plain text ∷ [])
+    (n : Option Number) → number_read base text ≡ n → option_map ANumber n ≡ Some element → IsElement base element (Plain text ∷ [])
 number_is_element base text element r s None n e = cc
 number_is_element base text element r s (Some number) n e =
     same_element base (ANumber number) element (Plain text ∷ []) e (text, (r, s, n), refl)
 
 -- a run that is no register is a symbol or a number
 pub unregistered_is_element : (base : NumberBase) (text : List ℕ) (element : Element) → register_of text ≡ None →
-    (s : Bool) → is_symbol text ≡ s → (if s then Some (ASymbol text) else element_of_number (number_read base text)) ≡ Some element →
+    (s : Bool) → is_symbol text ≡ s → (if s then Some (ASymbol text) else option_map ANumber (number_read base text)) ≡ Some element →
     IsElement base element (Plain text ∷ [])
 unregistered_is_element base text element r true s e =
     same_element base (ASymbol text) element (Plain text ∷ []) e (text, (r, s, refl), refl)
@@ -188,15 +188,15 @@ pub element_of_text-number : (base : NumberBase) (text : List ℕ) (number : Num
     element_of_text base text ≡ Some (ANumber number)
 element_of_text-number base text number (r, s, n) =
     ap (element_of_name base text) r
-    ∙ (ap (λ (b : Bool). if b then Some (ASymbol text) else element_of_number (number_read base text)) s
-    ∙ ap element_of_number n)
+    ∙ (ap (λ (b : Bool). if b then Some (ASymbol text) else option_map ANumber (number_read base text)) s
+    ∙ ap (option_map ANumber) n)
 
 -- a symbol run reads as its symbol
 pub element_of_text-symbol : (base : NumberBase) (text name : List ℕ) → IsSymbolText text name →
     element_of_text base text ≡ Some (ASymbol name)
 element_of_text-symbol base text name (r, s, same) =
     ap (element_of_name base text) r
-    ∙ (ap (λ (b : Bool). if b then Some (ASymbol text) else element_of_number (number_read base text)) s
+    ∙ (ap (λ (b : Bool). if b then Some (ASymbol text) else option_map ANumber (number_read base text)) s
     ∙ ap (λ (t : List ℕ). Some (ASymbol t)) (sym same))
 
 -- a literal's pieces read as the literal

@@ -1,6 +1,6 @@
 -- Operands as they are read are made of what their kind says.
-use Rattle.std.{proofs.Common.{ℕ, ◌≡◌, suc, ◌+◌, ◌*◌, ◌<◌, ◌≤◌, Bool, true, false, ◌&&◌, List, [], ◌∷◌, ◌++◌, length, Option, Some, None, refl, subst, arith}, specs.Prelude.{nat_le, nat_lt, map, drop, replicate, codes, take_while, not, nat_eq, if◌then◌else◌}, specs.List.list_all, proofs.lemmas.Bool.leb-true, proofs.lemmas.List.length-take}
-use Rattle.definitions.{specs.Characters.{is_among, same_text, slash, comma, blank}, specs.Pieces.{Slash, Piece, IsMark, Plain, pieces_of, subfields_of}, specs.Kinds.{unit_bits, allows_literals}, specs.Symbols.{Number, Value, number_read, is_block_name}, specs.Expressions.Expression, specs.PeripheralTable.{PeripheralForm, Ignored, Short, ShortJump, Shift, Wide, Long, PeripheralRow, row_among, peripheral_row, peripheral_rows}, specs.Matching.{Instruction, central_of}, specs.Operations.Operation, specs.Operands.{Datum, BitField, Operand, Unread, BadOperand, ValueOperand, UseName, UseBefore, UseRefused, plain_of, onto_all, all_words, words_operand, data_word, con_word, count_read, bit_field, given_expression, vfd_field, all_fields, bits_operand, word_characters, text_operand, dis_operand, value_operand, one_value, is_common_name, common_operand, use_operand, base_operand, central_operand, one_or_two, just_one, by_form, peripheral_operand, instruction_operand, operand_of}, specs.declared.deck_kind.DeckKind.DeckKind, specs.declared.deck_kind.DeckKind.TheVariants.{Rel, Abs, Periph}, specs.declared.number_base.NumberBase.NumberBase, proofs.WordLaws.picked_cond, proofs.OperandShapes.{HasValues, HaveWidths, IsMade}, proofs.CentralLaws.{IsWholeIf, central_of-whole}}
+use Rattle.std.{proofs.Common.{ℕ, ◌≡◌, suc, ◌+◌, ◌*◌, ◌<◌, ◌≤◌, Bool, true, false, ◌&&◌, List, [], ◌∷◌, ◌++◌, length, Option, Some, None, refl, subst, arith}, specs.Prelude.{nat_le, nat_lt, map, drop, replicate, codes, take_while, not, nat_eq, option_map, if◌then◌else◌}, specs.List.list_all, proofs.lemmas.Bool.leb-true, proofs.lemmas.List.length-take}
+use Rattle.definitions.{specs.Characters.{is_among, same_text, slash, comma, blank}, specs.Pieces.{Slash, Piece, IsMark, Plain, pieces_of, subfields_of}, specs.Kinds.{unit_bits, allows_literals}, specs.Symbols.{Number, Value, number_read, is_block_name}, specs.Expressions.Expression, specs.PeripheralTable.{PeripheralForm, Ignored, Short, ShortJump, Shift, Wide, Long, PeripheralRow, row_among, peripheral_row, peripheral_rows}, specs.Matching.{Instruction, central_of}, specs.Operations.Operation, specs.Operands.{Datum, BitField, Operand, Unread, BadOperand, ValueOperand, UseName, UseBefore, UseRefused, plain_of, onto_all, all_words, words_operand, data_word, con_word, count_read, bit_field, vfd_field, all_fields, bits_operand, word_characters, text_operand, dis_operand, value_operand, one_value, is_common_name, common_operand, use_operand, base_operand, central_operand, one_or_two, just_one, by_form, peripheral_operand, instruction_operand, operand_of}, specs.declared.deck_kind.DeckKind.DeckKind, specs.declared.deck_kind.DeckKind.TheVariants.{Rel, Abs, Periph}, specs.declared.number_base.NumberBase.NumberBase, proofs.WordLaws.picked_cond, proofs.OperandShapes.{HasValues, HaveWidths, IsMade}, proofs.CentralLaws.{IsWholeIf, central_of-whole}}
 use Rattle.definitions.specs.Operations as op
 
 central_operand-made : (kind : DeckKind) (instruction : Option Instruction) → unit_bits kind ≡ 15 → IsWholeIf instruction → IsMade kind (central_operand instruction)
@@ -73,7 +73,7 @@ bit_field-width (Some width) (Some value) field h e = let same : (let f : BitFie
 vfd_field-width : (literals : Bool) (base : NumberBase) (pieces : List Piece) (field : BitField) → vfd_field literals base pieces ≡ Some field → IsWidth field
 vfd_field-width literals base (Plain width ∷ IsMark Slash ∷ []) field e = bit_field-width (count_read 60 (number_read base width)) (Some None) field (count_read-within 60 (number_read base width)) e
 vfd_field-width literals base (Plain width ∷ IsMark Slash ∷ (piece ∷ pieces)) field e =
-    bit_field-width (count_read 60 (number_read base width)) (given_expression (plain_of literals base (piece ∷ pieces))) field (count_read-within 60 (number_read base width)) e
+    bit_field-width (count_read 60 (number_read base width)) (option_map Some (plain_of literals base (piece ∷ pieces))) field (count_read-within 60 (number_read base width)) e
 vfd_field-width literals base _ field e = cc
 
 fields-widths : (field : List Piece → Option BitField) (subfields : List (List Piece)) (found : List BitField) → ((pieces : List Piece) (f : BitField) → field pieces ≡ Some f → IsWidth f) →

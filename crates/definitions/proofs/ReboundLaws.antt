@@ -1,6 +1,6 @@
 -- A statement whose elements are bound alike in two decks of one kind has the same letters and the same fields in both.
-use Rattle.std.{proofs.Common.{◌≡◌, ℕ, List, [], ◌∷◌, ◌++◌, Option, Some, None, refl, ap, ap₂, ◌∙◌}, specs.Prelude.{false, Result, Ok, Err, ◌*◌, pos, neg_ℤ, ◌+ℤ◌, ◌-ℤ◌, nat_le, ◌&&◌, map, flat_map, if◌then◌else◌}, specs.List.AllByRecursion}
-use Rattle.definitions.{specs.CountedItems.CountedItem, specs.Expressions.{Element, ASymbol, Expression, elements_of}, specs.Forms.{Block, External, Part, Added, Subtracted, Form, is_absolute, symbol_form, element_form, value_of}, specs.Coding.{coded, coded_in, counted_item_in}, specs.PeripheralTable.{PeripheralForm, Ignored, Short, ShortJump, Shift, Wide, Long}, specs.Matching.{Field, NoField, OfK, OfN}, specs.Operations.Operation, specs.Operands.{Operand, CentralOperand, PeripheralOperand, WordsOperand, BitsOperand, NamesOperand, Datum, ZeroWord, NumberWord, CountedItemWords, ExpressionWord, BitField}, specs.Kinds.{word_bits, address_bits}, specs.Settled.{Settled, defined}, specs.Laws.Agreement.{unnumbered, lawful_names}, specs.StatementItems.{Item, Context, final_names, part_value, number_in, counted_item_value, known_if, form_item, value_item, whole_counted_item, counted_item_or_value, expression_item, small_value, count_of, short_item, is_short, known, shift_of, displacement_of, instruction_items, second_value, peripheral_items, datum_item, vfd_value, zeros_to_word, operand_items, items_of}, specs.Lengths.base_in, specs.Sizes.bits_of, specs.Letters.{name_fault, entry_letters, letters_of}, specs.Entries.entry_fault, specs.Laws.Rebound.{field_elements, datum_elements, value_elements, form_elements, coded_elements, is_rebound}, specs.declared.deck_kind.DeckKind.DeckKind, specs.declared.deck_kind.DeckKind.TheVariants.{Rel, Abs, Periph}, specs.declared.letter.Letter.Letter, proofs.NamesLaws.{all-front, all-behind, Alike, value_of-alike, OfPart, OfValue, value_of-of}, proofs.BoundLaws.{Stands, IsBound, all-bound}}
+use Rattle.std.{proofs.Common.{◌≡◌, ℕ, List, [], ◌∷◌, ◌++◌, Option, Some, None, refl, ap, ap₂, ◌∙◌}, specs.Prelude.{false, Result, Ok, Err, ◌*◌, pos, neg_ℤ, ◌+ℤ◌, ◌-ℤ◌, nat_le, ◌&&◌, map, flat_map, ok_or, if◌then◌else◌}, specs.List.AllByRecursion}
+use Rattle.definitions.{specs.CountedItems.CountedItem, specs.Expressions.{Element, ASymbol, Expression, elements_of}, specs.Forms.{Block, External, Part, Added, Subtracted, Form, is_absolute, element_form, value_of}, specs.Coding.{coded, coded_in, counted_item_in}, specs.PeripheralTable.{PeripheralForm, Ignored, Short, ShortJump, Shift, Wide, Long}, specs.Matching.{Field, NoField, OfK, OfN}, specs.Operations.Operation, specs.Operands.{Operand, CentralOperand, PeripheralOperand, WordsOperand, BitsOperand, NamesOperand, Datum, ZeroWord, NumberWord, CountedItemWords, ExpressionWord, BitField}, specs.Kinds.{word_bits, address_bits}, specs.Settled.{Settled, defined}, specs.Laws.Agreement.{unnumbered, lawful_names}, specs.StatementItems.{Item, Context, final_names, part_value, number_in, counted_item_value, known_if, form_item, value_item, whole_counted_item, counted_item_or_value, expression_item, small_value, count_of, short_item, is_short, known, shift_of, displacement_of, instruction_items, second_value, peripheral_items, datum_item, vfd_value, zeros_to_word, operand_items, items_of}, specs.Lengths.base_in, specs.Sizes.bits_of, specs.Letters.{name_fault, entry_letters, letters_of}, specs.Entries.entry_fault, specs.Laws.Rebound.{field_elements, datum_elements, value_elements, form_elements, coded_elements, is_rebound}, specs.declared.deck_kind.DeckKind.DeckKind, specs.declared.deck_kind.DeckKind.TheVariants.{Rel, Abs, Periph}, specs.declared.letter.Letter.Letter, proofs.NamesLaws.{all-front, all-behind, Alike, value_of-alike, OfPart, OfValue, value_of-of}, proofs.BoundLaws.{Stands, IsBound, all-bound}}
 use Rattle.definitions.specs.Operations as op
 use Rattle.definitions.specs.declared.letter.Letter.TheVariants as letter
 
@@ -176,7 +176,7 @@ operand_items-same kind old new settled operation (BitsOperand fields) h = ap (�
 operand_items-same kind old new settled operation operand h = refl
 
 -- the letters of a name that ENTRY reads
-name-same : (a b : Option Form) → symbol_form a ≡ symbol_form b → entry_fault a ≡ entry_fault b
+name-same : (a b : Option Form) → ok_or a letter.U ≡ ok_or b letter.U → entry_fault a ≡ entry_fault b
 name-same None None e = refl
 name-same (Some a) (Some b) e = let same : a ≡ b = cc in ap (λ form. entry_fault (Some form)) same
 name-same None (Some b) e = cc

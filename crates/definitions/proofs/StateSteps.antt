@@ -1,6 +1,6 @@
 -- The state behind one statement more is the step of its effect, and a statement sees the state.
-use Rattle.std.{proofs.Common.{◌≡◌, ℕ, Bool, true, false, ◌&&◌, ◌||◌, List, [], ◌∷◌, ◌++◌, Option, Some, None, refl, sym, ap, ap₂, ◌∙◌, subst, inl, inr}, specs.Prelude.{if◌then◌else◌, map, drop}, specs.List.AllByRecursion}
-use Rattle.definitions.{specs.Characters.same_text, specs.Statements.Statement, specs.Settled.{Settled, Counting, LocationSetting, Unchanged, Counts, Ended, BlockChange, NoChange, Opens, Closes, defined}, specs.Blocks.{changes, open_names, block_in_use, blocks_used, with_opened, is_named, nominal}, specs.Places.{Position, position_in}, specs.Counters.counting_in, specs.Settling.{Seen, seen_of, number_base_of, all_neutral, settled_all}, specs.Lengths.{BlockLength, length_of, lengths_of}, specs.Laws.States.{UsedBlock, BlockState, used_block, state_after, fresh_block, block_named, names_of_blocks, seen_from, Effect, effect_of, or_position, counting_behind, block_behind, blocks_behind, names_behind, advanced, length_behind, lengths_behind, lengths_advanced}, specs.declared.deck_kind.DeckKind.DeckKind, specs.declared.deck_kind.DeckKind.TheVariants.Rel, specs.declared.number_base.NumberBase.NumberBase, proofs.WordLaws.picked_cond, proofs.TextLaws.{same_text-refl, same_text-true, same_text_tells}}
+use Rattle.std.{proofs.Common.{◌≡◌, ℕ, Bool, true, false, ◌&&◌, ◌||◌, List, [], ◌∷◌, ◌++◌, Option, Some, None, refl, sym, ap, ap₂, ◌∙◌, subst, inl, inr}, specs.Prelude.{if◌then◌else◌, map, drop, unwrap_or}, specs.List.AllByRecursion}
+use Rattle.definitions.{specs.Characters.same_text, specs.Statements.Statement, specs.Settled.{Settled, Counting, LocationSetting, Unchanged, Counts, Ended, BlockChange, NoChange, Opens, Closes, defined}, specs.Blocks.{changes, open_names, block_in_use, blocks_used, with_opened, is_named, nominal}, specs.Places.{Position, position_in}, specs.Counters.counting_in, specs.Settling.{Seen, seen_of, number_base_of, all_neutral, settled_all}, specs.Lengths.{BlockLength, length_of, lengths_of}, specs.Laws.States.{UsedBlock, BlockState, used_block, state_after, fresh_block, block_named, names_of_blocks, seen_from, Effect, effect_of, counting_behind, block_behind, blocks_behind, names_behind, advanced, length_behind, lengths_behind, lengths_advanced}, specs.declared.deck_kind.DeckKind.DeckKind, specs.declared.deck_kind.DeckKind.TheVariants.Rel, specs.declared.number_base.NumberBase.NumberBase, proofs.WordLaws.picked_cond, proofs.TextLaws.{same_text-refl, same_text-true, same_text_tells}}
 
 -- a test that is true stays so when it is one of two
 either_true : (b c : Bool) → c ≡ true → (b || c) ≡ true
@@ -120,7 +120,7 @@ counting-step settled earlier name Ended e = rw e refl
 
 -- the position of a block, where a statement may have moved it
 position-step : (position : Position) (new : Position) (placed here : Bool) →
-    (if placed && here then new else position) ≡ (if here then or_position (if placed then Some new else None) position else position)
+    (if placed && here then new else position) ≡ (if here then unwrap_or (if placed then Some new else None) position else position)
 position-step position new true true = refl
 position-step position new true false = refl
 position-step position new false true = refl

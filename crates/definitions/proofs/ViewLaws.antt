@@ -1,6 +1,6 @@
 -- A statement rests on the early values of its own symbols and of those that its operand reads early, and on no others.
-use Rattle.std.{proofs.Common.{◌≡◌, ℕ, Bool, true, false, ◌||◌, List, [], ◌∷◌, ◌++◌, Option, Some, None, refl, ap, ap₂, ◌∙◌}, specs.Prelude.{if◌then◌else◌, is_some, flat_map}}
-use Rattle.definitions.{specs.Statements.{Statement, is_stray}, specs.Symbols.is_symbol, specs.Expressions.{Element, ANumber, ACountedItem, ASymbol, ARegister, LocationCounter, OriginCounter, ALiteral, Expression, elements_of}, specs.Forms.{Form, element_form, symbol_form, value_of}, specs.Operations.{Operation, is_labelled}, specs.Operands.{Operand, NamesOperand, ValueOperand}, specs.Settled.{ReadStatement, read_of, Settled, Definition, defined_in}, specs.Counters.Counters, specs.EarlyValues.{early_names, early_value, equated, outcome_of}, specs.Settling.{View, is_known, external, externals, external_letters, letter_where, location_letters, first_definition, Label, definitions_of, operand_letters, settled_letters, is_refused, Standing, standing_of, settled_with, settled_from}, specs.Laws.States.{BlockState, seen_from}, specs.Laws.Agreement.{symbols_of_element, symbols_in, own_symbols, operand_symbols, lawful_names, defines_location, early_symbols, Agree}, specs.declared.deck_kind.DeckKind.DeckKind, specs.declared.deck_kind.DeckKind.TheVariants.{Rel, Abs, Periph}, specs.declared.letter.Letter.Letter, proofs.NamesLaws.{all-front, all-behind, Alike, value_of-alike}}
+use Rattle.std.{proofs.Common.{◌≡◌, ℕ, Bool, true, false, ◌||◌, List, [], ◌∷◌, ◌++◌, Option, Some, None, refl, ap, ap₂, ◌∙◌}, specs.Prelude.{if◌then◌else◌, is_some, ok_or, flat_map}}
+use Rattle.definitions.{specs.Statements.{Statement, is_stray}, specs.Symbols.is_symbol, specs.Expressions.{Element, ANumber, ACountedItem, ASymbol, ARegister, LocationCounter, OriginCounter, ALiteral, Expression, elements_of}, specs.Forms.{Form, element_form, value_of}, specs.Operations.{Operation, is_labelled}, specs.Operands.{Operand, NamesOperand, ValueOperand}, specs.Settled.{ReadStatement, read_of, Settled, Definition, defined_in}, specs.Counters.Counters, specs.EarlyValues.{early_names, early_value, equated, outcome_of}, specs.Settling.{View, is_known, external, externals, external_letters, letter_where, location_letters, first_definition, Label, definitions_of, operand_letters, settled_letters, is_refused, Standing, standing_of, settled_with, settled_from}, specs.Laws.States.{BlockState, seen_from}, specs.Laws.Agreement.{symbols_of_element, symbols_in, own_symbols, operand_symbols, lawful_names, defines_location, early_symbols, Agree}, specs.declared.deck_kind.DeckKind.DeckKind, specs.declared.deck_kind.DeckKind.TheVariants.{Rel, Abs, Periph}, specs.declared.letter.Letter.Letter, proofs.NamesLaws.{all-front, all-behind, Alike, value_of-alike}}
 use Rattle.definitions.specs.Operations as op
 use Rattle.definitions.specs.declared.letter.Letter.TheVariants as letter
 
@@ -19,7 +19,7 @@ element_form-agree : (v w : View) (counters : Counters) (element : Element) → 
     element_form (early_names v counters) element ≡ element_form (early_names w counters) element
 element_form-agree v w counters (ANumber number) h = refl
 element_form-agree v w counters (ACountedItem item) h = refl
-element_form-agree v w counters (ASymbol name) h = ap symbol_form h.0
+element_form-agree v w counters (ASymbol name) h = ap (λ form. ok_or form letter.U) h.0
 element_form-agree v w counters (ARegister register) h = refl
 element_form-agree v w counters LocationCounter h = refl
 element_form-agree v w counters OriginCounter h = refl

@@ -1,6 +1,6 @@
 -- What is known of a deck by its statements' fields alone: END, the kind of the deck, and the number base
 -- (COMPASS 60492600, END, ABS, PERIPH, BASE).
-use Rattle.std.specs.{Prelude.{List, [], ◌∷◌, Option, Some, None, Bool, true, false, codes, map, reverse, if◌then◌else◌}, List.list_any}
+use Rattle.std.specs.{Prelude.{List, [], ◌∷◌, Option, Some, None, Bool, true, false, codes, map, reverse, unwrap_or, if◌then◌else◌}, List.list_any}
 use Rattle.definitions.specs.{Characters.same_text, Statements.Statement, Fields.{Fields, fields_of}, Operations.{Operation, Kind, pseudo_instructions, pseudo_among, is_neutral}, declared.deck_kind.DeckKind.DeckKind, declared.deck_kind.DeckKind.TheVariants.Rel, declared.number_base.NumberBase.NumberBase, declared.number_base.NumberBase.TheVariants.{Decimal, Octal}}
 
 -- whether a statement is END
@@ -44,12 +44,7 @@ number_base_set fields =
     then (if same_text fields.variable (codes "O") then Some Octal else if same_text fields.variable (codes "D") then Some Decimal else None)
     else None
 
--- the base that is set here, or else the one before
-abbrev pub or_number_base : Option NumberBase → NumberBase → NumberBase
-or_number_base None base = base
-or_number_base (Some base) other = base
-
 -- the number base behind statements, newest first
 abbrev pub number_base_after : List Fields → NumberBase
 number_base_after [] = Decimal
-number_base_after (fields ∷ earlier) = or_number_base (number_base_set fields) (number_base_after earlier)
+number_base_after (fields ∷ earlier) = unwrap_or (number_base_set fields) (number_base_after earlier)

@@ -1,7 +1,7 @@
 -- BSS, BSSZ, ORG, LOC and EQU: their value as the earlier statements give it, or their letter
 -- (COMPASS 60492600, BSS, ORG, LOC, EQU; the order of the letters is ours).
 use Rattle.std.specs.Prelude.{ℕ, ◌+◌, ◌*◌, List, [], ◌∷◌, Option, Some, None, Result, Ok, Err, Bool, true, false, ◌&&◌, nat_le, nat_lt, ℤ, pos, negsuc, if◌then◌else◌}
-use Rattle.definitions.specs.{Characters.same_text, Kinds.{units, most_words, is_absolute_deck}, Symbols.is_nominal, Forms.{Form, Names, Part, Added, Block, absolute, is_absolute, value_of}, Operands.{Operand, ValueOperand}, Operations.Operation, Sizes.size_of, Counters.Counters, Settled.{LocationSetting, Unchanged, Counts, Ended}, declared.deck_kind.DeckKind.DeckKind, declared.letter.Letter.Letter}
+use Rattle.definitions.specs.{Characters.same_text, Kinds.{units, most_words, is_absolute_deck}, Symbols.is_nominal, Forms.{Form, Names, Part, Added, Block, absolute, is_absolute, and_then, value_of}, Operands.{Operand, ValueOperand}, Operations.Operation, Sizes.size_of, Counters.Counters, Settled.{LocationSetting, Unchanged, Counts, Ended}, declared.deck_kind.DeckKind.DeckKind, declared.letter.Letter.Letter}
 use Rattle.definitions.specs.Operations as op
 use Rattle.definitions.specs.declared.letter.Letter.TheVariants as letter
 
@@ -21,13 +21,11 @@ in_words most (negsuc n) = Err letter.A
 
 -- a reservation that would end past the block is out of range
 abbrev pub that_ends : DeckKind → ℕ → Result ℕ Letter → Result ℕ Letter
-that_ends kind place (Err fault) = Err fault
-that_ends kind place (Ok n) = if nat_le (place + n * units kind) (most_words kind * units kind) then Ok n else Err letter.A
+that_ends kind place words = and_then words (λ n. if nat_le (place + n * units kind) (most_words kind * units kind) then Ok n else Err letter.A)
 
 -- how many words BSS and BSSZ reserve
 abbrev pub reserved : DeckKind → ℕ → Result Form Letter → Result ℕ Letter
-reserved kind place (Err fault) = Err fault
-reserved kind place (Ok form) = if is_absolute form then that_ends kind place (in_words (most_words kind) form.number) else Err letter.R
+reserved kind place value = and_then value (λ form. if is_absolute form then that_ends kind place (in_words (most_words kind) form.number) else Err letter.R)
 
 -- whether a value lies in this block, with sign plus
 abbrev pub is_in_block : List ℕ → Option Part → Bool
@@ -40,8 +38,7 @@ is_origin_form kind block form = if is_absolute_deck kind && is_nominal block th
 
 -- the word that ORG goes to, or its letter
 abbrev pub origin_word : DeckKind → List ℕ → Result Form Letter → Result ℕ Letter
-origin_word kind block (Err fault) = Err fault
-origin_word kind block (Ok form) = if is_origin_form kind block form then in_words (most_words kind) form.number else Err letter.R
+origin_word kind block value = and_then value (λ form. if is_origin_form kind block form then in_words (most_words kind) form.number else Err letter.R)
 
 -- LOC wants a number, or a block that is added
 abbrev pub is_location_part : Option Part → Bool
@@ -49,15 +46,10 @@ is_location_part None = true
 is_location_part (Some (Added (Block name))) = true
 is_location_part _ = false
 
--- a form whose number is in range, or the letter of one that is not
-abbrev pub with_range : Form → Result ℕ Letter → Result Form Letter
-with_range form (Err fault) = Err fault
-with_range form (Ok n) = Ok form
-
 -- the value that LOC gives to `*`, or its letter
 abbrev pub location_value : DeckKind → Result Form Letter → Result Form Letter
-location_value kind (Err fault) = Err fault
-location_value kind (Ok form) = if is_location_part form.part then with_range form (in_words (most_words kind) form.number) else Err letter.R
+location_value kind value =
+    and_then value (λ form. if is_location_part form.part then and_then (in_words (most_words kind) form.number) (λ n. Ok form) else Err letter.R)
 
 -- the letter of what is faulty, and none of what is not
 abbrev pub letter_of : {A : Type 0} → Result A Letter → List Letter

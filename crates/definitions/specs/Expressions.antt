@@ -1,5 +1,5 @@
 -- Expressions: the tree, and how the pieces of a subfield are read (COMPASS 60492600, address expressions).
-use Rattle.std.specs.{Prelude.{ℕ, zero, suc, List, [], ◌∷◌, Option, Some, None, Bool, true, false, ◌&&◌, nat_le, codes, map, flat_map, if◌then◌else◌}, List.list_all}
+use Rattle.std.specs.{Prelude.{ℕ, zero, suc, List, [], ◌∷◌, Option, Some, None, Bool, true, false, ◌&&◌, nat_le, codes, map, flat_map, option_map, if◌then◌else◌}, List.list_all}
 use Rattle.definitions.specs.{Characters.same_text, CountedItems.{CountedItem, bits_needed}, Pieces.{Mark, Plus, Minus, Star, Slash, Equals, Piece, IsMark, IsCountedItem, Plain}, Symbols.{Register, register_of, is_symbol, Number, number_read}, declared.number_base.NumberBase.NumberBase}
 
 -- no sign, plus or minus
@@ -46,14 +46,9 @@ pub record Expression : Type 0 where
   pub sign : Sign
   pub terms : List Term
 
--- a number as an element, if there is one
-abbrev pub element_of_number : Option Number → Option Element
-element_of_number None = None
-element_of_number (Some number) = Some (ANumber number)
-
 -- the register that was found, else a symbol, else a number, if the run spells one
 abbrev pub element_of_name : NumberBase → List ℕ → Option Register → Option Element
-element_of_name base text None = if is_symbol text then Some (ASymbol text) else element_of_number (number_read base text)
+element_of_name base text None = if is_symbol text then Some (ASymbol text) else option_map ANumber (number_read base text)
 element_of_name base text (Some register) = Some (ARegister register)
 
 -- the element that a run of characters spells, if it spells one
@@ -68,8 +63,7 @@ counter_of text =
 
 -- the literal of a number and its sign, if there is a number
 abbrev pub literal_of : Sign → Option Number → Option Element
-literal_of sign None = None
-literal_of sign (Some number) = Some (ALiteral (OfNumber sign number))
+literal_of sign number = option_map (λ n. ALiteral (OfNumber sign n)) number
 
 -- an element, if it is lawful, and how many of the pieces it takes
 pub record ElementSpan : Type 0 where
@@ -141,8 +135,7 @@ grouped (pair ∷ pairs) = onto_grouped pair pair.operator (grouped pairs)
 
 -- the expression of a leading sign and the elements behind it, if they are lawful
 abbrev pub with_sign : Sign → Option (List OperatorElement) → Option Expression
-with_sign sign None = None
-with_sign sign (Some pairs) = Some (record { sign = sign; terms = (grouped pairs).terms })
+with_sign sign pairs = option_map (λ ps. record { sign = sign; terms = (grouped ps).terms }) pairs
 
 -- the expression that the pieces of a subfield spell, if they spell one; without a sign it is read as behind a plus
 abbrev pub expression_of : NumberBase → List Piece → Option Expression

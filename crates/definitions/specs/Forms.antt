@@ -1,6 +1,6 @@
 -- Forms: the value of an expression is a number and at most one block or external with a sign
 -- (COMPASS 60492600, evaluation of expressions; the range is ours).
-use Rattle.std.specs.Prelude.{ℕ, ◌*◌, ◌+◌, ◌==◌, List, [], ◌∷◌, Option, Some, None, Result, Ok, Err, Bool, true, false, ◌&&◌, nat_le, length, fold, unwrap_or, ℤ, pos, negsuc, ◌+ℤ◌, ◌*ℤ◌, neg_ℤ, unsigned_abs, int_div, if◌then◌else◌}
+use Rattle.std.specs.Prelude.{ℕ, ◌*◌, ◌+◌, ◌==◌, List, [], ◌∷◌, Option, Some, None, Result, Ok, Err, Bool, true, false, ◌&&◌, nat_le, length, fold, unwrap_or, ok_or, ℤ, pos, negsuc, ◌+ℤ◌, ◌*ℤ◌, neg_ℤ, unsigned_abs, int_div, if◌then◌else◌}
 use Rattle.definitions.specs.{Characters.{display_code_of, same_text}, CountedItems.CountedItem, Symbols.{Number, Value, TooGreat, greatest}, Expressions.{Literal, Element, ANumber, ACountedItem, ASymbol, ARegister, LocationCounter, OriginCounter, ALiteral, Operator, Divide, Subtract, OperatorElement, Term, Expression}, declared.letter.Letter.Letter}
 use Rattle.definitions.specs.declared.letter.Letter.TheVariants as letter
 
@@ -97,16 +97,11 @@ abbrev pub number_form : Number → Result Form Letter
 number_form (Value n) = Ok (absolute (pos n))
 number_form TooGreat = Err letter.A
 
--- the value of a symbol, or U where it has no definition that is seen
-abbrev pub symbol_form : Option Form → Result Form Letter
-symbol_form None = Err letter.U
-symbol_form (Some form) = Ok form
-
--- the value of an element, or its letter
+-- the value of an element, or its letter: U of a symbol that has no definition that is seen
 abbrev pub element_form : Names → Element → Result Form Letter
 element_form names (ANumber number) = number_form number
 element_form names (ACountedItem item) = counted_item_form item
-element_form names (ASymbol name) = symbol_form (names.symbol name)
+element_form names (ASymbol name) = ok_or (names.symbol name) letter.U
 element_form names (ARegister register) = Err letter.V
 element_form names LocationCounter = Ok names.location
 element_form names OriginCounter = Ok names.origin

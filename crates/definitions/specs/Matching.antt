@@ -1,5 +1,5 @@
 -- How an operation and its operand are matched with the rows of the central table.
-use Rattle.std.specs.{Prelude.{ℕ, ◌+◌, ◌-◌, ◌*◌, ◌==◌, List, [], ◌∷◌, ◌++◌, Option, Some, None, Bool, true, false, ◌&&◌, nat_le, codes, length, filter, map, if◌then◌else◌}, List.slice_split}
+use Rattle.std.specs.{Prelude.{ℕ, ◌+◌, ◌-◌, ◌*◌, ◌==◌, List, [], ◌∷◌, ◌++◌, Option, Some, None, Bool, true, ◌&&◌, nat_le, codes, length, filter, map, is_some, option_map, option_and_then, if◌then◌else◌}, List.slice_split}
 use Rattle.definitions.specs.{Characters.{same_text, is_among, comma, zero_digit}, Pieces.{Mark, Comma, Plus, Minus, Star, Slash, Equals, Piece, IsMark, IsCountedItem, Plain}, Expressions.{Expression, Sign, PlusSign, Term, Operator, Subtract, Element, ARegister, OperatorElement, expression_of, is_plain}, CentralTable.{Row, SumRow, central_rows, ignoring_rows, sum_rows}, declared.number_base.NumberBase.NumberBase}
 
 -- the digits of i, j and k
@@ -49,7 +49,7 @@ matched _ _ ijk = None
 
 -- whether an operation is that of a pattern, as BX6 is BXi
 abbrev pub is_operation : List ℕ → List ℕ → Bool
-is_operation pattern operation = elim (matched pattern operation no_ijk) [ Some ijk ↦ true | None ↦ false ]
+is_operation pattern operation = is_some (matched pattern operation no_ijk)
 
 -- what a field of an instruction is made of
 pub data Field : Type 0 where
@@ -86,13 +86,11 @@ plain_text (IsCountedItem item ∷ pieces) = codes " "
 
 -- the field K or n of an expression without registers, if there is one
 abbrev pub plain_field : (Expression → Field) → RegisterDigits → Option Expression → Option Match
-plain_field field ijk None = None
-plain_field field ijk (Some e) = if is_plain true e then Some (record { ijk = ijk; field = field e }) else None
+plain_field field ijk found = option_and_then (λ e. if is_plain true e then Some (record { ijk = ijk; field = field e }) else None) found
 
 -- the field beside digits that are found
 abbrev pub with_field : Field → Option RegisterDigits → Option Match
-with_field field None = None
-with_field field (Some ijk) = Some (record { ijk = ijk; field = field })
+with_field field digits = option_map (λ ijk. record { ijk = ijk; field = field }) digits
 
 -- one subfield with its pattern
 abbrev pub subfield_matched : NumberBase → List ℕ → List Piece → Match → Option Match
@@ -129,16 +127,6 @@ instruction_of code found =
     let digits = code_digits found.ijk code in
     record { digits = octal_number 0 digits; count = length digits; field = found.field }
 
--- the digits of the operation, before any operand is matched
-abbrev pub with_registers : Option RegisterDigits → Option Match
-with_registers None = None
-with_registers (Some ijk) = Some (record { ijk = ijk; field = NoField })
-
--- the instruction of a code, where an operand was matched
-abbrev pub matched_instruction : List ℕ → Option Match → Option Instruction
-matched_instruction code None = None
-matched_instruction code (Some found) = Some (instruction_of code found)
-
 -- the instruction of a row whose operand is ignored
 abbrev pub ignoring_fit : Row → Option Instruction
 ignoring_fit row = Some (instruction_of row.code (record { ijk = no_ijk; field = NoField }))
@@ -146,7 +134,7 @@ ignoring_fit row = Some (instruction_of row.code (record { ijk = no_ijk; field =
 -- the instruction of an operation and its subfields by a row, where they fit it
 abbrev pub row_fit : NumberBase → List ℕ → List (List Piece) → Row → Option Instruction
 row_fit base operation subfields row =
-    matched_instruction row.code (subfields_matched base (slice_split (λ c. c == comma) row.operand) subfields (with_registers (matched row.operation operation no_ijk)))
+    option_map (instruction_of row.code) (subfields_matched base (slice_split (λ c. c == comma) row.operand) subfields (with_field NoField (matched row.operation operation no_ijk)))
 
 -- a sum taken apart: the text of the terms that are one register, and the others; beside a register a sign counts as written
 pub record Sum : Type 0 where
@@ -191,25 +179,18 @@ is_plain_field _ = true
 
 -- the code of a row for a sum with these digits, where it has one with or without K as needed, and K has no register
 abbrev pub sum_instruction : List ℕ → Sum → Option RegisterDigits → Option Instruction
-sum_instruction code sum None = None
-sum_instruction code sum (Some ijk) =
+sum_instruction code sum digits =
     let field = sum_field sum.sign sum.others in
-    if is_plain_field field && nat_le 1 (length code) then Some (instruction_of code (record { ijk = ijk; field = field })) else None
-
--- the digits of the operation, and those of the registers of its sum
-abbrev pub registers_matched : SumRow → Sum → Option RegisterDigits → Option RegisterDigits
-registers_matched row sum None = None
-registers_matched row sum (Some ijk) = matched row.registers sum.registers ijk
+    option_and_then (λ ijk. if is_plain_field field && nat_le 1 (length code) then Some (instruction_of code (record { ijk = ijk; field = field })) else None) digits
 
 -- the instruction of an operation and a sum by a row, where they fit it; what is no sum fits none
 abbrev pub sum_fit : List ℕ → Option Sum → SumRow → Option Instruction
-sum_fit operation None row = None
-sum_fit operation (Some sum) row = sum_instruction (sum_code row sum.others) sum (registers_matched row sum (matched row.operation operation no_ijk))
+sum_fit operation sum row =
+    option_and_then (λ (s : Sum). sum_instruction (sum_code row s.others) s (option_and_then (matched row.registers s.registers) (matched row.operation operation no_ijk))) sum
 
 -- an expression taken apart, if there is one
 abbrev pub sum_read : Option Expression → Option Sum
-sum_read None = None
-sum_read (Some e) = Some (sum_of e.terms (record { sign = e.sign; registers = []; others = [] }))
+sum_read read = option_map (λ (e : Expression). sum_of e.terms (record { sign = e.sign; registers = []; others = [] })) read
 
 -- the operand of a sum is one subfield
 abbrev pub single : NumberBase → List (List Piece) → Option Expression

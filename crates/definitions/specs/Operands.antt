@@ -1,5 +1,5 @@
 -- Operands: what a variable field is to its operation, before any name is known.
-use Rattle.std.specs.Prelude.{ℕ, ◌+◌, ◌-◌, ◌*◌, ◌/◌, ◌==◌, List, [], ◌∷◌, ◌++◌, Option, Some, None, Bool, false, not, ◌&&◌, nat_le, codes, map, length, drop, take, take_while, replicate, if◌then◌else◌}
+use Rattle.std.specs.Prelude.{ℕ, ◌+◌, ◌-◌, ◌*◌, ◌/◌, ◌==◌, List, [], ◌∷◌, ◌++◌, Option, Some, None, Bool, false, not, ◌&&◌, nat_le, codes, map, length, drop, take, take_while, replicate, option_map, option_and_then, if◌then◌else◌}
 use Rattle.definitions.specs.{Characters.{is_among, same_text, blank, slash, comma}, CountedItems.CountedItem, Pieces.{Plus, Minus, Slash, Piece, IsMark, IsCountedItem, Plain, pieces_of, subfields_of}, Kinds.{word_bits, allows_literals}, Symbols.{Number, Value, number_read, is_block_name, is_linked_name}, Expressions.{Sign, NoSign, PlusSign, MinusSign, Expression, expression_of, is_plain}, PeripheralTable.{PeripheralForm, Ignored, Long, PeripheralRow, peripheral_row}, Matching.{Instruction, central_of}, Operations.Operation, declared.deck_kind.DeckKind.DeckKind, declared.deck_kind.DeckKind.TheVariants.{Rel, Periph}, declared.number_base.NumberBase.NumberBase}
 use Rattle.definitions.specs.Operations as op
 
@@ -38,8 +38,7 @@ pub data Operand : Type 0 where
 
 -- an expression that is there, without registers, and without literals where they are not allowed
 abbrev pub plain_expression : Bool → Option Expression → Option Expression
-plain_expression literals None = None
-plain_expression literals (Some e) = if is_plain literals e then Some e else None
+plain_expression literals found = option_and_then (λ e. if is_plain literals e then Some e else None) found
 
 -- an expression without registers
 abbrev pub plain_of : Bool → NumberBase → List Piece → Option Expression
@@ -47,33 +46,21 @@ plain_of literals base pieces = plain_expression literals (expression_of base pi
 
 -- all that is there, or nothing where one of them is not
 abbrev pub onto_all : {A : Type 0} → Option A → Option (List A) → Option (List A)
-onto_all None rest = None
-onto_all (Some x) None = None
-onto_all (Some x) (Some xs) = Some (x ∷ xs)
-
--- a number with its sign as a word of DATA, if there is one
-abbrev pub number_word : Sign → Option Number → Option Datum
-number_word sign None = None
-number_word sign (Some number) = Some (NumberWord sign number)
+onto_all first rest = option_and_then (λ x. option_map (λ xs. x ∷ xs) rest) first
 
 -- a subfield of DATA: nothing, a number with or without a sign, or an item
 abbrev pub data_word : NumberBase → List Piece → Option Datum
 data_word base [] = Some ZeroWord
-data_word base (Plain text ∷ []) = number_word NoSign (number_read base text)
-data_word base (IsMark Plus ∷ Plain text ∷ []) = number_word PlusSign (number_read base text)
-data_word base (IsMark Minus ∷ Plain text ∷ []) = number_word MinusSign (number_read base text)
+data_word base (Plain text ∷ []) = option_map (NumberWord NoSign) (number_read base text)
+data_word base (IsMark Plus ∷ Plain text ∷ []) = option_map (NumberWord PlusSign) (number_read base text)
+data_word base (IsMark Minus ∷ Plain text ∷ []) = option_map (NumberWord MinusSign) (number_read base text)
 data_word base (IsCountedItem item ∷ []) = Some (CountedItemWords item)
 data_word base _ = None
-
--- an expression as a word of CON, if there is one
-abbrev pub expression_word : Option Expression → Option Datum
-expression_word None = None
-expression_word (Some e) = Some (ExpressionWord e)
 
 -- a subfield of CON: nothing, or an expression
 abbrev pub con_word : Bool → NumberBase → List Piece → Option Datum
 con_word literals base [] = Some ZeroWord
-con_word literals base (piece ∷ pieces) = expression_word (plain_of literals base (piece ∷ pieces))
+con_word literals base (piece ∷ pieces) = option_map ExpressionWord (plain_of literals base (piece ∷ pieces))
 
 -- what fills the words of all subfields, if each is lawful
 abbrev pub all_words : (List Piece → Option Datum) → List (List Piece) → Option (List Datum)
@@ -95,15 +82,10 @@ abbrev pub bit_field : Option ℕ → Option (Option Expression) → Option BitF
 bit_field (Some width) (Some value) = Some (record { width = width; value = value })
 bit_field _ _ = None
 
--- an expression that is written, if it is lawful
-abbrev pub given_expression : Option Expression → Option (Option Expression)
-given_expression None = None
-given_expression (Some e) = Some (Some e)
-
 -- `n/e`, where e may be missing
 abbrev pub vfd_field : Bool → NumberBase → List Piece → Option BitField
 vfd_field literals base (Plain width ∷ IsMark Slash ∷ []) = bit_field (count_read 60 (number_read base width)) (Some None)
-vfd_field literals base (Plain width ∷ IsMark Slash ∷ pieces) = bit_field (count_read 60 (number_read base width)) (given_expression (plain_of literals base pieces))
+vfd_field literals base (Plain width ∷ IsMark Slash ∷ pieces) = bit_field (count_read 60 (number_read base width)) (option_map Some (plain_of literals base pieces))
 vfd_field literals base _ = None
 
 -- the fields of all subfields, if each is lawful

@@ -1,5 +1,5 @@
 -- Operations, the kind of a deck and the number base (COMPASS 60492600, pseudo-instructions).
-use Rattle.std.specs.{Prelude.{ℕ, List, [], ◌∷◌, Option, Some, None, Bool, true, false, ◌||◌, codes, if◌then◌else◌}, List.list_any}
+use Rattle.std.specs.{Prelude.{ℕ, List, [], ◌∷◌, Option, Some, None, Bool, true, false, ◌||◌, codes, is_some, if◌then◌else◌}, List.list_any}
 use Rattle.definitions.specs.{Characters.same_text, CentralTable.{Row, SumRow, central_rows, ignoring_rows, sum_rows}, PeripheralTable.peripheral_row, Matching.is_operation, declared.deck_kind.DeckKind.DeckKind, declared.deck_kind.DeckKind.TheVariants.{Abs, Periph}}
 
 -- the operations that the language distinguishes
@@ -44,7 +44,7 @@ is_central operation =
 
 -- whether the peripheral table has an operation
 abbrev pub is_peripheral : List ℕ → Bool
-is_peripheral operation = elim (peripheral_row operation) [ Some row ↦ true | None ↦ false ]
+is_peripheral operation = is_some (peripheral_row operation)
 
 -- whether an operation is an instruction in a deck of this kind
 abbrev pub is_instruction_name : DeckKind → List ℕ → Bool

@@ -1,5 +1,5 @@
 -- Symbols, register names and numbers as runs of characters (COMPASS 60492600, names, registers, numeric constants).
-use Rattle.std.specs.{Prelude.{ℕ, ◌+◌, ◌-◌, ◌*◌, ◌^◌, ◌==◌, List, [], ◌∷◌, Option, Some, None, Bool, true, false, not, ◌&&◌, ◌||◌, nat_le, nat_lt, length, drop, codes, take_while, if◌then◌else◌}, List.list_all}
+use Rattle.std.specs.{Prelude.{ℕ, ◌+◌, ◌-◌, ◌*◌, ◌^◌, ◌==◌, List, [], ◌∷◌, Option, Some, None, Bool, false, not, ◌&&◌, ◌||◌, nat_le, nat_lt, length, drop, codes, take_while, is_some, option_map, option_and_then, if◌then◌else◌}, List.list_all}
 use Rattle.definitions.specs.{Characters.{is_digit, is_symbol_character, is_among, same_text, zero_digit}, Numerals.number_of, declared.number_base.NumberBase.NumberBase, declared.number_base.NumberBase.TheVariants.{Decimal, Octal}}
 
 -- a register: A, B or X, and its digit
@@ -16,7 +16,7 @@ register_of _ = None
 
 -- whether a text is the name of a register
 abbrev pub is_register : List ℕ → Bool
-is_register text = elim (register_of text) [ Some r ↦ true | None ↦ false ]
+is_register text = is_some (register_of text)
 
 -- the first character is no digit, no `$` and no `=`
 abbrev pub begins_symbol : List ℕ → Bool
@@ -67,23 +67,17 @@ scale_of [] = Some 0
 scale_of (s ∷ digits) =
     if (s == scale_letter) && nat_le 1 (length digits) && nat_le (length digits) 2 && list_all is_digit digits then Some (number_of 10 digits) else None
 
--- the number with its scale, if that is lawful
-abbrev pub scaled_by : NumberBase → List ℕ → Option ℕ → Option ℕ
-scaled_by base digits None = None
-scaled_by base digits (Some scale) = scaled base digits scale
-
 -- digits, and what stands behind them: a suffix B, O or D, and a scale
 abbrev pub behind_digits : NumberBase → List ℕ → List ℕ → Option ℕ
-behind_digits base digits [] = scaled_by base digits (Some 0)
+behind_digits base digits [] = scaled base digits 0
 behind_digits base digits (c ∷ rest) =
-    if is_among c (codes "BO") then scaled_by Octal digits (scale_of rest)
-    else if c == decimal_suffix then scaled_by Decimal digits (scale_of rest)
-    else scaled_by base digits (scale_of (c ∷ rest))
+    if is_among c (codes "BO") then option_and_then (scaled Octal digits) (scale_of rest)
+    else if c == decimal_suffix then option_and_then (scaled Decimal digits) (scale_of rest)
+    else option_and_then (scaled base digits) (scale_of (c ∷ rest))
 
 -- a number up to the greatest, or the mark of one above it
 abbrev pub bounded : Option ℕ → Option Number
-bounded None = None
-bounded (Some value) = Some (if nat_le value greatest then Value value else TooGreat)
+bounded value = option_map (λ n. if nat_le n greatest then Value n else TooGreat) value
 
 -- the number that a run of characters spells, if it spells one
 abbrev pub number_read : NumberBase → List ℕ → Option Number

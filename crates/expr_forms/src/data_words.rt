@@ -2,7 +2,7 @@
 ghost use Rattle.std.specs.Prelude.{◌≡◌, ◌≤◌, ◌<◌, ◌∷◌, [], length, option_map, is_some, Some, None, IfSome, IfNone, MatchResult};
 ghost use Rattle.definitions.specs.Pieces.{Inside, ByMark, IsMark, IsCountedItem, Plain, spot_behind, pieces_at, pieces_of, subfields_of};
 ghost use Rattle.definitions.specs.Symbols.{number_read};
-ghost use Rattle.definitions.specs.Operands.{CountedItemWords, number_word, data_word, all_words, onto_all};
+ghost use Rattle.definitions.specs.Operands.{NumberWord, CountedItemWords, data_word, all_words, onto_all};
 ghost use Rattle.definitions.specs.declared.letter.Letter.TheVariants as letter;
 ghost use Rattle.expr_forms.specs.Joins.Elements.{sign_as};
 ghost use Rattle.expr_forms.specs.Joins.Numbers.{AreDigits};
@@ -39,7 +39,7 @@ fn lone_number<'a>(
     run: &'a [u8],
     behind: &'a [u8],
 ) -> Option<Datum<'a>>
-    ensures { option_map datum_as result ≡ alone (number_word (sign_as sign) (number_read base run.now)) (pieces_at Inside 0 behind.now) }
+    ensures { option_map datum_as result ≡ alone (option_map (NumberWord (sign_as sign)) (number_read base run.now)) (pieces_at Inside 0 behind.now) }
 {
     match behind.split_first() {
         Some(_) => None,

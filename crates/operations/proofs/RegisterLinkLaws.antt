@@ -1,6 +1,6 @@
 -- The pieces of a subfield fit a pattern of registers where the elements that they spell do.
-use Rattle.std.proofs.{Common.{◌≡◌, ℕ, ◌-◌, Bool, true, false, not, cond, ◌&&◌, List, [], ◌∷◌, Option, Some, None, eqb, leb, codes, refl, sym, ap, ◌∙◌, inl, inr}, lemmas.Bool.and_parts, lemmas.Bool.Decides.eqb_tells}
-use Rattle.definitions.{specs.Characters.{is_among, same_text}, specs.CountedItems.CountedItem, specs.Pieces.{Mark, Comma, Plus, Minus, Star, Slash, Equals, Piece, IsMark, IsCountedItem, Plain}, specs.Symbols.{Register, register_of, is_symbol, Number, number_read}, specs.Expressions.{Sign, NoSign, PlusSign, MinusSign, OfCountedItem, Element, ANumber, ACountedItem, ASymbol, ARegister, LocationCounter, OriginCounter, ALiteral, Operator, Times, Divide, Add, Subtract, OperatorElement, onto_pairs, pairs_of, element_of_number, element_of_name, element_of_text, counter_of, literal_of}, specs.Matching.{RegisterDigits, is_ijk, with_ijk, is_octal_digit, matched, plain_text}, specs.declared.number_base.NumberBase.NumberBase, proofs.GrammarLaws.pairs_from}
+use Rattle.std.{proofs.Common.{◌≡◌, ℕ, ◌-◌, Bool, true, false, not, cond, ◌&&◌, List, [], ◌∷◌, Option, Some, None, eqb, leb, codes, refl, sym, ap, ◌∙◌, inl, inr}, specs.Prelude.option_map, proofs.lemmas.Bool.and_parts, proofs.lemmas.Bool.Decides.eqb_tells}
+use Rattle.definitions.{specs.Characters.{is_among, same_text}, specs.CountedItems.CountedItem, specs.Pieces.{Mark, Comma, Plus, Minus, Star, Slash, Equals, Piece, IsMark, IsCountedItem, Plain}, specs.Symbols.{Register, register_of, is_symbol, Number, number_read}, specs.Expressions.{Sign, NoSign, PlusSign, MinusSign, OfCountedItem, Element, ANumber, ACountedItem, ASymbol, ARegister, LocationCounter, OriginCounter, ALiteral, Operator, Times, Divide, Add, Subtract, OperatorElement, onto_pairs, pairs_of, element_of_name, element_of_text, counter_of, literal_of}, specs.Matching.{RegisterDigits, is_ijk, with_ijk, is_octal_digit, matched, plain_text}, specs.declared.number_base.NumberBase.NumberBase, proofs.GrammarLaws.pairs_from}
 use Rattle.operations.{specs.Joins.RegisterPieces.{pieces_fit, is_of_run, begins_with_run, is_run, is_sum_of_registers, are_of_field, is_letter_of, is_operator, is_behind_register}, specs.Joins.RegisterLinks.{operator_character, register_digit, with_digit, links_fit, read_links_fit}, proofs.OperationLaws.is_not, proofs.RegisterPieceLaws.{IsLetter, letter_of, letter_no_mark, cond_same, registers_fit, pattern_fits}}
 
 -- an element that is there and is a register
@@ -39,11 +39,11 @@ register_fits o m p q ps ijk r (Some links) same =
     ∙ digit_of_letter (eqb p r.letter) r.digit (λ digit. links_fit ps links (with_ijk q digit ijk))
 
 -- a name that is no register is no register element
-number_no_register : (n : Option Number) → is_register_element (element_of_number n) ≡ false
+number_no_register : (n : Option Number) → is_register_element (option_map ANumber n) ≡ false
 number_no_register None = refl
 number_no_register (Some number) = refl
 
-symbol_or_number : (b : Bool) (text : List ℕ) (n : Option Number) → is_register_element (cond b (Some (ASymbol text)) (element_of_number n)) ≡ false
+symbol_or_number : (b : Bool) (text : List ℕ) (n : Option Number) → is_register_element (cond b (Some (ASymbol text)) (option_map ANumber n)) ≡ false
 symbol_or_number true text n = refl
 symbol_or_number false text n = number_no_register n
 

@@ -1,6 +1,6 @@
 -- The rows of an operation give what the definitions' rows give.
-use Rattle.std.{proofs.Common.{◌≡◌, ℕ, Bool, true, false, not, cond, ◌&&◌, List, [], ◌∷◌, ◌++◌, Option, Some, None, map, filter, eqb, refl, sym, ap, ◌∙◌}, specs.Prelude.nat_lt, specs.List.{list_all, slice_split}, proofs.lemmas.Bool.{and_parts, eqb-true}}
-use Rattle.definitions.specs.{Pieces.Piece, CentralTable.SumRow, Matching.{RegisterDigits, no_ijk, is_ijk, is_octal_digit, matched, is_operation, Instruction, Sum, matched_instruction, subfields_matched, with_registers, sum_code, sum_instruction, registers_matched, ignoring_fit, row_fit, sum_fit, rows_for, sum_rows_for, first_fit}, declared.number_base.NumberBase.NumberBase}
+use Rattle.std.{proofs.Common.{◌≡◌, ℕ, Bool, true, false, not, cond, ◌&&◌, List, [], ◌∷◌, ◌++◌, Option, Some, None, map, filter, eqb, refl, sym, ap, ◌∙◌}, specs.Prelude.{nat_lt, option_map, option_and_then}, specs.List.{list_all, slice_split}, proofs.lemmas.Bool.{and_parts, eqb-true}}
+use Rattle.definitions.specs.{Pieces.Piece, CentralTable.SumRow, Matching.{RegisterDigits, no_ijk, is_ijk, is_octal_digit, matched, is_operation, NoField, Instruction, instruction_of, Sum, subfields_matched, with_field, sum_code, sum_instruction, ignoring_fit, row_fit, sum_fit, rows_for, sum_rows_for, first_fit}, declared.number_base.NumberBase.NumberBase}
 use Rattle.definitions.specs.CentralTable as table
 use Rattle.operations.{specs.declared.row.Row.Row, specs.declared.central.code.Code.Code, specs.declared.central.code.OperandForm.OperandForm, specs.declared.central.code.SumForm.SumForm, specs.Joins.CentralTables.{operand_row, code_row, sum_row, padded_row, padded_sum_row, ignoring_rows_of, operand_rows_of, sum_rows_of}, specs.Joins.Fits.{named_digits, row_fit_with, sum_fit_with}, proofs.OperationLaws.{is_shaped, is_found, is_operation-found, no_more, matched-letter, is_not, operation-none, operation-short}}
 
@@ -97,7 +97,7 @@ central-fits base operation subfields rows ijk named same =
     ap (λ n. map (λ (row : Row OperandForm). row_fit_with base n subfields (operand_row row)) rows) named
     ∙ rows_agree (λ (row : table.Row). row.operation) padded_row (row_fit_with base (named_digits operation) subfields) (row_fit base operation subfields) operand_row table.central_rows rows operation
     same (λ row. refl)
-    (λ row shaped is. ap (λ n. matched_instruction row.code (subfields_matched base (slice_split (λ c. eqb c 44) row.operand) subfields (with_registers n))) (sym (matched-named row.operation operation shaped is)))
+    (λ row shaped is. ap (λ n. option_map (instruction_of row.code) (subfields_matched base (slice_split (λ c. eqb c 44) row.operand) subfields (with_field NoField n))) (sym (matched-named row.operation operation shaped is)))
     refl
 
 -- the rows of sums
@@ -111,7 +111,7 @@ sum-fits operation (Some sum) rows ijk named same =
     ap (λ n. map (λ (row : Row SumForm). sum_fit_with n (Some sum) (sum_row row)) rows) named
     ∙ rows_agree (λ (row : SumRow). row.operation) padded_sum_row (sum_fit_with (named_digits operation) (Some sum)) (sum_fit operation (Some sum)) sum_row table.sum_rows rows operation
     same (λ row. refl)
-    (λ row shaped is. ap (λ n. sum_instruction (sum_code row sum.others) sum (registers_matched row sum n)) (sym (matched-named row.operation operation shaped is)))
+    (λ row shaped is. ap (λ n. sum_instruction (sum_code row sum.others) sum (option_and_then (matched row.registers sum.registers) n)) (sym (matched-named row.operation operation shaped is)))
     refl
 
 -- the rows whose operand is ignored

@@ -1,6 +1,6 @@
 -- What is read in DATA has no literals, and what is read in ENTRY and EXT are lawful names.
-use Rattle.std.{proofs.Common.{◌≡◌, Bool, true, false, List, [], ◌∷◌, ◌++◌, Option, Some, None, refl, sym, ap, ap₂, ◌∙◌, if◌then◌else◌}, specs.Prelude.{flat_map, map}, specs.List.AllByRecursion}
-use Rattle.definitions.specs.{Expressions.{Literal, Sign, NoSign, PlusSign, MinusSign}, Literals.datum_literals, Operands.{Datum, data_word, number_word, all_words, onto_all, linked_name}, Pieces.{Piece, Plain, IsMark, IsCountedItem, Plus, Minus}, Symbols.{Number, number_read, is_linked_name}, declared.number_base.NumberBase.NumberBase}
+use Rattle.std.{proofs.Common.{◌≡◌, Bool, true, false, List, [], ◌∷◌, ◌++◌, Option, Some, None, refl, sym, ap, ap₂, ◌∙◌, if◌then◌else◌}, specs.Prelude.{flat_map, map, option_map}, specs.List.AllByRecursion}
+use Rattle.definitions.specs.{Expressions.{Literal, Sign, NoSign, PlusSign, MinusSign}, Literals.datum_literals, Operands.{Datum, NumberWord, data_word, all_words, onto_all, linked_name}, Pieces.{Piece, Plain, IsMark, IsCountedItem, Plus, Minus}, Symbols.{Number, number_read, is_linked_name}, declared.number_base.NumberBase.NumberBase}
 use Rattle.statement_coder.specs.Joins.Readings.{IsLawfulName}
 
 -- the literals of what may be there
@@ -12,7 +12,7 @@ abbrev literals_of_all : Option (List Datum) → List Literal
 literals_of_all None = []
 literals_of_all (Some words) = flat_map datum_literals words
 
-number_word-bare : (sign : Sign) (number : Option Number) → literals_of (number_word sign number) ≡ []
+number_word-bare : (sign : Sign) (number : Option Number) → literals_of (option_map (NumberWord sign) number) ≡ []
 number_word-bare sign None = refl
 number_word-bare sign (Some number) = refl
 

@@ -1,6 +1,6 @@
 -- Blocks known by their names and by their indexes.
-use Rattle.std.{proofs.Common.{◌≡◌, ◌∙◌, ℕ, zero, suc, ◌+◌, ◌<◌, Bool, true, false, not, ◌||◌, List, [], ◌∷◌, ◌++◌, length, refl, ap, ap₂, arith, inl, inr, set}, specs.Prelude.{map, if◌then◌else◌}, specs.List.prefix_len, proofs.Math.ListN.get_or-map, proofs.lemmas.List.length-map, proofs.lemmas.List.Folds.list_any-append, proofs.lemmas.List.Sums.prefix_len_stops}
-use Rattle.definitions.{specs.Characters.same_text, specs.Blocks.{nominal, is_named}, specs.Laws.States.{UsedBlock, Effect, fresh_block, block_named, or_position, counting_behind, block_behind, names_of_blocks}, proofs.TextLaws.{same_text-refl, same_text-true, same_text_tells}}
+use Rattle.std.{proofs.Common.{◌≡◌, ◌∙◌, ℕ, zero, suc, ◌+◌, ◌<◌, Bool, true, false, not, ◌||◌, List, [], ◌∷◌, ◌++◌, length, refl, ap, ap₂, arith, inl, inr, set}, specs.Prelude.{map, unwrap_or, if◌then◌else◌}, specs.List.prefix_len, proofs.Math.ListN.get_or-map, proofs.lemmas.List.length-map, proofs.lemmas.List.Folds.list_any-append, proofs.lemmas.List.Sums.prefix_len_stops}
+use Rattle.definitions.{specs.Characters.same_text, specs.Blocks.{nominal, is_named}, specs.Laws.States.{UsedBlock, Effect, fresh_block, block_named, counting_behind, block_behind, names_of_blocks}, proofs.TextLaws.{same_text-refl, same_text-true, same_text_tells}}
 use Rattle.use_blocks.specs.Joins.StateInside.{block_at, name_at, AreDistinct, is_other}
 
 -- one of two tests that is not true
@@ -82,7 +82,7 @@ behind-at effect (block ∷ blocks) (suc at) d h =
 pub block_behind-name : (name : List ℕ) (effect : Effect) (block : UsedBlock) → (block_behind name effect block).name ≡ block.name
 block_behind-name name effect block = kept (same_text name block.name)
   where
-    kept : (b : Bool) → (if b then record { name = block.name; position = or_position effect.position block.position; counting = counting_behind effect.setting block.counting } else block).name ≡ block.name
+    kept : (b : Bool) → (if b then record { name = block.name; position = unwrap_or effect.position block.position; counting = counting_behind effect.setting block.counting } else block).name ≡ block.name
     kept true = refl
     kept false = refl
 

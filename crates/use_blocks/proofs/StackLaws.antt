@@ -1,6 +1,6 @@
 -- The stack of open blocks, and what makes blocks and a stack those of a state.
-use Rattle.std.{proofs.Common.{ne_eqb, ◌==◌, ◌≡◌, ◌∙◌, ℕ, zero, suc, ◌+◌, ◌-◌, ◌<◌, ◌≤◌, Bool, true, false, ◌&&◌, List, [], ◌∷◌, ◌++◌, length, refl, sym, ap, ap₂, subst, arith, inl, inr, get_or, set, take, drop, length-append}, specs.Prelude.{map, nat_lt, if◌then◌else◌}, specs.Bool.Decides, specs.List.prefix_len, proofs.Math.Seq.get_or-append_seam, proofs.lemmas.List.{get_or_append_left, length-map, map-append, take_more, take_all, get_or_default}, proofs.lemmas.List.Sums.prefix_len-le-length, proofs.lemmas.Bool.lt-ltb, proofs.lemmas.Bool.Decides.{leb_tells, Decides-eqb}}
-use Rattle.definitions.specs.{DeckKinds.or_number_base, Settled.{BlockChange, NoChange, Opens, Closes}, Blocks.{nominal, block_in_use, is_named, is_accepted}, Laws.States.{UsedBlock, BlockState, Effect, fresh_block, block_named, block_behind, blocks_behind, names_behind, names_of_blocks, advanced}, declared.number_base.NumberBase.NumberBase}
+use Rattle.std.{proofs.Common.{ne_eqb, ◌==◌, ◌≡◌, ◌∙◌, ℕ, zero, suc, ◌+◌, ◌-◌, ◌<◌, ◌≤◌, Bool, true, false, ◌&&◌, List, [], ◌∷◌, ◌++◌, length, refl, sym, ap, ap₂, subst, arith, inl, inr, get_or, set, take, drop, length-append}, specs.Prelude.{map, nat_lt, unwrap_or, if◌then◌else◌}, specs.Bool.Decides, specs.List.prefix_len, proofs.Math.Seq.get_or-append_seam, proofs.lemmas.List.{get_or_append_left, length-map, map-append, take_more, take_all, get_or_default}, proofs.lemmas.List.Sums.prefix_len-le-length, proofs.lemmas.Bool.lt-ltb, proofs.lemmas.Bool.Decides.{leb_tells, Decides-eqb}}
+use Rattle.definitions.specs.{Settled.{BlockChange, NoChange, Opens, Closes}, Blocks.{nominal, block_in_use, is_named, is_accepted}, Laws.States.{UsedBlock, BlockState, Effect, fresh_block, block_named, block_behind, blocks_behind, names_behind, names_of_blocks, advanced}, declared.number_base.NumberBase.NumberBase}
 use Rattle.use_blocks.{specs.Joins.Changes.{changed, written}, specs.Joins.StateInside.{block_at, name_at, opened_names, latest, AreDistinct, AreBelow, is_other, IsState}, proofs.BlockLaws.{is_named-at, found-name, found-none, name_at-block, name_at-once, block_named-at, is_named-apart, block_behind-apart, names-behind, behind-at, distinct-pushed}}
 
 -- a stack that is not empty is those below the latest, and the latest
@@ -296,13 +296,13 @@ advanced-parts effect blocks stack base neutral at is e =
     with_blocks effect state blocks = record {
       open_names = names_behind effect.change state.open_names;
       blocks = blocks;
-      number_base = or_number_base effect.number_base state.number_base;
+      number_base = unwrap_or effect.number_base state.number_base;
       neutral = effect.neutral && state.neutral;
     }
 
 -- a block written at its index is the effect on its name
 pub written-as : (effect : Effect) (blocks new : List UsedBlock) (stack : List ℕ) (base next : NumberBase) (neutral least : Bool) (at : ℕ) → IsState blocks stack → at < length blocks →
-    new ≡ set blocks at (block_behind (block_at blocks at).name effect (block_at blocks at)) → next ≡ or_number_base effect.number_base base → least ≡ (effect.neutral && neutral) →
+    new ≡ set blocks at (block_behind (block_at blocks at).name effect (block_at blocks at)) → next ≡ unwrap_or effect.number_base base → least ≡ (effect.neutral && neutral) →
     state_of new stack next least ≡ written (block_at blocks at).name effect (state_of blocks stack base neutral)
 written-as effect blocks new stack base next neutral least at is below e b n =
     let name = (block_at blocks at).name in

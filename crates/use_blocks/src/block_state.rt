@@ -1,9 +1,8 @@
 //! The state between statements: what those before a statement leave of blocks, number base and kind.
-ghost use Rattle.std.specs.Prelude.{◌≡◌, ◌<◌, ◌≤◌, [], false, Ok, Some, length, slice_get, IfOk, OnOk, OnErr};
+ghost use Rattle.std.specs.Prelude.{◌≡◌, ◌<◌, ◌≤◌, [], false, Ok, Some, length, slice_get, unwrap_or, IfOk, OnOk, OnErr};
 ghost use Rattle.std.specs.Bool.{Decides};
 ghost use Rattle.definitions.specs.Operands.{UseName};
 ghost use Rattle.definitions.specs.Blocks.{nominal, block_in_use, change_of};
-ghost use Rattle.definitions.specs.DeckKinds.{or_number_base};
 ghost use Rattle.definitions.specs.Settled.{Opens, Closes};
 ghost use Rattle.definitions.specs.Counters.{counters_at};
 ghost use Rattle.definitions.specs.Laws.States.{state_after, names_of_blocks, advanced};
@@ -222,7 +221,7 @@ impl BlockState {
 
 /// The base that is set, or else the one before.
 fn number_base_behind(set: Option<NumberBase>, before: NumberBase) -> NumberBase
-    ensures { result ≡ or_number_base set before }
+    ensures { result ≡ unwrap_or set before }
 {
     match set {
         Some(base) => base,

@@ -1,7 +1,7 @@
 //! A block that is used: where its statements have come to, and its LOC in force.
-ghost use Rattle.std.specs.Prelude.{◌≡◌};
+ghost use Rattle.std.specs.Prelude.{◌≡◌, unwrap_or};
 ghost use Rattle.std.specs.Bool.{Decides};
-ghost use Rattle.definitions.specs.Laws.States.{fresh_block, block_behind, or_position, counting_behind};
+ghost use Rattle.definitions.specs.Laws.States.{fresh_block, block_behind, counting_behind};
 ghost use Rattle.use_blocks.specs.Joins.EffectsAs.{effect_as, setting_as};
 
 use crate::effects::{Effect, LocationSetting};
@@ -82,7 +82,7 @@ impl UsedBlock {
 
 /// The position that is set, or else the one before.
 fn position_behind(set: Option<Position>, before: Position) -> Position
-    ensures { result ≡ or_position set before }
+    ensures { result ≡ unwrap_or set before }
 {
     match set {
         Some(position) => position,

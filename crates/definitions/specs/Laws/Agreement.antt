@@ -1,6 +1,6 @@
 -- When tails of the same cards are settled alike behind different statements: equal states, and equal values of the names that the tail defines or reads early (ours).
 -- `src/edit_laws.rt` and `src/state_laws.rt` have what comes of it.
-use Rattle.std.specs.{Prelude.{ℕ, ◌≡◌, ⊤, List, [], ◌∷◌, ◌++◌, Option, Some, None, Bool, true, ◌&&◌, flat_map, map, if◌then◌else◌}, List.AllByRecursion}
+use Rattle.std.specs.{Prelude.{ℕ, ◌≡◌, ⊤, List, [], ◌∷◌, ◌++◌, Option, Bool, true, ◌&&◌, flat_map, filter_map, map, if◌then◌else◌}, List.AllByRecursion}
 use Rattle.definitions.specs.{Statements.Statement, Symbols.is_symbol, Expressions.{Element, ASymbol, Expression, elements_of}, Operations.{Operation, is_labelled}, Operands.{Operand, NamesOperand, ValueOperand}, Settled.{ReadStatement, Settled, defined}, Settling.{View, settle, settled_all}, declared.deck_kind.DeckKind.DeckKind}
 use Rattle.definitions.specs.Operations as op
 
@@ -24,9 +24,7 @@ own_symbols operation location = if defines_location operation && is_symbol loca
 
 -- the lawful names of an EXT
 abbrev pub lawful_names : List (Option (List ℕ)) → List (List ℕ)
-lawful_names [] = []
-lawful_names (None ∷ names) = lawful_names names
-lawful_names (Some name ∷ names) = name ∷ lawful_names names
+lawful_names names = filter_map (λ name. name) names
 
 -- the names that an EXT defines, and the symbols that BSS, BSSZ, ORG, LOC and EQU read
 abbrev pub operand_symbols : Operand → Operation → List (List ℕ)

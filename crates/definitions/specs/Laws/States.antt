@@ -1,7 +1,7 @@
 -- The state between statements: what those before a statement leave of blocks, number base and kind, and the words that they reach (ours).
 -- `src/state_laws.rt` has what joins it to the list that it is made of.
-use Rattle.std.specs.Prelude.{ℕ, List, [], ◌∷◌, ◌++◌, Option, Some, None, Bool, ◌&&◌, max, map, drop, if◌then◌else◌}
-use Rattle.definitions.specs.{Characters.same_text, Operations.is_neutral, DeckKinds.{number_base_set, or_number_base}, Settled.{Settled, Counting, LocationSetting, Unchanged, Counts, Ended, BlockChange, NoChange, Opens, Closes}, Blocks.{changes, open_names, block_in_use, blocks_used, is_named}, Places.{Position, position_in, no_position}, Counters.counting_in, Settling.{View, Seen, number_base_of, all_neutral}, Lengths.{BlockLength, reached}, declared.deck_kind.DeckKind.DeckKind, declared.number_base.NumberBase.NumberBase}
+use Rattle.std.specs.Prelude.{ℕ, List, [], ◌∷◌, ◌++◌, Option, Some, None, Bool, ◌&&◌, max, map, drop, unwrap_or, if◌then◌else◌}
+use Rattle.definitions.specs.{Characters.same_text, Operations.is_neutral, DeckKinds.number_base_set, Settled.{Settled, Counting, LocationSetting, Unchanged, Counts, Ended, BlockChange, NoChange, Opens, Closes}, Blocks.{changes, open_names, block_in_use, blocks_used, is_named}, Places.{Position, position_in, no_position}, Counters.counting_in, Settling.{View, Seen, number_base_of, all_neutral}, Lengths.{BlockLength, reached}, declared.deck_kind.DeckKind.DeckKind, declared.number_base.NumberBase.NumberBase}
 
 -- a block that is used: its position, and its LOC in force
 pub record UsedBlock : Type 0 where
@@ -78,11 +78,6 @@ effect_of kind settled = record {
   reached = reached kind settled;
 }
 
--- the position that is set here, or else the one before
-abbrev pub or_position : Option Position → Position → Position
-or_position None position = position
-or_position (Some position) before = position
-
 -- the LOC in force behind a setting
 abbrev pub counting_behind : LocationSetting → Option Counting → Option Counting
 counting_behind Unchanged before = before
@@ -93,7 +88,7 @@ counting_behind Ended before = None
 abbrev pub block_behind : List ℕ → Effect → UsedBlock → UsedBlock
 block_behind name effect block =
     if same_text name block.name
-    then record block { position = or_position effect.position block.position; counting = counting_behind effect.setting block.counting }
+    then record block { position = unwrap_or effect.position block.position; counting = counting_behind effect.setting block.counting }
     else block
 
 -- the blocks, and the one that a USE opens where it is new
@@ -112,7 +107,7 @@ abbrev pub advanced : Effect → BlockState → BlockState
 advanced effect state = record {
   open_names = names_behind effect.change state.open_names;
   blocks = blocks_behind effect.change (map (block_behind (block_in_use state.open_names) effect) state.blocks);
-  number_base = or_number_base effect.number_base state.number_base;
+  number_base = unwrap_or effect.number_base state.number_base;
   neutral = effect.neutral && state.neutral;
 }
 

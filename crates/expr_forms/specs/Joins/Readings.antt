@@ -1,6 +1,6 @@
 -- What was read in a variable field, in the words of the definitions.
-use Rattle.std.specs.Prelude.{ℕ, List, [], ◌∷◌, Option, Some, None, Bool, codes, if◌then◌else◌}
-use Rattle.definitions.specs.{Characters.same_text, Pieces.{Piece, Plain}, Symbols.{is_block_name, number_read}, Expressions.Sign, Operands.{Datum, ZeroWord, NumberWord, CountedItemWords, ExpressionWord, number_word, BitField, bit_field, given_expression, plain_of, Operand, BadOperand, UseName, UseBefore, UseRefused}, declared.number_base.NumberBase.NumberBase, Laws.ItemTexts.item_as}
+use Rattle.std.specs.Prelude.{ℕ, List, [], ◌∷◌, Option, Some, None, Bool, codes, option_map, if◌then◌else◌}
+use Rattle.definitions.specs.{Characters.same_text, Pieces.{Piece, Plain}, Symbols.{is_block_name, number_read}, Expressions.Sign, Operands.{Datum, ZeroWord, NumberWord, CountedItemWords, ExpressionWord, BitField, bit_field, plain_of, Operand, BadOperand, UseName, UseBefore, UseRefused}, declared.number_base.NumberBase.NumberBase, Laws.ItemTexts.item_as}
 use Rattle.expr_forms.specs.Joins.{Numbers.number_as, Elements.sign_as}
 use Rattle.expr_forms.specs.declared.data_words.Datum as words
 use Rattle.expr_forms.specs.declared.data_words.Datum.TheVariants as word
@@ -33,7 +33,7 @@ alone x (piece ∷ pieces) = None
 
 -- a subfield of DATA behind its sign
 abbrev pub signed_word : NumberBase → Sign → List Piece → Option Datum
-signed_word base sign (Plain text ∷ pieces) = alone (number_word sign (number_read base text)) pieces
+signed_word base sign (Plain text ∷ pieces) = alone (option_map (NumberWord sign) (number_read base text)) pieces
 signed_word base sign pieces = None
 
 -- a field of a VFD
@@ -43,4 +43,4 @@ bit_field_as field = record { width = field.width; value = field.value }
 -- a field of this width, with what stands behind its slash
 abbrev pub sized_value : Bool → NumberBase → ℕ → List Piece → Option BitField
 sized_value literals base width [] = bit_field (Some width) (Some None)
-sized_value literals base width (piece ∷ pieces) = bit_field (Some width) (given_expression (plain_of literals base (piece ∷ pieces)))
+sized_value literals base width (piece ∷ pieces) = bit_field (Some width) (option_map Some (plain_of literals base (piece ∷ pieces)))

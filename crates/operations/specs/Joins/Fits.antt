@@ -1,6 +1,6 @@
 -- What the rows of an operation make of an operand, by the digit that the operation's name has (COMPASS 60492600, CPU instructions).
-use Rattle.std.specs.{Prelude.{ℕ, ◌-◌, ◌==◌, List, [], ◌∷◌, Option, Some, None, nat_le, length, if◌then◌else◌}, List.slice_split}
-use Rattle.definitions.specs.{Characters.{comma, zero_digit}, Pieces.Piece, CentralTable.SumRow, Matching.{RegisterDigits, no_ijk, is_octal_digit, matched, Field, NoField, Match, is_plain_field, Instruction, Sum, instruction_of, matched_instruction, subfields_matched, sum_code, sum_instruction}, declared.number_base.NumberBase.NumberBase}
+use Rattle.std.specs.{Prelude.{ℕ, ◌-◌, ◌==◌, List, [], ◌∷◌, Option, Some, None, nat_le, length, option_map, if◌then◌else◌}, List.slice_split}
+use Rattle.definitions.specs.{Characters.{comma, zero_digit}, Pieces.Piece, CentralTable.SumRow, Matching.{RegisterDigits, no_ijk, is_octal_digit, matched, Field, NoField, Match, is_plain_field, Instruction, Sum, instruction_of, subfields_matched, sum_code, sum_instruction}, declared.number_base.NumberBase.NumberBase}
 use Rattle.definitions.specs.CentralTable as table
 use Rattle.operations.specs.{declared.central.registers_found.RegistersFound.RegistersFound, Joins.RegistersFound.digits_as}
 
@@ -17,7 +17,7 @@ named_digits _ = no_ijk
 -- the instruction of subfields by a row
 abbrev pub row_fit_with : NumberBase → RegisterDigits → List (List Piece) → table.Row → Option Instruction
 row_fit_with base ijk subfields row =
-    matched_instruction row.code (subfields_matched base (slice_split (λ c. c == comma) row.operand) subfields (Some (record { ijk = ijk; field = NoField })))
+    option_map (instruction_of row.code) (subfields_matched base (slice_split (λ c. c == comma) row.operand) subfields (Some (record { ijk = ijk; field = NoField })))
 
 -- the instruction of a sum by a row, if there is a sum
 abbrev pub sum_fit_with : RegisterDigits → Option Sum → SumRow → Option Instruction

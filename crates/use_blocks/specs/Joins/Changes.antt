@@ -1,6 +1,6 @@
 -- Changes of a state, in parts.
-use Rattle.std.specs.Prelude.{ℕ, ◌≡◌, ⊤, Bool, true, false, List, map, ◌&&◌}
-use Rattle.definitions.specs.{DeckKinds.or_number_base, Settled.{BlockChange, NoChange, Opens, Closes}, Blocks.{block_in_use, is_accepted}, Laws.States.{UsedBlock, BlockState, Effect, names_of_blocks, block_named, block_behind, blocks_behind, names_behind}}
+use Rattle.std.specs.Prelude.{ℕ, ◌≡◌, ⊤, Bool, true, false, List, map, unwrap_or, ◌&&◌}
+use Rattle.definitions.specs.{Settled.{BlockChange, NoChange, Opens, Closes}, Blocks.{block_in_use, is_accepted}, Laws.States.{UsedBlock, BlockState, Effect, names_of_blocks, block_named, block_behind, blocks_behind, names_behind}}
 
 -- the block in use
 abbrev pub block_now : BlockState → UsedBlock
@@ -22,7 +22,7 @@ IsAccepted Closes state = ⊤
 abbrev pub written : List ℕ → Effect → BlockState → BlockState
 written name effect state = record state {
   blocks = map (block_behind name effect) state.blocks;
-  number_base = or_number_base effect.number_base state.number_base;
+  number_base = unwrap_or effect.number_base state.number_base;
   neutral = effect.neutral && state.neutral;
 }
 
