@@ -1,6 +1,6 @@
 -- The blocks of a deck have different names, and none has that of the literals' block.
 use Rattle.std.{proofs.Common.{ℕ, ◌≡◌, ◌+◌, Bool, true, false, ◌||◌, List, [], ◌∷◌, ◌++◌, length, Option, Some, None, refl, sym, ap, ap₂, subst, ◌∙◌, inl, inr}, specs.Prelude.{nat_le, nat_eq, map, reverse, take_while, drop, not, if◌then◌else◌}, specs.Cmp.IsEquivalence, specs.List.IsDistinct, proofs.lemmas.List.{map-append, append-nil}, proofs.lemmas.List.Folds.list_any-append, proofs.lemmas.Map.Keys.IsDistinct-push}
-use Rattle.definitions.{specs.Characters.{is_among, same_text, slash, comma}, specs.DeckInput.Deck, specs.DeckKinds.{kind_of_statements, up_to_end}, specs.Statements.{Statement, statements_of}, specs.Pieces.{Piece, pieces_of, subfields_of}, specs.Kinds.allows_literals, specs.Symbols.{is_block_name, number_read}, specs.Expressions.Expression, specs.PeripheralTable.{PeripheralForm, Ignored, Long, PeripheralRow, peripheral_row}, specs.Matching.{Instruction, central_of}, specs.Operations.Operation, specs.Operands.{Operand, Datum, BitField, Unread, BadOperand, ValueOperand, UseName, UseBefore, UseRefused, plain_of, all_words, data_word, con_word, all_fields, vfd_field, words_operand, bits_operand, count_read, text_operand, dis_operand, one_value, is_common_name, common_operand, use_operand, base_operand, central_operand, one_or_two, just_one, by_form, peripheral_operand, instruction_operand, operand_of}, specs.Settled.{Settled, BlockChange, NoChange, Opens, Closes}, specs.Settling.{seen_of, settle, settled_all}, specs.Blocks.{nominal, literals_block, changes, is_named, with_opened, blocks_used, is_accepted, change_of}, specs.Lengths.{BlockLength, BlockRow, length_of, lengths_of, placed_row, local_words, rows_from, total_length, literals_row, rows_of}, specs.Literals.literal_words, specs.Objects.object_of, specs.declared.deck_kind.DeckKind.DeckKind, specs.declared.deck_kind.DeckKind.TheVariants.{Rel, Abs, Periph}, specs.declared.number_base.NumberBase.NumberBase, proofs.WordLaws.picked_cond, proofs.TextLaws.{same_text-refl, same_text-true, same_text_tells}, proofs.OperandLaws.{IsValue, one_value-value}}
+use Rattle.definitions.{specs.Characters.{is_among, same_text, slash, comma}, specs.DeckInput.Deck, specs.DeckKinds.{kind_of_statements, up_to_end}, specs.Statements.{Statement, statements_of}, specs.Pieces.{Piece, pieces_of, subfields_of}, specs.Kinds.allows_literals, specs.Symbols.{is_block_name, number_read}, specs.Expressions.Expression, specs.PeripheralTable.{PeripheralForm, Ignored, Long, PeripheralRow, peripheral_row}, specs.Matching.{Instruction, central_of}, specs.Operations.Operation, specs.Operands.{Operand, Datum, BitField, Unread, BadOperand, ValueOperand, UseName, UseBefore, UseRefused, plain_of, all_read, data_word, con_word, vfd_field, words_operand, bits_operand, count_read, text_operand, dis_operand, one_value, is_common_name, common_operand, use_operand, base_operand, central_operand, one_or_two, just_one, by_form, peripheral_operand, instruction_operand, operand_of}, specs.Settled.{Settled, BlockChange, NoChange, Opens, Closes}, specs.Settling.{seen_of, settle, settled_all}, specs.Blocks.{nominal, literals_block, changes, is_named, with_opened, blocks_used, is_accepted, change_of}, specs.Lengths.{BlockLength, BlockRow, length_of, lengths_of, placed_row, local_words, rows_from, total_length, literals_row, rows_of}, specs.Literals.literal_words, specs.Objects.object_of, specs.declared.deck_kind.DeckKind.DeckKind, specs.declared.deck_kind.DeckKind.TheVariants.{Rel, Abs, Periph}, specs.declared.number_base.NumberBase.NumberBase, proofs.WordLaws.picked_cond, proofs.TextLaws.{same_text-refl, same_text-true, same_text_tells}, proofs.OperandLaws.{IsValue, one_value-value}}
 use Rattle.definitions.specs.Operations as op
 
 same_text-turned : (a b : List ℕ) → same_text a b ≡ same_text b a
@@ -113,9 +113,9 @@ operand_of-other kind base op.Loc name text = one_value-other base (subfields_of
 operand_of-other kind base op.Equ name text = one_value-other base (subfields_of (pieces_of text))
 operand_of-other kind base op.Bss name text = one_value-other base (subfields_of (pieces_of text))
 operand_of-other kind base op.Bssz name text = one_value-other base (subfields_of (pieces_of text))
-operand_of-other kind base op.Data name text = words_operand-other (all_words (data_word base) (subfields_of (pieces_of text)))
-operand_of-other kind base op.Con name text = words_operand-other (all_words (con_word (allows_literals kind) base) (subfields_of (pieces_of text)))
-operand_of-other kind base op.Vfd name text = bits_operand-other (all_fields (vfd_field (allows_literals kind) base) (subfields_of (pieces_of text)))
+operand_of-other kind base op.Data name text = words_operand-other (all_read (data_word base) (subfields_of (pieces_of text)))
+operand_of-other kind base op.Con name text = words_operand-other (all_read (con_word (allows_literals kind) base) (subfields_of (pieces_of text)))
+operand_of-other kind base op.Vfd name text = bits_operand-other (all_read (vfd_field (allows_literals kind) base) (subfields_of (pieces_of text)))
 operand_of-other kind base op.Dis name text = dis_operand-other kind base text
 operand_of-other kind base op.Entry name text = tt
 operand_of-other kind base op.Ext name text = tt

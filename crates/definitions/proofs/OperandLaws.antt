@@ -1,6 +1,6 @@
 -- Operands as they are read are made of what their kind says.
 use Rattle.std.{proofs.Common.{ℕ, ◌≡◌, suc, ◌+◌, ◌*◌, ◌<◌, ◌≤◌, Bool, true, false, ◌&&◌, List, [], ◌∷◌, ◌++◌, length, Option, Some, None, refl, subst, arith}, specs.Prelude.{nat_le, nat_lt, map, drop, replicate, codes, take_while, not, nat_eq, option_map, if◌then◌else◌}, specs.List.list_all, proofs.lemmas.Bool.leb-true, proofs.lemmas.List.length-take}
-use Rattle.definitions.{specs.Characters.{is_among, same_text, slash, comma, blank}, specs.Pieces.{Slash, Piece, IsMark, Plain, pieces_of, subfields_of}, specs.Kinds.{unit_bits, allows_literals}, specs.Symbols.{Number, Value, number_read, is_block_name}, specs.Expressions.Expression, specs.PeripheralTable.{PeripheralForm, Ignored, Short, ShortJump, Shift, Wide, Long, PeripheralRow, row_among, peripheral_row, peripheral_rows}, specs.Matching.{Instruction, central_of}, specs.Operations.Operation, specs.Operands.{Datum, BitField, Operand, Unread, BadOperand, ValueOperand, UseName, UseBefore, UseRefused, plain_of, onto_all, all_words, words_operand, data_word, con_word, count_read, bit_field, vfd_field, all_fields, bits_operand, word_characters, text_operand, dis_operand, value_operand, one_value, is_common_name, common_operand, use_operand, base_operand, central_operand, one_or_two, just_one, by_form, peripheral_operand, instruction_operand, operand_of}, specs.declared.deck_kind.DeckKind.DeckKind, specs.declared.deck_kind.DeckKind.TheVariants.{Rel, Abs, Periph}, specs.declared.number_base.NumberBase.NumberBase, proofs.WordLaws.picked_cond, proofs.OperandShapes.{HasValues, HaveWidths, IsMade}, proofs.CentralLaws.{IsWholeIf, central_of-whole}}
+use Rattle.definitions.{specs.Characters.{is_among, same_text, slash, comma, blank}, specs.Pieces.{Slash, Piece, IsMark, Plain, pieces_of, subfields_of}, specs.Kinds.{unit_bits, allows_literals}, specs.Symbols.{Number, Value, number_read, is_block_name}, specs.Expressions.Expression, specs.PeripheralTable.{PeripheralForm, Ignored, Short, ShortJump, Shift, Wide, Long, PeripheralRow, row_among, peripheral_row, peripheral_rows}, specs.Matching.{Instruction, central_of}, specs.Operations.Operation, specs.Operands.{Datum, BitField, Operand, Unread, BadOperand, ValueOperand, UseName, UseBefore, UseRefused, plain_of, onto_all, all_read, words_operand, data_word, con_word, count_read, bit_field, vfd_field, bits_operand, word_characters, text_operand, dis_operand, value_operand, one_value, is_common_name, common_operand, use_operand, base_operand, central_operand, one_or_two, just_one, by_form, peripheral_operand, instruction_operand, operand_of}, specs.declared.deck_kind.DeckKind.DeckKind, specs.declared.deck_kind.DeckKind.TheVariants.{Rel, Abs, Periph}, specs.declared.number_base.NumberBase.NumberBase, proofs.WordLaws.picked_cond, proofs.OperandShapes.{HasValues, HaveWidths, IsMade}, proofs.CentralLaws.{IsWholeIf, central_of-whole}}
 use Rattle.definitions.specs.Operations as op
 
 central_operand-made : (kind : DeckKind) (instruction : Option Instruction) → unit_bits kind ≡ 15 → IsWholeIf instruction → IsMade kind (central_operand instruction)
@@ -77,12 +77,12 @@ vfd_field-width literals base (Plain width ∷ IsMark Slash ∷ (piece ∷ piece
 vfd_field-width literals base _ field e = cc
 
 fields-widths : (field : List Piece → Option BitField) (subfields : List (List Piece)) (found : List BitField) → ((pieces : List Piece) (f : BitField) → field pieces ≡ Some f → IsWidth f) →
-    all_fields field subfields ≡ Some found → HaveWidths found
+    all_read field subfields ≡ Some found → HaveWidths found
 fields-widths field [] found h e = let same : [] ≡ found = cc in subst HaveWidths same tt
-fields-widths field (subfield ∷ subfields) found h e = step (λ fs g. fields-widths field subfields fs h g) (field subfield) refl (all_fields field subfields) refl e
+fields-widths field (subfield ∷ subfields) found h e = step (λ fs g. fields-widths field subfields fs h g) (field subfield) refl (all_read field subfields) refl e
   where
-    step : ((fs : List BitField) → all_fields field subfields ≡ Some fs → HaveWidths fs) → (first : Option BitField) → field subfield ≡ first →
-        (rest : Option (List BitField)) → all_fields field subfields ≡ rest → onto_all first rest ≡ Some found → HaveWidths found
+    step : ((fs : List BitField) → all_read field subfields ≡ Some fs → HaveWidths fs) → (first : Option BitField) → field subfield ≡ first →
+        (rest : Option (List BitField)) → all_read field subfields ≡ rest → onto_all first rest ≡ Some found → HaveWidths found
     step behind None is rest js e = cc
     step behind (Some first) is None js e = cc
     step behind (Some first) is (Some rest) js e = let same : first ∷ rest ≡ found = cc in subst HaveWidths same (h subfield first is, behind rest js)
@@ -150,10 +150,10 @@ operand_of-made kind base op.Loc name text = one_value-made kind base (subfields
 operand_of-made kind base op.Equ name text = one_value-made kind base (subfields_of (pieces_of text))
 operand_of-made kind base op.Bss name text = one_value-made kind base (subfields_of (pieces_of text))
 operand_of-made kind base op.Bssz name text = one_value-made kind base (subfields_of (pieces_of text))
-operand_of-made kind base op.Data name text = words_operand-made kind (all_words (data_word base) (subfields_of (pieces_of text)))
-operand_of-made kind base op.Con name text = words_operand-made kind (all_words (con_word (allows_literals kind) base) (subfields_of (pieces_of text)))
+operand_of-made kind base op.Data name text = words_operand-made kind (all_read (data_word base) (subfields_of (pieces_of text)))
+operand_of-made kind base op.Con name text = words_operand-made kind (all_read (con_word (allows_literals kind) base) (subfields_of (pieces_of text)))
 operand_of-made kind base op.Vfd name text =
-    bits_operand-made kind (all_fields (vfd_field (allows_literals kind) base) (subfields_of (pieces_of text)))
+    bits_operand-made kind (all_read (vfd_field (allows_literals kind) base) (subfields_of (pieces_of text)))
     (λ fs e. fields-widths (vfd_field (allows_literals kind) base) (subfields_of (pieces_of text)) fs (vfd_field-width (allows_literals kind) base) e)
 operand_of-made kind base op.Dis name text = dis_operand-made kind base text
 operand_of-made kind base op.Entry name text = tt

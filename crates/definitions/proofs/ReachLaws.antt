@@ -1,6 +1,6 @@
 -- An instruction reaches at most four units, and any other statement with fields stands from a word to a word.
 use Rattle.std.{proofs.Common.{ℕ, ◌≡◌, ◌≢◌, ◌+◌, ◌-◌, ◌*◌, ◌/◌, ◌%◌, ◌≤◌, Bool, true, false, not, List, [], ◌∷◌, length, Option, Some, None, Result, Ok, Err, refl, arith}, specs.Prelude.{nat_le, nat_eq, map, reverse, take_while, drop, if◌then◌else◌}}
-use Rattle.definitions.{specs.DeckInput.Deck, specs.DeckKinds.{kind_of_statements, up_to_end}, specs.Statements.{Statement, statements_of}, specs.Kinds.{units, word_bits, most_words, allows_literals}, specs.Characters.comma, specs.Symbols.number_read, specs.Pieces.{Piece, pieces_of, subfields_of}, specs.Expressions.Expression, specs.Forms.Form, specs.PeripheralTable.{PeripheralForm, Ignored, Short, ShortJump, Shift, Wide, Long, PeripheralRow, peripheral_row}, specs.Matching.{Instruction, Field, NoField, OfK, OfN, central_of}, specs.Operations.{Operation, has_place}, specs.Operands.{Operand, Datum, BitField, CentralOperand, PeripheralOperand, WordsOperand, BitsOperand, TextOperand, BadOperand, plain_of, all_words, data_word, con_word, all_fields, vfd_field, words_operand, bits_operand, text_operand, dis_operand, one_value, count_read, central_operand, one_or_two, just_one, by_form, peripheral_operand, instruction_operand, operand_of}, specs.Sizes.{size_of, data_words, bits_of, field_width, form_units}, specs.Places.{Position, is_bad, is_at_word}, specs.EarlyValues.{Outcome, outcome_of, outcome_of_value, outcome_of_size, origin_outcome, origin_word, location_outcome, location_value, reserved_outcome, reserved, stays_with}, specs.Counters.Counters, specs.Settled.{Settled, Unchanged, ReadStatement, read_of}, specs.Settling.{Seen, seen_of, place_of, settle, settled_with, settled_all, standing_of}, specs.StatementItems.{Context, operand_items, items_of}, specs.Objects.{coded_of, context_of, object_of}, specs.declared.deck_kind.DeckKind.DeckKind, specs.declared.deck_kind.DeckKind.TheVariants.{Rel, Abs, Periph}, specs.declared.number_base.NumberBase.NumberBase, specs.declared.letter.Letter.Letter, proofs.WordLaws.picked_cond, proofs.PlaceLaws.least_place-lawful, specs.Laws.Filling.HasFields, specs.Laws.Reaching.{DoesReach, DoReach}, proofs.CentralLaws.{IsWholeIf, central_of-whole}, proofs.BareLaws.{IsBare, has_fields, one_value-bare, operand_of-bare, items_of-none}}
+use Rattle.definitions.{specs.DeckInput.Deck, specs.DeckKinds.{kind_of_statements, up_to_end}, specs.Statements.{Statement, statements_of}, specs.Kinds.{units, word_bits, most_words, allows_literals}, specs.Characters.comma, specs.Symbols.number_read, specs.Pieces.{Piece, pieces_of, subfields_of}, specs.Expressions.Expression, specs.Forms.Form, specs.PeripheralTable.{PeripheralForm, Ignored, Short, ShortJump, Shift, Wide, Long, PeripheralRow, peripheral_row}, specs.Matching.{Instruction, Field, NoField, OfK, OfN, central_of}, specs.Operations.{Operation, has_place}, specs.Operands.{Operand, Datum, BitField, CentralOperand, PeripheralOperand, WordsOperand, BitsOperand, TextOperand, BadOperand, plain_of, all_read, data_word, con_word, vfd_field, words_operand, bits_operand, text_operand, dis_operand, one_value, count_read, central_operand, one_or_two, just_one, by_form, peripheral_operand, instruction_operand, operand_of}, specs.Sizes.{size_of, data_words, bits_of, field_width, form_units}, specs.Places.{Position, is_bad, is_at_word}, specs.EarlyValues.{Outcome, outcome_of, outcome_of_value, outcome_of_size, origin_outcome, origin_word, location_outcome, location_value, reserved_outcome, reserved, stays_with}, specs.Counters.Counters, specs.Settled.{Settled, Unchanged, ReadStatement, read_of}, specs.Settling.{Seen, seen_of, place_of, settle, settled_with, settled_all, standing_of}, specs.StatementItems.{Context, operand_items, items_of}, specs.Objects.{coded_of, context_of, object_of}, specs.declared.deck_kind.DeckKind.DeckKind, specs.declared.deck_kind.DeckKind.TheVariants.{Rel, Abs, Periph}, specs.declared.number_base.NumberBase.NumberBase, specs.declared.letter.Letter.Letter, proofs.WordLaws.picked_cond, proofs.PlaceLaws.least_place-lawful, specs.Laws.Filling.HasFields, specs.Laws.Reaching.{DoesReach, DoReach}, proofs.CentralLaws.{IsWholeIf, central_of-whole}, proofs.BareLaws.{IsBare, has_fields, one_value-bare, operand_of-bare, items_of-none}}
 use Rattle.definitions.specs.Operations as op
 use Rattle.definitions.specs.declared.letter.Letter.TheVariants as letter
 
@@ -95,9 +95,9 @@ dis_operand-words kind base text =
 -- only the operands of instructions do not
 operand_of-words : (kind : DeckKind) (base : NumberBase) (operation : Operation) (name text : List ℕ) → operation ≢ op.Instruction → FillsWords (operand_of kind base operation name text)
 operand_of-words kind base op.Instruction name text other = absurd (other refl)
-operand_of-words kind base op.Data name text other = words_operand-words (all_words (data_word base) (subfields_of (pieces_of text)))
-operand_of-words kind base op.Con name text other = words_operand-words (all_words (con_word (allows_literals kind) base) (subfields_of (pieces_of text)))
-operand_of-words kind base op.Vfd name text other = bits_operand-words (all_fields (vfd_field (allows_literals kind) base) (subfields_of (pieces_of text)))
+operand_of-words kind base op.Data name text other = words_operand-words (all_read (data_word base) (subfields_of (pieces_of text)))
+operand_of-words kind base op.Con name text other = words_operand-words (all_read (con_word (allows_literals kind) base) (subfields_of (pieces_of text)))
+operand_of-words kind base op.Vfd name text other = bits_operand-words (all_read (vfd_field (allows_literals kind) base) (subfields_of (pieces_of text)))
 operand_of-words kind base op.Dis name text other = dis_operand-words kind base text
 operand_of-words kind base op.Bssz name text other = bare-words (one_value base (subfields_of (pieces_of text))) (one_value-bare base (subfields_of (pieces_of text)))
 operand_of-words kind base operation name text other = bare-words (operand_of kind base operation name text) (operand_of-bare kind base operation name text refl)

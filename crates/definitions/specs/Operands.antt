@@ -62,10 +62,10 @@ abbrev pub con_word : Bool → NumberBase → List Piece → Option Datum
 con_word literals base [] = Some ZeroWord
 con_word literals base (piece ∷ pieces) = option_map ExpressionWord (plain_of literals base (piece ∷ pieces))
 
--- what fills the words of all subfields, if each is lawful
-abbrev pub all_words : (List Piece → Option Datum) → List (List Piece) → Option (List Datum)
-all_words word [] = Some []
-all_words word (subfield ∷ subfields) = onto_all (word subfield) (all_words word subfields)
+-- what all subfields are, if each is lawful
+abbrev pub all_read : {A : Type 0} → (List Piece → Option A) → List (List Piece) → Option (List A)
+all_read read [] = Some []
+all_read read (subfield ∷ subfields) = onto_all (read subfield) (all_read read subfields)
 
 -- words, or V where a subfield is not lawful
 abbrev pub words_operand : Option (List Datum) → Operand
@@ -87,11 +87,6 @@ abbrev pub vfd_field : Bool → NumberBase → List Piece → Option BitField
 vfd_field literals base (Plain width ∷ IsMark Slash ∷ []) = bit_field (count_read 60 (number_read base width)) (Some None)
 vfd_field literals base (Plain width ∷ IsMark Slash ∷ pieces) = bit_field (count_read 60 (number_read base width)) (option_map Some (plain_of literals base pieces))
 vfd_field literals base _ = None
-
--- the fields of all subfields, if each is lawful
-abbrev pub all_fields : (List Piece → Option BitField) → List (List Piece) → Option (List BitField)
-all_fields field [] = Some []
-all_fields field (subfield ∷ subfields) = onto_all (field subfield) (all_fields field subfields)
 
 -- fields, or V where one of them is not lawful
 abbrev pub bits_operand : Option (List BitField) → Operand
@@ -193,9 +188,9 @@ subfields_operand kind base op.Loc operation subfields = one_value base subfield
 subfields_operand kind base op.Equ operation subfields = one_value base subfields
 subfields_operand kind base op.Bss operation subfields = one_value base subfields
 subfields_operand kind base op.Bssz operation subfields = one_value base subfields
-subfields_operand kind base op.Data operation subfields = words_operand (all_words (data_word base) subfields)
-subfields_operand kind base op.Con operation subfields = words_operand (all_words (con_word (allows_literals kind) base) subfields)
-subfields_operand kind base op.Vfd operation subfields = bits_operand (all_fields (vfd_field (allows_literals kind) base) subfields)
+subfields_operand kind base op.Data operation subfields = words_operand (all_read (data_word base) subfields)
+subfields_operand kind base op.Con operation subfields = words_operand (all_read (con_word (allows_literals kind) base) subfields)
+subfields_operand kind base op.Vfd operation subfields = bits_operand (all_read (vfd_field (allows_literals kind) base) subfields)
 subfields_operand kind base op.Entry operation subfields = NamesOperand (map linked_name subfields)
 subfields_operand kind base op.Ext operation subfields = NamesOperand (map linked_name subfields)
 subfields_operand kind base op.Instruction operation subfields = instruction_operand kind base operation subfields

@@ -1,7 +1,7 @@
 //! The variable field of VFD: widths and what stands in so many bits (COMPASS 60492600, VFD).
 ghost use Rattle.std.specs.Prelude.{◌≡◌, ◌≤◌, ◌∷◌, [], length, option_map, is_some, Some, None, IfSome, IfNone, MatchResult};
 ghost use Rattle.definitions.specs.Pieces.{Slash, Inside, IsMark, Plain, pieces_at, pieces_of, subfields_of};
-ghost use Rattle.definitions.specs.Operands.{vfd_field, all_fields};
+ghost use Rattle.definitions.specs.Operands.{vfd_field, all_read};
 ghost use Rattle.definitions.specs.declared.letter.Letter.TheVariants as letter;
 ghost use Rattle.expr_forms.specs.Joins.Readings.{bit_field_as, sized_value};
 
@@ -113,7 +113,7 @@ fn vfd_field(literals: bool, base: NumberBase, text: &[u8]) -> Option<BitField<'
 
 /// Whether each subfield is lawful in VFD.
 fn are_fields(literals: bool, base: NumberBase, subfields: Subfields<'_>) -> bool
-    ensures { result ≡ is_some (all_fields (vfd_field literals base) subfields.entry) }
+    ensures { result ≡ is_some (all_read (vfd_field literals base) subfields.entry) }
 {
     let mut rest = subfields;
     'subfields: loop {
@@ -137,13 +137,13 @@ pub struct BitFields<'a> {
 
 impl<'a> Model for BitFields<'a> {
     ghost use Rattle.std.specs.Prelude.{List, [], ◌≡◌, true, is_some, unwrap_or};
-    ghost use Rattle.definitions.specs.Operands.{BitField, vfd_field, all_fields};
+    ghost use Rattle.definitions.specs.Operands.{BitField, vfd_field, all_read};
 
     ghost Value = { List BitField };
 
-    ghost view = { λ f. unwrap_or (all_fields (vfd_field f.literals f.base) f.subfields) [] };
+    ghost view = { λ f. unwrap_or (all_read (vfd_field f.literals f.base) f.subfields) [] };
 
-    ghost invariant = { λ f. is_some (all_fields (vfd_field f.literals f.base) f.subfields) ≡ true };
+    ghost invariant = { λ f. is_some (all_read (vfd_field f.literals f.base) f.subfields) ≡ true };
 }
 
 impl<'a> BitFields<'a> {
@@ -151,7 +151,7 @@ impl<'a> BitFields<'a> {
     /// as a literal where none is allowed.
     pub fn read(text: &'a [u8], literals: bool, base: NumberBase) -> Result<BitFields<'a>, Letter>
         requires { length text.now ≤ 711 }
-        ensures { let fields = all_fields (vfd_field literals base) (subfields_of (pieces_of text.now)) in
+        ensures { let fields = all_read (vfd_field literals base) (subfields_of (pieces_of text.now)) in
             MatchResult result (λ found. fields ≡ Some found) (λ fault. (fault ≡ letter.V) × (fields ≡ None)) }
     {
         let subfields = Subfields::new(text);

@@ -1,7 +1,7 @@
 //! The variable field of CON: what fills its words (COMPASS 60492600, CON).
 ghost use Rattle.std.specs.Prelude.{◌≡◌, ◌≤◌, ◌∷◌, [], length, option_map, is_some, Some, None, IfSome, IfNone, MatchResult};
 ghost use Rattle.definitions.specs.Pieces.{pieces_of, subfields_of};
-ghost use Rattle.definitions.specs.Operands.{ExpressionWord, con_word, all_words, plain_of};
+ghost use Rattle.definitions.specs.Operands.{ExpressionWord, con_word, all_read, plain_of};
 ghost use Rattle.definitions.specs.declared.letter.Letter.TheVariants as letter;
 ghost use Rattle.expr_forms.specs.Joins.Readings.{datum_as};
 
@@ -35,7 +35,7 @@ fn con_word(literals: bool, base: NumberBase, text: &[u8]) -> Option<Datum<'_>>
 
 /// Whether each subfield is lawful in CON.
 fn are_words(literals: bool, base: NumberBase, subfields: Subfields<'_>) -> bool
-    ensures { result ≡ is_some (all_words (con_word literals base) subfields.entry) }
+    ensures { result ≡ is_some (all_read (con_word literals base) subfields.entry) }
 {
     let mut rest = subfields;
     'subfields: loop {
@@ -59,13 +59,13 @@ pub struct ConWords<'a> {
 
 impl<'a> Model for ConWords<'a> {
     ghost use Rattle.std.specs.Prelude.{List, [], ◌≡◌, true, is_some, unwrap_or};
-    ghost use Rattle.definitions.specs.Operands.{Datum, con_word, all_words};
+    ghost use Rattle.definitions.specs.Operands.{Datum, con_word, all_read};
 
     ghost Value = { List Datum };
 
-    ghost view = { λ w. unwrap_or (all_words (con_word w.literals w.base) w.subfields) [] };
+    ghost view = { λ w. unwrap_or (all_read (con_word w.literals w.base) w.subfields) [] };
 
-    ghost invariant = { λ w. is_some (all_words (con_word w.literals w.base) w.subfields) ≡ true };
+    ghost invariant = { λ w. is_some (all_read (con_word w.literals w.base) w.subfields) ≡ true };
 }
 
 impl<'a> ConWords<'a> {
@@ -73,7 +73,7 @@ impl<'a> ConWords<'a> {
     /// literal where none is allowed.
     pub fn read(text: &'a [u8], literals: bool, base: NumberBase) -> Result<ConWords<'a>, Letter>
         requires { length text.now ≤ 711 }
-        ensures { let words = all_words (con_word literals base) (subfields_of (pieces_of text.now)) in
+        ensures { let words = all_read (con_word literals base) (subfields_of (pieces_of text.now)) in
             MatchResult result (λ found. words ≡ Some found) (λ fault. (fault ≡ letter.V) × (words ≡ None)) }
     {
         let subfields = Subfields::new(text);

@@ -2,7 +2,7 @@
 ghost use Rattle.std.specs.Prelude.{◌≡◌, ◌≤◌, ◌<◌, ◌∷◌, [], length, option_map, is_some, Some, None, IfSome, IfNone, MatchResult};
 ghost use Rattle.definitions.specs.Pieces.{Inside, ByMark, IsMark, IsCountedItem, Plain, spot_behind, pieces_at, pieces_of, subfields_of};
 ghost use Rattle.definitions.specs.Symbols.{number_read};
-ghost use Rattle.definitions.specs.Operands.{NumberWord, CountedItemWords, data_word, all_words, onto_all};
+ghost use Rattle.definitions.specs.Operands.{NumberWord, CountedItemWords, data_word, all_read, onto_all};
 ghost use Rattle.definitions.specs.declared.letter.Letter.TheVariants as letter;
 ghost use Rattle.expr_forms.specs.Joins.Elements.{sign_as};
 ghost use Rattle.expr_forms.specs.Joins.Numbers.{AreDigits};
@@ -137,7 +137,7 @@ fn digits_word<'a>(base: NumberBase, digits: &[u8]) -> Option<Datum<'a>>
 #[inline(always)]
 fn next_word<'a>(base: NumberBase, subfields: &mut Subfields<'a>) -> Option<Option<Datum<'a>>>
     ensures none { IfNone result ((subfields.old ≡ []) × (subfields.new ≡ [])) }
-    ensures some { IfSome result (λ word. all_words (data_word base) subfields.old ≡ onto_all (option_map datum_as word) (all_words (data_word base) subfields.new)) }
+    ensures some { IfSome result (λ word. all_read (data_word base) subfields.old ≡ onto_all (option_map datum_as word) (all_read (data_word base) subfields.new)) }
     ensures fewer { IfSome result (λ word. length subfields.new < length subfields.old) }
 {
     if let Some(digits) = subfields.next_digits() {
@@ -154,7 +154,7 @@ fn next_word<'a>(base: NumberBase, subfields: &mut Subfields<'a>) -> Option<Opti
 
 /// Whether each subfield is lawful in DATA.
 fn are_words(base: NumberBase, subfields: Subfields<'_>) -> bool
-    ensures { result ≡ is_some (all_words (data_word base) subfields.entry) }
+    ensures { result ≡ is_some (all_read (data_word base) subfields.entry) }
 {
     let mut rest = subfields;
     'subfields: loop {
@@ -175,20 +175,20 @@ pub struct DataWords<'a> {
 
 impl<'a> Model for DataWords<'a> {
     ghost use Rattle.std.specs.Prelude.{List, [], ◌≡◌, true, is_some, unwrap_or};
-    ghost use Rattle.definitions.specs.Operands.{Datum, data_word, all_words};
+    ghost use Rattle.definitions.specs.Operands.{Datum, data_word, all_read};
 
     ghost Value = { List Datum };
 
-    ghost view = { λ w. unwrap_or (all_words (data_word w.base) w.subfields) [] };
+    ghost view = { λ w. unwrap_or (all_read (data_word w.base) w.subfields) [] };
 
-    ghost invariant = { λ w. is_some (all_words (data_word w.base) w.subfields) ≡ true };
+    ghost invariant = { λ w. is_some (all_read (data_word w.base) w.subfields) ≡ true };
 }
 
 impl<'a> DataWords<'a> {
     /// The words of a field of at most 711 characters: V where a subfield is not lawful.
     pub fn read(text: &'a [u8], base: NumberBase) -> Result<DataWords<'a>, Letter>
         requires { length text.now ≤ 711 }
-        ensures { let words = all_words (data_word base) (subfields_of (pieces_of text.now)) in
+        ensures { let words = all_read (data_word base) (subfields_of (pieces_of text.now)) in
             MatchResult result (λ found. words ≡ Some found) (λ fault. (fault ≡ letter.V) × (words ≡ None)) }
     {
         let subfields = Subfields::new(text);

@@ -55,13 +55,13 @@ pub struct KeptData {
 
 impl Model for KeptData {
     ghost use Rattle.std.specs.Prelude.{List, [], ◌≡◌, true, is_some, unwrap_or};
-    ghost use Rattle.definitions.specs.Operands.{Datum, data_word, all_words};
+    ghost use Rattle.definitions.specs.Operands.{Datum, data_word, all_read};
 
     ghost Value = { List Datum };
 
-    ghost view = { λ w. unwrap_or (all_words (data_word w.base) w.subfields) [] };
+    ghost view = { λ w. unwrap_or (all_read (data_word w.base) w.subfields) [] };
 
-    ghost invariant = { λ w. is_some (all_words (data_word w.base) w.subfields) ≡ true };
+    ghost invariant = { λ w. is_some (all_read (data_word w.base) w.subfields) ≡ true };
 }
 
 impl DataWords<'_> {
@@ -101,13 +101,13 @@ pub struct KeptBits {
 
 impl Model for KeptBits {
     ghost use Rattle.std.specs.Prelude.{List, [], ◌≡◌, true, is_some, unwrap_or};
-    ghost use Rattle.definitions.specs.Operands.{BitField, vfd_field, all_fields};
+    ghost use Rattle.definitions.specs.Operands.{BitField, vfd_field, all_read};
 
     ghost Value = { List BitField };
 
-    ghost view = { λ f. unwrap_or (all_fields (vfd_field f.literals f.base) f.subfields) [] };
+    ghost view = { λ f. unwrap_or (all_read (vfd_field f.literals f.base) f.subfields) [] };
 
-    ghost invariant = { λ f. is_some (all_fields (vfd_field f.literals f.base) f.subfields) ≡ true };
+    ghost invariant = { λ f. is_some (all_read (vfd_field f.literals f.base) f.subfields) ≡ true };
 }
 
 impl BitFields<'_> {

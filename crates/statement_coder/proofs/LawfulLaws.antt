@@ -1,6 +1,6 @@
 -- What is read in DATA has no literals, and what is read in ENTRY and EXT are lawful names.
 use Rattle.std.{proofs.Common.{◌≡◌, Bool, true, false, List, [], ◌∷◌, ◌++◌, Option, Some, None, refl, sym, ap, ap₂, ◌∙◌, if◌then◌else◌}, specs.Prelude.{flat_map, map, option_map}, specs.List.AllByRecursion}
-use Rattle.definitions.specs.{Expressions.{Literal, Sign, NoSign, PlusSign, MinusSign}, Literals.datum_literals, Operands.{Datum, NumberWord, data_word, all_words, onto_all, linked_name}, Pieces.{Piece, Plain, IsMark, IsCountedItem, Plus, Minus}, Symbols.{Number, number_read, is_linked_name}, declared.number_base.NumberBase.NumberBase}
+use Rattle.definitions.specs.{Expressions.{Literal, Sign, NoSign, PlusSign, MinusSign}, Literals.datum_literals, Operands.{Datum, NumberWord, data_word, all_read, onto_all, linked_name}, Pieces.{Piece, Plain, IsMark, IsCountedItem, Plus, Minus}, Symbols.{Number, number_read, is_linked_name}, declared.number_base.NumberBase.NumberBase}
 use Rattle.statement_coder.specs.Joins.Readings.{IsLawfulName}
 
 -- the literals of what may be there
@@ -29,13 +29,13 @@ onto_all-bare None words d w = refl
 onto_all-bare (Some datum) None d w = refl
 onto_all-bare (Some datum) (Some words) d w = ap₂ (λ (a b : List Literal). a ++ b) d w
 
-all_words-bare : (base : NumberBase) (subfields : List (List Piece)) → literals_of_all (all_words (data_word base) subfields) ≡ []
-all_words-bare base [] = refl
-all_words-bare base (subfield ∷ subfields) = onto_all-bare (data_word base subfield) (all_words (data_word base) subfields) (data_word-bare base subfield) (all_words-bare base subfields)
+all_read-bare : (base : NumberBase) (subfields : List (List Piece)) → literals_of_all (all_read (data_word base) subfields) ≡ []
+all_read-bare base [] = refl
+all_read-bare base (subfield ∷ subfields) = onto_all-bare (data_word base subfield) (all_read (data_word base) subfields) (data_word-bare base subfield) (all_read-bare base subfields)
 
 -- the words of DATA have no literals
-pub data-lawful : (base : NumberBase) (subfields : List (List Piece)) (words : List Datum) → all_words (data_word base) subfields ≡ Some words → flat_map datum_literals words ≡ []
-data-lawful base subfields words e = sym (ap literals_of_all e) ∙ all_words-bare base subfields
+pub data-lawful : (base : NumberBase) (subfields : List (List Piece)) (words : List Datum) → all_read (data_word base) subfields ≡ Some words → flat_map datum_literals words ≡ []
+data-lawful base subfields words e = sym (ap literals_of_all e) ∙ all_read-bare base subfields
 
 linked_name-lawful : (pieces : List Piece) → IsLawfulName (linked_name pieces)
 linked_name-lawful (Plain text ∷ []) = by (is_linked_name text) refl

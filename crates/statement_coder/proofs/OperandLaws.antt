@@ -1,6 +1,6 @@
 -- The text of a DIS fills its words.
 use Rattle.std.{proofs.Common.{◌≡◌, ℕ, ◌+◌, ◌*◌, ◌/◌, Bool, true, false, List, [], ◌∷◌, ◌++◌, Option, Some, None, length, take, drop, map, replicate, arith, length-append, if◌then◌else◌}, specs.Prelude.{nat_le, codes, take_while, not, nat_eq}, proofs.lemmas.List.{length-take-le, length-replicate}}
-use Rattle.definitions.specs.{Characters.{blank, is_among, same_text, slash, comma}, Expressions.Expression, Kinds.{word_bits, allows_literals}, Matching.{Instruction, central_of}, Operands.{Operand, TextOperand, UseName, UseBefore, UseRefused, BadOperand, Unread, Datum, BitField, word_characters, count_read, text_operand, dis_operand, value_operand, plain_of, one_value, words_operand, all_words, data_word, con_word, bits_operand, all_fields, vfd_field, base_operand, common_operand, is_common_name, use_operand, central_operand, one_or_two, just_one, by_form, peripheral_operand, instruction_operand, operand_of}, Operations.Operation, PeripheralTable.{PeripheralForm, Ignored, Short, ShortJump, Shift, Wide, Long, PeripheralRow, peripheral_row}, Pieces.{Piece, pieces_of, subfields_of}, Symbols.{number_read, is_block_name}, declared.number_base.NumberBase.NumberBase, declared.deck_kind.DeckKind.TheVariants.{Rel, Abs, Periph}, declared.deck_kind.DeckKind.DeckKind}
+use Rattle.definitions.specs.{Characters.{blank, is_among, same_text, slash, comma}, Expressions.Expression, Kinds.{word_bits, allows_literals}, Matching.{Instruction, central_of}, Operands.{Operand, TextOperand, UseName, UseBefore, UseRefused, BadOperand, Unread, Datum, BitField, word_characters, count_read, text_operand, dis_operand, value_operand, plain_of, one_value, words_operand, all_read, data_word, con_word, bits_operand, vfd_field, base_operand, common_operand, is_common_name, use_operand, central_operand, one_or_two, just_one, by_form, peripheral_operand, instruction_operand, operand_of}, Operations.Operation, PeripheralTable.{PeripheralForm, Ignored, Short, ShortJump, Shift, Wide, Long, PeripheralRow, peripheral_row}, Pieces.{Piece, pieces_of, subfields_of}, Symbols.{number_read, is_block_name}, declared.number_base.NumberBase.NumberBase, declared.deck_kind.DeckKind.TheVariants.{Rel, Abs, Periph}, declared.deck_kind.DeckKind.DeckKind}
 use Rattle.definitions.specs.Operations as op
 
 -- as many characters as the words have, if the operand is a text
@@ -102,9 +102,9 @@ operand_of-fills kind base op.Loc name text = fills-one kind base (subfields_of 
 operand_of-fills kind base op.Equ name text = fills-one kind base (subfields_of (pieces_of text))
 operand_of-fills kind base op.Bss name text = fills-one kind base (subfields_of (pieces_of text))
 operand_of-fills kind base op.Bssz name text = fills-one kind base (subfields_of (pieces_of text))
-operand_of-fills kind base op.Data name text = fills-words kind (all_words (data_word base) (subfields_of (pieces_of text)))
-operand_of-fills kind base op.Con name text = fills-words kind (all_words (con_word (allows_literals kind) base) (subfields_of (pieces_of text)))
-operand_of-fills kind base op.Vfd name text = fills-bits kind (all_fields (vfd_field (allows_literals kind) base) (subfields_of (pieces_of text)))
+operand_of-fills kind base op.Data name text = fills-words kind (all_read (data_word base) (subfields_of (pieces_of text)))
+operand_of-fills kind base op.Con name text = fills-words kind (all_read (con_word (allows_literals kind) base) (subfields_of (pieces_of text)))
+operand_of-fills kind base op.Vfd name text = fills-bits kind (all_read (vfd_field (allows_literals kind) base) (subfields_of (pieces_of text)))
 operand_of-fills kind base op.Dis name text = fills-dis kind base text
 operand_of-fills kind base op.Entry name text = tt
 operand_of-fills kind base op.Ext name text = tt

@@ -3,7 +3,7 @@
 ghost use Rattle.std.specs.Prelude.{◌≡◌, ◌≤◌, true, false, length};
 ghost use Rattle.definitions.specs.Pieces.{pieces_of, subfields_of};
 ghost use Rattle.definitions.specs.PeripheralTable.{peripheral_row};
-ghost use Rattle.definitions.specs.Operands.{operand_of, central_operand, peripheral_operand, base_operand, words_operand, bits_operand, all_words, data_word, con_word, all_fields, vfd_field, one_value, dis_operand, use_operand};
+ghost use Rattle.definitions.specs.Operands.{operand_of, central_operand, peripheral_operand, base_operand, words_operand, bits_operand, all_read, data_word, con_word, vfd_field, one_value, dis_operand, use_operand};
 ghost use Rattle.definitions.specs.Matching.{central_of};
 ghost use Rattle.definitions.specs.Kinds.{allows_literals};
 ghost use Rattle.definitions.specs.Operations.{is_data};
@@ -89,7 +89,7 @@ fn allows_literals(kind: DeckKind) -> bool
 /// The operand of DATA.
 fn read_data(base: NumberBase, text: &[u8]) -> Reading<'_>
     requires { length text.now ≤ 711 }
-    ensures reading { IsReading result (words_operand (all_words (data_word base) (subfields_of (pieces_of text.now)))) }
+    ensures reading { IsReading result (words_operand (all_read (data_word base) (subfields_of (pieces_of text.now)))) }
     ensures lawful { IsLawful result }
 {
     match DataWords::read(text, base) {
@@ -101,7 +101,7 @@ fn read_data(base: NumberBase, text: &[u8]) -> Reading<'_>
 /// The operand of CON.
 fn read_con(kind: DeckKind, base: NumberBase, text: &[u8]) -> Reading<'_>
     requires { length text.now ≤ 711 }
-    ensures reading { IsReading result (words_operand (all_words (con_word (allows_literals kind) base) (subfields_of (pieces_of text.now)))) }
+    ensures reading { IsReading result (words_operand (all_read (con_word (allows_literals kind) base) (subfields_of (pieces_of text.now)))) }
     ensures lawful { IsLawful result }
 {
     match ConWords::read(text, allows_literals(kind), base) {
@@ -113,7 +113,7 @@ fn read_con(kind: DeckKind, base: NumberBase, text: &[u8]) -> Reading<'_>
 /// The operand of VFD.
 fn read_vfd(kind: DeckKind, base: NumberBase, text: &[u8]) -> Reading<'_>
     requires { length text.now ≤ 711 }
-    ensures reading { IsReading result (bits_operand (all_fields (vfd_field (allows_literals kind) base) (subfields_of (pieces_of text.now)))) }
+    ensures reading { IsReading result (bits_operand (all_read (vfd_field (allows_literals kind) base) (subfields_of (pieces_of text.now)))) }
     ensures lawful { IsLawful result }
 {
     match BitFields::read(text, allows_literals(kind), base) {

@@ -1,10 +1,10 @@
 use Rattle.std.{proofs.Common.{◌≡◌, length}, specs.Prelude.is_some}
-use Rattle.definitions.specs.Operands.{vfd_field, all_fields}
+use Rattle.definitions.specs.Operands.{vfd_field, all_read}
 use Rattle.expr_forms.proofs.bit_fields.are_fields.Given as goal
 
 -- what is left is lawful where all is
 abbrev pub invariant-subfields : goal.invariant-subfields
-invariant-subfields l = is_some (all_fields (vfd_field l.literals l.base) l.rest) ≡ is_some (all_fields (vfd_field l.literals l.base) l.fn.subfields)
+invariant-subfields l = is_some (all_read (vfd_field l.literals l.base) l.rest) ≡ is_some (all_read (vfd_field l.literals l.base) l.fn.subfields)
 
 abbrev pub decreases-subfields : goal.decreases-subfields
 decreases-subfields l = length l.rest
