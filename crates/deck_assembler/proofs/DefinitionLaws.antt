@@ -1,6 +1,6 @@
 -- What a statement defines is new, so it stands behind what was defined before.
-use Rattle.std.{proofs.Common.{◌≡◌, ℕ, ◌&&◌, ◌||◌, not, Bool, true, false, true≢false, List, [], ◌∷◌, ◌++◌, Option, Some, None, is_some, refl, sym, ap, ◌∙◌, subst, if◌then◌else◌}, specs.List.AllByRecursion}
-use Rattle.definitions.{specs.Characters.same_text, specs.Forms.Form, specs.Operations.{Operation, is_labelled}, specs.Operands.{Operand, NamesOperand}, specs.Settled.{Definition, Settled, defined_in, or_form, defined}, specs.Settling.{View, external, externals, is_known, first_definition, definitions_of, settle}, specs.Statements.Statement, specs.Symbols.is_symbol, specs.declared.deck_kind.DeckKind.DeckKind, specs.declared.deck_kind.DeckKind.TheVariants.{Rel, Abs, Periph}, proofs.TextLaws.same_text-true}
+use Rattle.std.{proofs.Common.{◌≡◌, ℕ, ◌&&◌, ◌||◌, not, Bool, true, false, true≢false, List, [], ◌∷◌, ◌++◌, Option, Some, None, is_some, refl, sym, ap, ◌∙◌, subst, if◌then◌else◌}, specs.List.AllByRecursion, specs.Option.option_or}
+use Rattle.definitions.{specs.Characters.same_text, specs.Forms.Form, specs.Operations.{Operation, is_labelled}, specs.Operands.{Operand, NamesOperand}, specs.Settled.{Definition, Settled, defined_in, defined}, specs.Settling.{View, external, externals, is_known, first_definition, definitions_of, settle}, specs.Statements.Statement, specs.Symbols.is_symbol, specs.declared.deck_kind.DeckKind.DeckKind, specs.declared.deck_kind.DeckKind.TheVariants.{Rel, Abs, Periph}, proofs.TextLaws.same_text-true, proofs.TestLaws.{option_or-none, option_or-assoc}}
 use Rattle.definitions.specs.Operations as op
 use Rattle.expr_forms.specs.declared.use_fields.UseField.TheVariants as use_field
 use Rattle.statement_coder.specs.Joins.{Definitions.{defined_by, externals_of}, Readings.{IsReading, IsLawful, IsLawfulName}}
@@ -80,47 +80,39 @@ fresh-of v Periph operation operand location value counter l = fresh-where v (is
 
 -- the values with definitions behind them
 abbrev pub joined : View → List Definition → View
-joined v definitions other = or_form (v other) (defined_in other definitions)
+joined v definitions other = option_or (v other) (defined_in other definitions)
 
-pub or_form-none : (o : Option Form) → or_form o None ≡ o
-or_form-none None = refl
-or_form-none (Some form) = refl
+pub option_or-some : (o other : Option Form) → is_some o ≡ true → option_or o other ≡ o
+option_or-some None other h = absurd (true≢false (sym h))
+option_or-some (Some form) other h = refl
 
-pub or_form-some : (o other : Option Form) → is_some o ≡ true → or_form o other ≡ o
-or_form-some None other h = absurd (true≢false (sym h))
-or_form-some (Some form) other h = refl
-
-or_form-assoc : (a b c : Option Form) → or_form (or_form a b) c ≡ or_form a (or_form b c)
-or_form-assoc None b c = refl
-or_form-assoc (Some form) b c = refl
-
-pub is_some-or : (a b : Option Form) → is_some (or_form a b) ≡ (is_some b || is_some a)
+pub is_some-or : (a b : Option Form) → is_some (option_or a b) ≡ (is_some b || is_some a)
 is_some-or None None = refl
 is_some-or None (Some form) = refl
 is_some-or (Some form) None = refl
 is_some-or (Some form) (Some other) = refl
 
 pub defined_in-push : (other : List ℕ) (definitions : List Definition) (definition : Definition) →
-    defined_in other (definitions ++ definition ∷ []) ≡ or_form (defined_in other definitions) (if same_text other definition.name then Some definition.form else None)
+    defined_in other (definitions ++ definition ∷ []) ≡ option_or (defined_in other definitions) (if same_text other definition.name then Some definition.form else None)
 defined_in-push other [] definition = refl
 defined_in-push other (first ∷ definitions) definition = by (same_text other first.name) (defined_in-push other definitions definition)
   where
     last : Option Form
     last = if same_text other definition.name then Some definition.form else None
 
-    by : (b : Bool) → defined_in other (definitions ++ definition ∷ []) ≡ or_form (defined_in other definitions) last → (if b then Some first.form else defined_in other (definitions ++ definition ∷ []))
-        ≡ or_form (if b then Some first.form else defined_in other definitions) last
+    by : (b : Bool) → defined_in other (definitions ++ definition ∷ []) ≡ option_or (defined_in other definitions) last → (if b then Some first.form else defined_in other (definitions ++ definition ∷ []))
+        ≡ option_or (if b then Some first.form else defined_in other definitions) last
     by true e = refl
     by false e = e
 
 -- new definitions may stand in front
-pub joined-fresh : (v : View) (definitions : List Definition) → AreFresh v definitions → (other : List ℕ) → joined v definitions other ≡ or_form (defined_in other definitions) (v other)
-joined-fresh v [] h other = or_form-none (v other)
+pub joined-fresh : (v : View) (definitions : List Definition) → AreFresh v definitions → (other : List ℕ) → joined v definitions other ≡ option_or (defined_in other definitions) (v other)
+joined-fresh v [] h other = option_or-none (v other) None refl
 joined-fresh v (first ∷ definitions) h other = by (same_text other first.name) refl (joined-fresh v definitions h.1 other)
   where
-    by : (b : Bool) → same_text other first.name ≡ b → joined v definitions other ≡ or_form (defined_in other definitions) (v other) →
-        or_form (v other) (if b then Some first.form else defined_in other definitions) ≡ or_form (if b then Some first.form else defined_in other definitions) (v other)
-    by true e rest = ap (λ o. or_form o (Some first.form)) (ap v (same_text-true other first.name e) ∙ h.0.1)
+    by : (b : Bool) → same_text other first.name ≡ b → joined v definitions other ≡ option_or (defined_in other definitions) (v other) →
+        option_or (v other) (if b then Some first.form else defined_in other definitions) ≡ option_or (if b then Some first.form else defined_in other definitions) (v other)
+    by true e rest = ap (λ o. option_or o (Some first.form)) (ap v (same_text-true other first.name e) ∙ h.0.1)
     by false e rest = rest
 
 -- one external more
@@ -131,21 +123,21 @@ external-step v name so_far known = λ i other. (at other ∙ by other (is_known
     form : Form
     form = (external name).form
 
-    at : (other : List ℕ) → with_symbol name form (joined v so_far) other ≡ or_form (joined v so_far other) (if same_text other name then Some form else None)
-    at other = ap (λ b. or_form (joined v so_far other) (if b && same_text other name then Some form else None)) known
+    at : (other : List ℕ) → with_symbol name form (joined v so_far) other ≡ option_or (joined v so_far other) (if same_text other name then Some form else None)
+    at other = ap (λ b. option_or (joined v so_far other) (if b && same_text other name then Some form else None)) known
 
-    there : (other : List ℕ) → is_known v name so_far ≡ true → (c : Bool) → same_text other name ≡ c → or_form (joined v so_far other) (if c then Some form else None) ≡ joined v so_far other
+    there : (other : List ℕ) → is_known v name so_far ≡ true → (c : Bool) → same_text other name ≡ c → option_or (joined v so_far other) (if c then Some form else None) ≡ joined v so_far other
     there other e true f =
-        or_form-some (joined v so_far other) (Some form)
+        option_or-some (joined v so_far other) (Some form)
         (ap (λ n. is_some (joined v so_far n)) (same_text-true other name f) ∙ is_some-or (v name) (defined_in name so_far) ∙ e)
-    there other e false f = or_form-none (joined v so_far other)
+    there other e false f = option_or-none (joined v so_far other) None refl
 
     by : (other : List ℕ) (b : Bool) → is_known v name so_far ≡ b →
-        or_form (joined v so_far other) (if same_text other name then Some form else None) ≡ joined v (if b then so_far else so_far ++ external name ∷ []) other
+        option_or (joined v so_far other) (if same_text other name then Some form else None) ≡ joined v (if b then so_far else so_far ++ external name ∷ []) other
     by other true e = there other e (same_text other name) refl
     by other false e =
-        or_form-assoc (v other) (defined_in other so_far) (if same_text other name then Some form else None)
-        ∙ ap (or_form (v other)) (sym (defined_in-push other so_far (external name)))
+        option_or-assoc (v other) (defined_in other so_far) (if same_text other name then Some form else None)
+        ∙ ap (option_or (v other)) (sym (defined_in-push other so_far (external name)))
 
 pub externals-joined : (v : View) (names : List (Option (List ℕ))) (so_far : List Definition) → AllByRecursion IsLawfulName names →
     with_externals names (joined v so_far) ≡ joined v (externals v names so_far)
@@ -157,15 +149,15 @@ externals-joined v (Some name ∷ names) so_far l =
 
 -- what an EXT defines, behind what was defined before
 pub names-joined : (v : View) (operand : Operand) → IsLawfulOperand operand → with_names operand v ≡ joined v (externals_of v operand)
-names-joined v (NamesOperand names) l = ap (with_externals names) (λ i other. sym (or_form-none (v other)) i) ∙ externals-joined v names [] l
-names-joined v operand l = λ i other. sym (or_form-none (v other)) i
+names-joined v (NamesOperand names) l = ap (with_externals names) (λ i other. sym (option_or-none (v other) None refl) i) ∙ externals-joined v names [] l
+names-joined v operand l = λ i other. sym (option_or-none (v other) None refl) i
 
 pub symbol-joined : (v : View) (name : List ℕ) (form : Form) → is_known_name name ≡ true → with_symbol name form v ≡ joined v (record { name = name; form = form } ∷ [])
-symbol-joined v name form known = λ i other. ap (λ b. or_form (v other) (if b && same_text other name then Some form else None)) known i
+symbol-joined v name form known = λ i other. ap (λ b. option_or (v other) (if b && same_text other name then Some form else None)) known i
 
 defined-joined : (v : View) (location : List ℕ) (operand : Operand) (what : code.Defines) → IsLawfulOperand operand → AreFresh v (defined_by v location operand what) →
     with_defined location operand what v ≡ joined v (defined_by v location operand what)
-defined-joined v location operand defines.Nothing l h = λ i other. sym (or_form-none (v other)) i
+defined-joined v location operand defines.Nothing l h = λ i other. sym (option_or-none (v other) None refl) i
 defined-joined v location operand (defines.Symbol form) l h = symbol-joined v location form h.0.0
 defined-joined v location operand defines.Externals l h = names-joined v operand l
 

@@ -1,6 +1,6 @@
 -- Entries, and the table of the names that are seen.
-use Rattle.std.{proofs.Common.{◌≡◌, ◌∙◌, ℕ, ◌&&◌, Bool, true, false, true≢false, List, [], ◌∷◌, ◌++◌, Option, Some, None, refl, ap, sym, if◌then◌else◌}, specs.Prelude.is_some}
-use Rattle.definitions.specs.{Characters.same_text, Entries.{entry_fault, with_entry}, Forms.Form, Settled.{Settled, Definition, defined_in, defined, or_form}}
+use Rattle.std.{proofs.Common.{◌≡◌, ◌∙◌, ℕ, ◌&&◌, Bool, true, false, true≢false, List, [], ◌∷◌, ◌++◌, Option, Some, None, refl, ap, sym, if◌then◌else◌}, specs.Prelude.is_some, specs.Option.option_or}
+use Rattle.definitions.specs.{Characters.same_text, Entries.{entry_fault, with_entry}, Forms.Form, Settled.{Settled, Definition, defined_in, defined}}
 use Rattle.definitions.specs.declared.letter.Letter.TheVariants as letter
 use Rattle.deck_assembler.{proofs.DefinitionLaws.defined_in-push, specs.Joins.FirstSymbols.{is_known_name, symbol_in, with_symbol}, specs.Joins.SharedNames.AreSeen}
 
@@ -51,8 +51,8 @@ enter-seen old new entries after name form known e pushed are = λ i other. at o
     at : (other : List ℕ) → symbol_in new other ≡ defined_in other after
     at other =
         ap (λ (f : List ℕ → Option Form). f other) e
-        ∙ ap (λ (f : List ℕ → Option Form). or_form (f other) (if is_known_name name && same_text other name then Some form else None)) are
-        ∙ ap (λ t. or_form (defined_in other entries) (if t && same_text other name then Some form else None)) known
+        ∙ ap (λ (f : List ℕ → Option Form). option_or (f other) (if is_known_name name && same_text other name then Some form else None)) are
+        ∙ ap (λ t. option_or (defined_in other entries) (if t && same_text other name then Some form else None)) known
         ∙ sym (defined_in-push other entries (record { name = name; form = form }))
         ∙ ap (defined_in other) (sym pushed)
 

@@ -1,7 +1,7 @@
 -- A table of entries, each under the number of its name.
-use Rattle.std.{proofs.Common.{◌≡◌, ◌<◌, ◌==◌, ℕ, ◌∙◌, Bool, true, false, true≢false, cond, List, [], ◌∷◌, ◌++◌, map, Option, Some, None, refl, ap, sym, subst, if◌then◌else◌}, specs.Prelude.{is_some, nat_eq, slice_index_or, Result, Ok, Err, OnOk, OnErr}, specs.Map.{lookup, values_of}, specs.Option.option_map, proofs.lemmas.List.map-append}
+use Rattle.std.{proofs.Common.{◌≡◌, ◌<◌, ◌==◌, ℕ, ◌∙◌, Bool, true, false, true≢false, cond, List, [], ◌∷◌, ◌++◌, map, Option, Some, None, refl, ap, sym, subst, if◌then◌else◌}, specs.Prelude.{is_some, nat_eq, slice_index_or, Result, Ok, Err, OnOk, OnErr}, specs.Map.{lookup, values_of}, specs.Option.{option_map, option_or}, proofs.lemmas.List.map-append}
 use Rattle.indexmap.{specs.IndexMap.{IndexMap, insert_entry}, proofs.CallerLemmas.insert_entry-new}
-use Rattle.definitions.specs.{Entries.with_entry, Forms.Form, Settled.{Definition, or_form}}
+use Rattle.definitions.specs.{Entries.with_entry, Forms.Form, Settled.Definition}
 use Rattle.deck_assembler.{specs.Joins.FirstSymbols.{is_known_name, number_of_name, symbol_in}, specs.Joins.SharedNames.{AreSeen, IsEntryTable, forms_in, with_row}, specs.Joins.SymbolKeys.{is_name, key_of}, specs.declared.symbol_key.SymbolKey.SymbolKey, proofs.EntryLaws.{enter-new, enter-old, enter-seen}, proofs.SymbolLaws.{both_first, symbol_in-kept, symbol_in-some}}
 
 -- the value of a name is that of its entry
@@ -19,12 +19,12 @@ is_some-map None = refl
 is_some-map (Some entry) = refl
 
 -- what stands behind others counts where they have none
-lookup-behind : (other code : ℕ) (form : Form) (forms : List (ℕ × Form)) → lookup (nat_eq other) (forms ++ (code, form) ∷ []) ≡ or_form (lookup (nat_eq other) forms) (if other == code then Some form else None)
+lookup-behind : (other code : ℕ) (form : Form) (forms : List (ℕ × Form)) → lookup (nat_eq other) (forms ++ (code, form) ∷ []) ≡ option_or (lookup (nat_eq other) forms) (if other == code then Some form else None)
 lookup-behind other code form [] = refl
 lookup-behind other code form (row ∷ forms) = by (nat_eq other row.0) (lookup-behind other code form forms)
   where
-    by : (b : Bool) → lookup (nat_eq other) (forms ++ (code, form) ∷ []) ≡ or_form (lookup (nat_eq other) forms) (if other == code then Some form else None) →
-        cond b (Some row.1) (lookup (nat_eq other) (forms ++ (code, form) ∷ [])) ≡ or_form (cond b (Some row.1) (lookup (nat_eq other) forms)) (if other == code then Some form else None)
+    by : (b : Bool) → lookup (nat_eq other) (forms ++ (code, form) ∷ []) ≡ option_or (lookup (nat_eq other) forms) (if other == code then Some form else None) →
+        cond b (Some row.1) (lookup (nat_eq other) (forms ++ (code, form) ∷ [])) ≡ option_or (cond b (Some row.1) (lookup (nat_eq other) forms)) (if other == code then Some form else None)
     by true e = refl
     by false e = e
 
@@ -66,7 +66,7 @@ module _ (table : List (ℕ × Definition)) (name : List ℕ) (form : Form) (key
   longer-forms : forms_in (table ++ (key.code, entry) ∷ []) ≡ forms_in table ++ (key.code, form) ∷ []
   longer-forms = map-append (λ (row : ℕ × Definition). (row.0, row.1.form)) table ((key.code, entry) ∷ [])
 
-  kept : (other : ℕ) → lookup (nat_eq other) (forms_in (table ++ (key.code, entry) ∷ [])) ≡ or_form (lookup (nat_eq other) (forms_in table)) (if other == key.code then Some form else None)
+  kept : (other : ℕ) → lookup (nat_eq other) (forms_in (table ++ (key.code, entry) ∷ [])) ≡ option_or (lookup (nat_eq other) (forms_in table)) (if other == key.code then Some form else None)
   kept other = ap (lookup (nat_eq other)) longer-forms ∙ lookup-behind other key.code form (forms_in table)
 
   -- the entries of a table with an entry more are those with the name more

@@ -1,12 +1,12 @@
 -- The externals among what statements define.
 use Rattle.std.{proofs.Common.{◌≡◌, ◌∙◌, ℕ, Bool, true, false, true≢false, List, [], ◌∷◌, ◌++◌, Option, Some, None, is_some, refl, ap, sym, append-nil, append_assoc, if◌then◌else◌}, specs.Prelude.filter_map, specs.List.AllByRecursion, proofs.lemmas.List.Elements.filter_map-append}
-use Rattle.definitions.specs.{Entries.{external_name, externals_by, externals_of}, Operands.{Operand, NamesOperand}, Operations.Operation, Settled.{Settled, Definition, defined_in, defined}, Settling.{View, external, externals, is_known}}
+use Rattle.definitions.{specs.Entries.{external_name, externals_by, externals_of}, specs.Operands.{Operand, NamesOperand}, specs.Operations.Operation, specs.Settled.{Settled, Definition, defined_in, defined}, specs.Settling.{View, external, externals, is_known}, proofs.TestLaws.option_or-none}
 use Rattle.definitions.specs.Operations as op
 use Rattle.statement_coder.specs.Joins.Definitions as made
 use Rattle.statement_coder.specs.Joins.{Definitions.is_ext, Readings.IsLawfulName}
 use Rattle.statement_coder.specs.declared.definitions_made.Defines as code
 use Rattle.statement_coder.specs.declared.definitions_made.Defines.TheVariants as defines
-use Rattle.deck_assembler.{specs.Joins.FirstSymbols.IsLawfulOperand, specs.Joins.SharedNames.{with_new, with_new_by, with_new_of}, proofs.DefinitionLaws.{joined, or_form-none, is_some-or, external-step}, proofs.NameTexts.linked-known}
+use Rattle.deck_assembler.{specs.Joins.FirstSymbols.IsLawfulOperand, specs.Joins.SharedNames.{with_new, with_new_by, with_new_of}, proofs.DefinitionLaws.{joined, is_some-or, external-step}, proofs.NameTexts.linked-known}
 
 filter_map-push : (so_far : List Definition) (name : List ℕ) → filter_map external_name (so_far ++ external name ∷ []) ≡ filter_map external_name so_far ++ name ∷ []
 filter_map-push so_far name = filter_map-append external_name so_far (external name ∷ [])
@@ -28,7 +28,7 @@ new-externals v (Some name ∷ names) so_far list lawful =
     ∙ new-externals v names (if is_known v name so_far then so_far else so_far ++ external name ∷ []) list lawful.1
 
 joined-none : (v : View) → v ≡ joined v []
-joined-none v = λ i other. sym (or_form-none (v other)) i
+joined-none v = λ i other. sym (option_or-none (v other) None refl) i
 
 new-of : (v : View) (operand : Operand) (list : List (List ℕ)) → IsLawfulOperand operand → with_new_of operand v list ≡ list ++ filter_map external_name (made.externals_of v operand)
 new-of v (NamesOperand names) list lawful = ap (λ (w : View). with_new names w list) (joined-none v) ∙ ap (with_new names (joined v [])) (sym (append-nil list)) ∙ new-externals v names [] list lawful

@@ -1,6 +1,6 @@
 -- Neutral statements settle alike in every kind of deck but for their two counters, and decks of two kinds begin alike by neutral ones alone.
-use Rattle.std.{proofs.Common.{◌≡◌, ◌∙◌, ℕ, codes, ◌⊎◌, inl, inr, Bool, true, false, ◌&&◌, List, [], ◌∷◌, ◌++◌, Option, Some, None, map, flat_map, refl, sym, ap, ap₂, subst, if◌then◌else◌, append_assoc}, specs.Prelude.{reverse, nat_le, ◌||◌}, specs.List.AllByRecursion, proofs.lemmas.Bool.true≢false, proofs.lemmas.List.{map-append, reverse-append}}
-use Rattle.definitions.{specs.Blocks.{changes, open_names, block_in_use, blocks_used, nominal}, specs.Characters.same_text, specs.Counters.counting_in, specs.DeckKinds.{is_end, has_end, kind_made, kind_of, kind_of_statements, number_base_after}, specs.Fields.{Fields, fields_of}, specs.Forms.Form, specs.Letters.{entry_letters, letters_of}, specs.Operands.{Operand, Unread, BadOperand, base_operand, operand_of}, specs.Operations.{Operation, is_neutral, operation_of, or_instruction, is_instruction_name, pseudo_among, pseudo_instructions}, specs.Places.{no_position, position_in}, specs.Settled.{Settled, NoChange, Unchanged, defined, defined_in, or_form}, specs.Settling.{Seen, View, seen_of, number_base_of, all_neutral, settle, settled_all, settled_from, settled_read}, specs.StatementItems.{Context, Item, items_of, operand_items}, specs.Statements.Statement, specs.declared.deck_kind.DeckKind.DeckKind, specs.declared.deck_kind.DeckKind.TheVariants.{Rel, Abs, Periph}, specs.declared.letter.Letter.Letter, specs.declared.number_base.NumberBase.NumberBase, proofs.TextLaws.same_text-true}
+use Rattle.std.{proofs.Common.{◌≡◌, ◌∙◌, ℕ, codes, ◌⊎◌, inl, inr, Bool, true, false, ◌&&◌, List, [], ◌∷◌, ◌++◌, Option, Some, None, map, flat_map, refl, sym, ap, ap₂, subst, if◌then◌else◌, append_assoc}, specs.Prelude.{reverse, nat_le, ◌||◌}, specs.List.AllByRecursion, proofs.lemmas.Bool.true≢false, proofs.lemmas.List.{map-append, reverse-append}, specs.Option.option_or}
+use Rattle.definitions.{specs.Blocks.{changes, open_names, block_in_use, blocks_used, nominal}, specs.Characters.same_text, specs.Counters.counting_in, specs.DeckKinds.{is_end, has_end, kind_made, kind_of, kind_of_statements, number_base_after}, specs.Fields.{Fields, fields_of}, specs.Forms.Form, specs.Letters.{entry_letters, letters_of}, specs.Operands.{Operand, Unread, BadOperand, base_operand, operand_of}, specs.Operations.{Operation, is_neutral, operation_of, or_instruction, is_instruction_name, pseudo_among, pseudo_instructions}, specs.Places.{no_position, position_in}, specs.Settled.{Settled, NoChange, Unchanged, defined, defined_in}, specs.Settling.{Seen, View, seen_of, number_base_of, all_neutral, settle, settled_all, settled_from, settled_read}, specs.StatementItems.{Context, Item, items_of, operand_items}, specs.Statements.Statement, specs.declared.deck_kind.DeckKind.DeckKind, specs.declared.deck_kind.DeckKind.TheVariants.{Rel, Abs, Periph}, specs.declared.letter.Letter.Letter, specs.declared.number_base.NumberBase.NumberBase, proofs.TextLaws.same_text-true}
 use Rattle.definitions.specs.Operations as op
 use Rattle.deck_assembler.specs.Joins.Heads.{counter_of}
 
@@ -143,7 +143,7 @@ calm-step settled earlier calm behind = record {
   used = ap (λ change. blocks_used (change ∷ changes earlier)) calm.change ∙ behind.used;
   position = λ block. rw calm.placed (behind.position block);
   counting = λ block. rw calm.setting (behind.counting block);
-  symbols = λ name. ap (λ definitions. or_form (defined_in name definitions) (defined name earlier)) calm.definitions ∙ behind.symbols name;
+  symbols = λ name. ap (λ definitions. option_or (defined_in name definitions) (defined name earlier)) calm.definitions ∙ behind.symbols name;
 }
 
 settle-closed : (kind : DeckKind) (earlier : List Settled) (statement : Statement) (plain : Plain statement) → IsCalmBehind earlier →

@@ -1,6 +1,6 @@
 -- A table by number gives each name its own value.
-use Rattle.std.{proofs.Common.{◌≡◌, ℕ, ◌<◌, ◌==◌, ◌&&◌, not, Bool, true, false, true≢false, suc, zero, List, [], ◌∷◌, Option, Some, None, nat_lt, cond, inl, inr, refl, sym, ap, ◌∙◌, subst, arith, if◌then◌else◌}, specs.Prelude.{nat_eq, slice_index_or}, specs.List.list_all, specs.Map.lookup, specs.Option.is_some, proofs.lemmas.Bool.Decides.eqb_tells, proofs.lemmas.Bool.{lt-ltb, eq-eqb, eqb-true, ltb-true}}
-use Rattle.definitions.{specs.Characters.same_text, specs.Forms.Form, specs.Settled.or_form, proofs.TextLaws.{same_text-true, same_text-refl}}
+use Rattle.std.{proofs.Common.{◌≡◌, ℕ, ◌<◌, ◌==◌, ◌&&◌, not, Bool, true, false, true≢false, suc, zero, List, [], ◌∷◌, Option, Some, None, nat_lt, cond, inl, inr, refl, sym, ap, ◌∙◌, subst, arith, if◌then◌else◌}, specs.Prelude.{nat_eq, slice_index_or}, specs.List.list_all, specs.Map.lookup, specs.Option.{is_some, option_or}, proofs.lemmas.Bool.Decides.eqb_tells, proofs.lemmas.Bool.{lt-ltb, eq-eqb, eqb-true, ltb-true}}
+use Rattle.definitions.{specs.Characters.same_text, specs.Forms.Form, proofs.TextLaws.{same_text-true, same_text-refl}, proofs.TestLaws.option_or-none}
 use Rattle.deck_assembler.{specs.Joins.SymbolKeys.{is_name, key_of}, specs.declared.symbol_key.SymbolKey.SymbolKey, proofs.SymbolKeyLaws.same-name, specs.Joins.FirstSymbols.{is_known_name, number_of_name, symbol_in, with_symbol}}
 
 pub both_first : (x y : Bool) → (x && y) ≡ true → x ≡ true
@@ -48,7 +48,7 @@ symbol_in-some forms name found bytes h = by (is_name name) h ∙ sym (ap (λ b.
 
 -- what a new definition makes of the forms by number
 abbrev kept_form : ℕ → ℕ → Form → Option Form → Option Form
-kept_form other code form before = or_form before (if other == code then Some form else None)
+kept_form other code form before = option_or before (if other == code then Some form else None)
 
 -- two known names are one where their numbers are
 same-number : (name other : List ℕ) → is_known_name name ≡ true → is_known_name other ≡ true → (number_of_name other == number_of_name name) ≡ same_text other name
@@ -75,10 +75,10 @@ define-known : (old new : List (ℕ × Form)) (name : List ℕ) (form : Form) �
 define-known old new name form known kept other = by (is_known_name other) refl
   where
     by : (b : Bool) → is_known_name other ≡ b →
-        worth_if b new (number_of_name other) ≡ or_form (worth_if b old (number_of_name other)) (if is_known_name name && same_text other name then Some form else None)
+        worth_if b new (number_of_name other) ≡ option_or (worth_if b old (number_of_name other)) (if is_known_name name && same_text other name then Some form else None)
     by true e =
         kept (number_of_name other)
-        ∙ ap (λ c. or_form (lookup (nat_eq (number_of_name other)) old) (if c then Some form else None)) (same-number name other known e ∙ ap (λ c. c && same_text other name) (sym known))
+        ∙ ap (λ c. option_or (lookup (nat_eq (number_of_name other)) old) (if c then Some form else None)) (same-number name other known e ∙ ap (λ c. c && same_text other name) (sym known))
     by false e = none (same_text other name) refl ∙ ap (λ c. if c && same_text other name then Some form else None) (sym known)
       where
         none : (c : Bool) → same_text other name ≡ c → None ≡ (if c then Some form else None)
@@ -100,14 +100,10 @@ keep-new old new code form absent updates other =
     updates other
     ∙ elim (eqb_tells other code) [
       | inl e ↦ rw (e.0, eq-eqb code other (sym e.1)) (sym (put (lookup (nat_eq other) old) (ap (λ n. is_some (lookup (nat_eq n) old)) e.1 ∙ absent)))
-      | inr e ↦ rw (e.0, apart e.1) (sym (or_none (lookup (nat_eq other) old)))
+      | inr e ↦ rw (e.0, apart e.1) (sym (option_or-none (lookup (nat_eq other) old) None refl))
     ]
   where
-    or_none : (o : Option Form) → or_form o None ≡ o
-    or_none None = refl
-    or_none (Some f) = refl
-
-    put : (o : Option Form) → is_some o ≡ false → or_form o (Some form) ≡ Some form
+    put : (o : Option Form) → is_some o ≡ false → option_or o (Some form) ≡ Some form
     put None h = refl
     put (Some f) h = cc
 

@@ -2,7 +2,7 @@
 //! field, EQU, EXT).
 ghost use Rattle.std.specs.Prelude.{◌≡◌, ℕ, ◌==◌, nat_eq, not, is_some, true, Some, None, IfOk, OnOk, OnErr, if◌then◌else◌};
 ghost use Rattle.std.specs.Map.{lookup};
-ghost use Rattle.definitions.specs.Settled.{or_form};
+ghost use Rattle.std.specs.Option.{option_or};
 ghost use Rattle.deck_assembler.specs.Joins.FirstSymbols.{symbol_in, with_symbol};
 
 use crate::symbol_key::SymbolKey;
@@ -92,7 +92,7 @@ impl SymbolTable {
 /// Gives a name its value, unless it has one, and returns whether it had none. Without memory all is as
 /// before.
 fn keep(forms: &mut Forms, code: u64, form: Form) -> Result<bool, AllocError>
-    ensures kept { OnOk result ((other : ℕ) → lookup (nat_eq other) forms.new.entries ≡ or_form (lookup (nat_eq other) forms.old.entries) (if other == code then Some form else None)) }
+    ensures kept { OnOk result ((other : ℕ) → lookup (nat_eq other) forms.new.entries ≡ option_or (lookup (nat_eq other) forms.old.entries) (if other == code then Some form else None)) }
     ensures first { IfOk result (λ first. first ≡ not (is_some (lookup (nat_eq code) forms.old.entries))) }
     ensures without_memory { OnErr result (forms.new.entries ≡ forms.old.entries) }
 {

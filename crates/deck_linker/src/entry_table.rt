@@ -1,8 +1,9 @@
 //! What the decks of a link enter: for each name the value of its first entry in deck order.
 ghost use Rattle.std.specs.Prelude.{ℕ, ◌≡◌, ◌<◌, ◌^◌, List, OnOk, IfOk, unsigned_abs};
 ghost use Rattle.indexmap.specs.IndexMap.{get};
+ghost use Rattle.std.specs.Option.{option_or};
 ghost use Rattle.definitions.specs.Characters.{same_text};
-ghost use Rattle.definitions.specs.LinkValues.{entered, entered_in, or_value};
+ghost use Rattle.definitions.specs.LinkValues.{entered, entered_in};
 ghost use Rattle.deck_linker.specs.Joins.Placing.{entry_alone};
 
 use crate::based::Based;
@@ -57,7 +58,7 @@ pub(crate) fn enter(
     name: &Name,
     value: EntryValue,
 ) -> Result<(), AllocError>
-    ensures { OnOk result ((other : List ℕ) → get same_text table.new other ≡ or_value (get same_text table.old other) (entry_alone other name.now value)) }
+    ensures { OnOk result ((other : List ℕ) → get same_text table.new other ≡ option_or (get same_text table.old other) (entry_alone other name.now value)) }
 {
     let key = NameKey::new(name);
     if !table.contains_key(&key) {
@@ -73,7 +74,7 @@ fn enter_deck(
     based: &Based,
     entries: &[Entry],
 ) -> Result<(), AllocError>
-    ensures { OnOk result ((name : List ℕ) → get same_text table.new name ≡ or_value (get same_text table.old name) (entered_in name commons.now based.now entries.now)) }
+    ensures { OnOk result ((name : List ℕ) → get same_text table.new name ≡ option_or (get same_text table.old name) (entered_in name commons.now based.now entries.now)) }
 {
     for entry in entries {
         let value = entry_value(commons, based, entry);

@@ -1,32 +1,32 @@
 -- Spans that have each word of the runs, by increasing offset, are what the definitions store.
-use Rattle.std.{proofs.Common.{◌≡◌, ◌≢◌, ℕ, zero, suc, ◌+◌, ◌/◌, ◌^◌, ◌<◌, ◌≤◌, Bool, true, false, not, ◌||◌, nat_eq, nat_lt, List, [], ◌∷◌, ◌++◌, Option, Some, None, reverse, refl, sym, ap, subst, ◌∙◌, arith, ◌⊎◌, inl, inr}, specs.Prelude.if◌then◌else◌, proofs.lemmas.Bool.cases_order, proofs.lemmas.Bool.Decides.{eqb_tells, leb_tells}, proofs.lemmas.List.reverse-append}
-use Rattle.definitions.{specs.Kinds.units, specs.Image.stored_at, specs.Words.{Parcel, StoredWord, in_word, latest_in_word, word_of_parcels, with_number, words_in, stored}, proofs.WordLaws.{with_words_of, words_in-run}, specs.declared.deck_kind.DeckKind.DeckKind}
-use Rattle.deck_listing.{specs.Joins.Spans.RiseWithin, specs.Joins.Filling.{DoSpansRise, IsFilled, as_stored, found, is_none_there, is_within, latest_value, or_else, value_in, value_of_parcels, words_from}, specs.declared.packing.word_spans.WordSpan.WordSpan, proofs.RiseLaws.{rise-wider, rise-lower, found-here, or_assoc, or_else-none, within_tells}}
+use Rattle.std.{proofs.Common.{◌≡◌, ◌≢◌, ℕ, zero, suc, ◌+◌, ◌/◌, ◌^◌, ◌<◌, ◌≤◌, Bool, true, false, not, ◌||◌, nat_eq, nat_lt, List, [], ◌∷◌, ◌++◌, Option, Some, None, reverse, refl, sym, ap, subst, ◌∙◌, arith, ◌⊎◌, inl, inr}, specs.Prelude.if◌then◌else◌, proofs.lemmas.Bool.cases_order, proofs.lemmas.Bool.Decides.{eqb_tells, leb_tells}, proofs.lemmas.List.reverse-append, specs.Option.option_or}
+use Rattle.definitions.{specs.Kinds.units, specs.Image.stored_at, specs.Words.{Parcel, StoredWord, in_word, latest_in_word, word_of_parcels, with_number, words_in, stored}, proofs.WordLaws.{with_words_of, words_in-run}, specs.declared.deck_kind.DeckKind.DeckKind, proofs.TestLaws.{option_or-assoc, option_or-none}}
+use Rattle.deck_listing.{specs.Joins.Spans.RiseWithin, specs.Joins.Filling.{DoSpansRise, IsFilled, as_stored, found, is_none_there, is_within, latest_value, value_in, value_of_parcels, words_from}, specs.declared.packing.word_spans.WordSpan.WordSpan, proofs.RiseLaws.{rise-wider, rise-lower, found-here, within_tells}}
 
 -- what the latest of these runs has in a word; the latest run is the first
 abbrev value_at : DeckKind → List (List Parcel) → ℕ → Option ℕ
 value_at kind [] word = None
-value_at kind (run ∷ runs) word = or_else (value_in kind run word) (value_at kind runs word)
+value_at kind (run ∷ runs) word = option_or (value_in kind run word) (value_at kind runs word)
 
 first_held : (kind : DeckKind) (held rest : List Parcel) →
-    value_of_parcels kind (elim held [ [] ↦ rest | parcel ∷ others ↦ parcel ∷ others ]) ≡ or_else (value_of_parcels kind held) (value_of_parcels kind rest)
+    value_of_parcels kind (elim held [ [] ↦ rest | parcel ∷ others ↦ parcel ∷ others ]) ≡ option_or (value_of_parcels kind held) (value_of_parcels kind rest)
 first_held kind [] rest = refl
 first_held kind (parcel ∷ others) rest = refl
 
 latest-value : (kind : DeckKind) (runs : List (List Parcel)) (word : ℕ) → value_of_parcels kind (latest_in_word kind word runs) ≡ value_at kind runs word
 latest-value kind [] word = refl
 latest-value kind (run ∷ runs) word =
-    first_held kind (in_word kind word run) (latest_in_word kind word runs) ∙ ap (λ v. or_else (value_in kind run word) v) (latest-value kind runs word)
+    first_held kind (in_word kind word run) (latest_in_word kind word runs) ∙ ap (λ v. option_or (value_in kind run word) v) (latest-value kind runs word)
 
-value_at-push : (kind : DeckKind) (runs : List (List Parcel)) (run : List Parcel) (word : ℕ) → value_at kind (runs ++ run ∷ []) word ≡ or_else (value_at kind runs word) (value_in kind run word)
-value_at-push kind [] run word = or_else-none (value_in kind run word) None refl
+value_at-push : (kind : DeckKind) (runs : List (List Parcel)) (run : List Parcel) (word : ℕ) → value_at kind (runs ++ run ∷ []) word ≡ option_or (value_at kind runs word) (value_in kind run word)
+value_at-push kind [] run word = option_or-none (value_in kind run word) None refl
 value_at-push kind (first ∷ runs) run word =
-    ap (λ v. or_else (value_in kind first word) v) (value_at-push kind runs run word) ∙ sym (or_assoc (value_in kind first word) (value_at kind runs word) (value_in kind run word))
+    ap (λ v. option_or (value_in kind first word) v) (value_at-push kind runs run word) ∙ sym (option_or-assoc (value_in kind first word) (value_at kind runs word) (value_in kind run word))
 
 value_at-reverse : (kind : DeckKind) (runs : List (List Parcel)) (word : ℕ) → value_at kind (reverse runs) word ≡ latest_value kind runs word
 value_at-reverse kind [] word = refl
 value_at-reverse kind (run ∷ runs) word =
-    ap (λ rs. value_at kind rs word) (reverse-append (run ∷ []) runs) ∙ value_at-push kind (reverse runs) run word ∙ ap (λ v. or_else v (value_in kind run word)) (value_at-reverse kind runs word)
+    ap (λ rs. value_at kind rs word) (reverse-append (run ∷ []) runs) ∙ value_at-push kind (reverse runs) run word ∙ ap (λ v. option_or v (value_in kind run word)) (value_at-reverse kind runs word)
 
 ltb_tells : (a b : ℕ) → ((nat_lt a b ≡ true) × (a < b)) ⊎ ((nat_lt a b ≡ false) × (b ≤ a))
 ltb_tells a b = elim (leb_tells (suc a) b) [
@@ -80,7 +80,7 @@ abbrev pub is_there : Option ℕ → Bool
 is_there None = false
 is_there (Some n) = true
 
-pub is_there-or : (a b : Option ℕ) → is_there (or_else a b) ≡ (is_there a || is_there b)
+pub is_there-or : (a b : Option ℕ) → is_there (option_or a b) ≡ (is_there a || is_there b)
 is_there-or None b = refl
 is_there-or (Some n) b = refl
 
@@ -252,14 +252,14 @@ unique (x ∷ xs) (y ∷ ys) low high top h k same = elim (cases_order x.offset 
 
 -- what is filled is what the definitions store
 pub filled_stored : (kind : DeckKind) (latest : List Parcel) (earlier : List (List Parcel)) (newer older spans : List WordSpan) →
-    IsFilled (value_in kind latest) newer → IsFilled (latest_value kind earlier) older → IsFilled (λ offset. or_else (found offset newer) (found offset older)) spans →
+    IsFilled (value_in kind latest) newer → IsFilled (latest_value kind earlier) older → IsFilled (λ offset. option_or (found offset newer) (found offset older)) spans →
     as_stored spans ≡ stored kind (latest ∷ reverse earlier) (words_in kind (latest ∷ reverse earlier))
 filled_stored kind latest earlier newer older spans h k both =
     let runs = latest ∷ reverse earlier in
     let rises = words-rise kind runs in
     let has : (word : ℕ) → stored_at word (as_stored spans) ≡ stored_at word (stored kind runs (words_in kind runs)) =
-    λ word. spans-found word spans ∙ both.has word ∙ pair word ∙ ap (λ v. or_else (value_in kind latest word) v) (sym (value_at-reverse kind earlier word)) ∙ sym (stored-has kind runs word) in
+    λ word. spans-found word spans ∙ both.has word ∙ pair word ∙ ap (λ v. option_or (value_in kind latest word) v) (sym (value_at-reverse kind earlier word)) ∙ sym (stored-has kind runs word) in
     unique (as_stored spans) (stored kind runs (words_in kind runs)) 0 (2 ^ 20) rises.0 (spans-rise 0 spans (2 ^ 20) both.rise) (rw (stored-offsets kind runs (words_in kind runs)) rises.1) has
   where
-    pair : (word : ℕ) → or_else (found word newer) (found word older) ≡ or_else (value_in kind latest word) (latest_value kind earlier word)
+    pair : (word : ℕ) → option_or (found word newer) (found word older) ≡ option_or (value_in kind latest word) (latest_value kind earlier word)
     pair word = rw (h.has word, k.has word) refl

@@ -1,7 +1,7 @@
 -- The words of one run, gathered parcel by parcel.
-use Rattle.std.{proofs.Common.{◌≡◌, ◌≢◌, ℕ, ◌+◌, ◌*◌, ◌/◌, ◌%◌, ◌^◌, ◌<◌, Bool, true, false, ◌||◌, nat_eq, List, [], ◌∷◌, ◌++◌, Option, Some, None, get_or, refl, sym, ap, subst, ◌∙◌, arith, ◌⊎◌, inl, inr, append-nil}, specs.Prelude.{if◌then◌else◌, unwrap_or}, specs.List.list_any, proofs.lemmas.Bool.cases_order, proofs.lemmas.Bool.Decides.eqb_tells, proofs.lemmas.List.Elements.filter-append, proofs.lemmas.List.Folds.list_any-append}
-use Rattle.definitions.specs.{Kinds.units, Words.{Parcel, bits_at, in_word, filling_of, word_of_parcels}, declared.deck_kind.DeckKind.DeckKind, declared.deck_kind.DeckKind.TheVariants.{Rel, Abs, Periph}}
-use Rattle.deck_listing.{specs.Joins.Packing.parcel_at, specs.Joins.Filling.{DoSpansRise, IsFilled, IsGathered, IsOpenWord, found, is_none_there, or_else, value_in, value_of_parcels, word_made}, specs.declared.packing.word_spans.WordSpan.WordSpan, specs.declared.packing.gathering.OpenWord.OpenWord, proofs.RiseLaws.{spans-wider, spans-push, found-append, found-above, found-here, found-before, found-past, or_else-none, none-or_else}}
+use Rattle.std.{proofs.Common.{◌≡◌, ◌≢◌, ℕ, ◌+◌, ◌*◌, ◌/◌, ◌%◌, ◌^◌, ◌<◌, Bool, true, false, ◌||◌, nat_eq, List, [], ◌∷◌, ◌++◌, Option, Some, None, get_or, refl, sym, ap, subst, ◌∙◌, arith, ◌⊎◌, inl, inr, append-nil}, specs.Prelude.{if◌then◌else◌, unwrap_or}, specs.List.list_any, proofs.lemmas.Bool.cases_order, proofs.lemmas.Bool.Decides.eqb_tells, proofs.lemmas.List.Elements.filter-append, proofs.lemmas.List.Folds.list_any-append, specs.Option.option_or}
+use Rattle.definitions.{specs.Kinds.units, specs.Words.{Parcel, bits_at, in_word, filling_of, word_of_parcels}, specs.declared.deck_kind.DeckKind.DeckKind, specs.declared.deck_kind.DeckKind.TheVariants.{Rel, Abs, Periph}, proofs.TestLaws.option_or-none}
+use Rattle.deck_listing.{specs.Joins.Packing.parcel_at, specs.Joins.Filling.{DoSpansRise, IsFilled, IsGathered, IsOpenWord, found, is_none_there, value_in, value_of_parcels, word_made}, specs.declared.packing.word_spans.WordSpan.WordSpan, specs.declared.packing.gathering.OpenWord.OpenWord, proofs.RiseLaws.{spans-wider, spans-push, found-append, found-above, found-here, found-before, found-past, none-option_or}}
 
 -- a parcel behind others is seen where they do not cover its place
 bits_at-push : (kind : DeckKind) (filling place : ℕ) (parcels : List Parcel) (parcel : Parcel) →
@@ -124,11 +124,11 @@ ended_has kind parcels old new next offset h e =
     held : List Parcel
     held = in_word kind next.word parcels
 
-    by_order : ((offset ≡ next.word) ⊎ ((offset < next.word) ⊎ (next.word < offset))) → or_else (found offset old) (found offset (word_made kind next.word held)) ≡ value_in kind parcels offset
-    by_order (inr (inl below)) = or_else-none _ _ (made-other kind next.word offset held (inl below)) ∙ h.has offset below
-    by_order (inl same) = none-or_else _ _ (found-above offset 0 old next.word h.rise (omega arith)) ∙ rw same (made-here kind next.word held)
+    by_order : ((offset ≡ next.word) ⊎ ((offset < next.word) ⊎ (next.word < offset))) → option_or (found offset old) (found offset (word_made kind next.word held)) ≡ value_in kind parcels offset
+    by_order (inr (inl below)) = option_or-none _ _ (made-other kind next.word offset held (inl below)) ∙ h.has offset below
+    by_order (inl same) = none-option_or _ _ (found-above offset 0 old next.word h.rise (omega arith)) ∙ rw same (made-here kind next.word held)
     by_order (inr (inr above)) =
-        none-or_else _ _ (found-above offset 0 old next.word h.rise (omega arith)) ∙ made-other kind next.word offset held (inr above)
+        none-option_or _ _ (found-above offset 0 old next.word h.rise (omega arith)) ∙ made-other kind next.word offset held (inr above)
         ∙ ap (λ ps. value_of_parcels kind ps) (sym (h.behind offset above))
 
 -- going on to a later word

@@ -1,7 +1,7 @@
 -- Lists of words, one over the other, are what the definitions lay.
-use Rattle.std.{proofs.Common.{◌≡◌, ℕ, zero, suc, ◌+◌, ◌<◌, ◌≤◌, Bool, true, false, ◌||◌, nat_eq, List, [], ◌∷◌, ◌++◌, Option, Some, None, map, refl, sym, ap, ap₂, subst, ◌∙◌, arith, inl, inr}, specs.Prelude.{flat_map, unwrap_or, if◌then◌else◌}, specs.List.AllByRecursion, proofs.lemmas.Bool.Decides.eqb_tells}
-use Rattle.definitions.specs.{Image.{stored_at, last_at, laid}, Words.{StoredWord, rising}}
-use Rattle.deck_listing.{specs.Joins.Spans.RiseWithin, specs.Joins.Laying.{with_all_stored, over_all}, specs.Joins.Filling.or_else, proofs.RiseLaws.{or_assoc, or_else-none, rise-wider}, proofs.FillLaws.{among, among-with_number, is_there, is_there-or, stored_offsets, unique, with_number-rise}, proofs.OverLaws.{over-found, over-rise}}
+use Rattle.std.{proofs.Common.{◌≡◌, ℕ, zero, suc, ◌+◌, ◌<◌, ◌≤◌, Bool, true, false, ◌||◌, nat_eq, List, [], ◌∷◌, ◌++◌, Option, Some, None, map, refl, sym, ap, ap₂, subst, ◌∙◌, arith, inl, inr}, specs.Prelude.{flat_map, unwrap_or, if◌then◌else◌}, specs.List.AllByRecursion, proofs.lemmas.Bool.Decides.eqb_tells, specs.Option.option_or}
+use Rattle.definitions.{specs.Image.{stored_at, last_at, laid}, specs.Words.{StoredWord, rising}, proofs.TestLaws.{option_or-assoc, option_or-none}}
+use Rattle.deck_listing.{specs.Joins.Spans.RiseWithin, specs.Joins.Laying.{with_all_stored, over_all}, proofs.RiseLaws.rise-wider, proofs.FillLaws.{among, among-with_number, is_there, is_there-or, stored_offsets, unique, with_number-rise}, proofs.OverLaws.{over-found, over-rise}}
 
 -- words rise, up to some offset
 abbrev pub DoesRise : List StoredWord → Type 0
@@ -10,13 +10,6 @@ DoesRise words = (top : ℕ) × RiseWithin 0 (stored_offsets words) top
 -- the offsets of all words of these lists
 abbrev offsets : List (List StoredWord) → List ℕ
 offsets lists = flat_map (λ (words : List StoredWord). map (λ (word : StoredWord). word.offset) words) lists
-
-last-or : (offset : ℕ) (words : List StoredWord) (later : List (List StoredWord)) → last_at offset (words ∷ later) ≡ or_else (last_at offset later) (stored_at offset words)
-last-or offset words later = by_last (last_at offset later)
-  where
-    by_last : (last : Option ℕ) → elim last [ None ↦ stored_at offset words | Some value ↦ Some value ] ≡ or_else last (stored_at offset words)
-    by_last None = refl
-    by_last (Some value) = refl
 
 -- lists that rise, one over the other, rise
 over-rises : (words others : List StoredWord) → DoesRise words → DoesRise others → DoesRise (with_all_stored words others)
@@ -30,13 +23,12 @@ all-rise (words ∷ later) others h k = all-rise later (with_all_stored words ot
 
 -- at each offset they have what the last list with a word there has
 all-found : (offset : ℕ) (lists : List (List StoredWord)) (others : List StoredWord) → AllByRecursion DoesRise lists →
-    stored_at offset (over_all lists others) ≡ or_else (last_at offset lists) (stored_at offset others)
+    stored_at offset (over_all lists others) ≡ option_or (last_at offset lists) (stored_at offset others)
 all-found offset [] others h = refl
 all-found offset (words ∷ later) others h =
     all-found offset later (with_all_stored words others) h.1
-    ∙ ap (or_else (last_at offset later)) (over-found offset 0 h.0.0 words others h.0.1)
-    ∙ sym (or_assoc (last_at offset later) (stored_at offset words) (stored_at offset others))
-    ∙ ap (λ (value : Option ℕ). or_else value (stored_at offset others)) (sym (last-or offset words later))
+    ∙ ap (option_or (last_at offset later)) (over-found offset 0 h.0.0 words others h.0.1)
+    ∙ sym (option_or-assoc (last_at offset later) (stored_at offset words) (stored_at offset others))
 
 -- which offsets there are
 or-order : (a b : Bool) → (a || b) ≡ (b || a)
@@ -75,7 +67,6 @@ among-lists offset (words ∷ later) =
     ∙ ap₂ (λ (a b : Bool). a || b) (among-words offset words) (among-lists offset later)
     ∙ or-order (is_there (stored_at offset words)) (is_there (last_at offset later))
     ∙ sym (is_there-or (last_at offset later) (stored_at offset words))
-    ∙ ap is_there (sym (last-or offset words later))
 
 -- the words of a value at each of these offsets
 abbrev of_values : (ℕ → ℕ) → List ℕ → List StoredWord
@@ -120,4 +111,4 @@ over-laid lists h =
     let over = all-rise lists [] h (0, omega arith) in
     let whole = laid-rise lists in
     unique (over_all lists []) (laid lists) 0 over.0 whole.0 over.1 whole.1
-    (λ offset. all-found offset lists [] h ∙ or_else-none (last_at offset lists) None refl ∙ sym (laid-found lists offset))
+    (λ offset. all-found offset lists [] h ∙ option_or-none (last_at offset lists) None refl ∙ sym (laid-found lists offset))

@@ -1,7 +1,7 @@
 -- Merging two lists of spans, and the words of several runs.
-use Rattle.std.{proofs.Common.{◌≡◌, ℕ, suc, ◌+◌, ◌-◌, ◌^◌, ◌<◌, ◌≤◌, nat_lt, max, min, List, [], ◌∷◌, ◌++◌, None, refl, sym, ap, subst, take, drop, ◌∙◌, arith, ◌⊎◌, inl, inr, append-nil, append_assoc}, proofs.lemmas.Bool.Decides.leb_tells, specs.Prelude.{Vec, Result, Ok, Err, IfOk, if◌then◌else◌}, proofs.lemmas.List.take-append-drop}
-use Rattle.definitions.specs.{Words.Parcel, declared.deck_kind.DeckKind.DeckKind}
-use Rattle.deck_listing.{specs.Joins.Spans.{DoRunsRise, parcels_in, parcels_in_runs}, specs.Joins.Filling.{DoSpansRise, IsBetween, IsFilled, IsMerging, IsTaking, found, or_else, part_of, value_in, latest_value}, specs.declared.packing.spans.Span.Span, specs.declared.packing.word_spans.WordSpan.WordSpan, proofs.RiseLaws.{spans-lower, spans-append, spans-push, found-append, found-above, found-under, found-here, found-before, found-past, within_tells, or_assoc, or_else-none, none-or_else, order_of}}
+use Rattle.std.{proofs.Common.{◌≡◌, ℕ, suc, ◌+◌, ◌-◌, ◌^◌, ◌<◌, ◌≤◌, nat_lt, max, min, List, [], ◌∷◌, ◌++◌, None, refl, sym, ap, subst, take, drop, ◌∙◌, arith, ◌⊎◌, inl, inr, append-nil, append_assoc}, proofs.lemmas.Bool.Decides.leb_tells, specs.Prelude.{Vec, Result, Ok, Err, IfOk, if◌then◌else◌}, proofs.lemmas.List.take-append-drop, specs.Option.option_or}
+use Rattle.definitions.{specs.Words.Parcel, specs.declared.deck_kind.DeckKind.DeckKind, proofs.TestLaws.{option_or-assoc, option_or-none}}
+use Rattle.deck_listing.{specs.Joins.Spans.{DoRunsRise, parcels_in, parcels_in_runs}, specs.Joins.Filling.{DoSpansRise, IsBetween, IsFilled, IsMerging, IsTaking, found, part_of, value_in, latest_value}, specs.declared.packing.spans.Span.Span, specs.declared.packing.word_spans.WordSpan.WordSpan, proofs.RiseLaws.{spans-lower, spans-append, spans-push, found-append, found-above, found-under, found-here, found-before, found-past, within_tells, order_of, none-option_or}}
 
 -- a span from one offset up to another has what is asked for
 part_some : (begin end value : ℕ) → begin < end → (if nat_lt begin end then (let s : WordSpan = record { offset = begin; count = end - begin; value = value } in s) ∷ [] else []) ≡ (let s : WordSpan = record { offset = begin; count = end - begin; value = value } in s) ∷ []
@@ -73,11 +73,11 @@ taking_none older from to old rise = record {
 }
 
 taken_has : (older : List WordSpan) (from to : ℕ) (more : List WordSpan) (span : WordSpan) (rest : List WordSpan) (offset : ℕ) → from ≤ offset → offset < to →
-    or_else (found offset more) (found offset (span ∷ rest)) ≡ found offset older → or_else (found offset (more ++ part_of span from to)) (found offset rest) ≡ found offset older
+    option_or (found offset more) (found offset (span ∷ rest)) ≡ found offset older → option_or (found offset (more ++ part_of span from to)) (found offset rest) ≡ found offset older
 taken_has older from to more span rest offset a b h =
-    ap (λ v. or_else v (found offset rest)) (found-append offset more (part_of span from to))
-    ∙ or_assoc (found offset more) (found offset (part_of span from to)) (found offset rest)
-    ∙ ap (λ v. or_else (found offset more) v) (ap (λ v. or_else v (found offset rest)) (part-found span from to offset a b) ∙ sym (found-append offset (span ∷ []) rest))
+    ap (λ v. option_or v (found offset rest)) (found-append offset more (part_of span from to))
+    ∙ option_or-assoc (found offset more) (found offset (part_of span from to)) (found offset rest)
+    ∙ ap (λ v. option_or (found offset more) v) (ap (λ v. option_or v (found offset rest)) (part-found span from to offset a b) ∙ sym (found-append offset (span ∷ []) rest))
     ∙ h
 
 -- one span more is taken, which ends before the words that are asked for
@@ -93,7 +93,7 @@ taking_more older from to old taken new left span rest order e pushed ends h =
       within = ends;
       rise = λ high a b. part_rise span from to h.more high (λ n c d. h.rise n c (omega arith)) a (inl b);
       left_rise = left_rise.2;
-      has = λ offset a b. taken_has older from to h.more span rest offset a b (ap (λ l. or_else (found offset h.more) (found offset l)) (sym e) ∙ h.has offset a b);
+      has = λ offset a b. taken_has older from to h.more span rest offset a b (ap (λ l. option_or (found offset h.more) (found offset l)) (sym e) ∙ h.has offset a b);
       left_has = λ offset a. h.left_has offset a ∙ ap (found offset) e ∙ found-past offset span rest (omega arith);
     }
 
@@ -108,8 +108,8 @@ taking_last older from to old taken new left span rest order e pushed begins end
       are_more = pushed ∙ ap (λ l. l ++ part_of span from to) h.are_more ∙ append_assoc old h.more (part_of span from to);
       rise = part_rise span from to h.more to (λ n c d. h.rise n c (omega arith)) order (inr (omega arith, omega arith));
       has = λ offset a b.
-          sym (or_else-none (found offset (h.more ++ part_of span from to)) (found offset rest) (found-under offset (span.offset + span.count) rest (2 ^ 20) left_rise.2 (omega arith)))
-          ∙ taken_has older from to h.more span rest offset a b (ap (λ l. or_else (found offset h.more) (found offset l)) (sym e) ∙ h.has offset a b);
+          sym (option_or-none (found offset (h.more ++ part_of span from to)) (found offset rest) (found-under offset (span.offset + span.count) rest (2 ^ 20) left_rise.2 (omega arith)))
+          ∙ taken_has older from to h.more span rest offset a b (ap (λ l. option_or (found offset h.more) (found offset l)) (sym e) ∙ h.has offset a b);
       left_rise = spans-lower 0 h.low left (2 ^ 20) h.left_rise (omega arith);
       left_has = h.left_has;
     }
@@ -121,7 +121,7 @@ taking_all older from to old taken left order none h = record {
   more = h.more;
   are_more = h.are_more;
   rise = h.rise to order h.within;
-  has = λ offset a b. sym (or_else-none (found offset h.more) (found offset left) (none offset b)) ∙ h.has offset a b;
+  has = λ offset a b. sym (option_or-none (found offset h.more) (found offset left) (none offset b)) ∙ h.has offset a b;
   left_rise = spans-lower 0 h.low left (2 ^ 20) h.left_rise (omega arith);
   left_has = h.left_has;
 }
@@ -149,19 +149,19 @@ merging_none newer older h k = record {
 
 -- what stands below an offset stays, with spans behind it
 still : (offset from to : ℕ) (taken more : List WordSpan) → offset < from → DoSpansRise from more to → found offset (taken ++ more) ≡ found offset taken
-still offset from to taken more below rise = found-append offset taken more ∙ or_else-none (found offset taken) (found offset more) (found-under offset from more to rise below)
+still offset from to taken more below rise = found-append offset taken more ∙ option_or-none (found offset taken) (found offset more) (found-under offset from more to rise below)
 
 -- between two of the newer spans the older ones have what both have
 between_has : (newer older taken newer_left older_left more : List WordSpan) (from to offset : ℕ) → IsMerging newer older taken newer_left older_left from → DoSpansRise to newer_left (2 ^ 20) →
-    from ≤ offset → offset < to → found offset more ≡ found offset older_left → found offset (taken ++ more) ≡ or_else (found offset newer) (found offset older)
+    from ≤ offset → offset < to → found offset more ≡ found offset older_left → found offset (taken ++ more) ≡ option_or (found offset newer) (found offset older)
 between_has newer older taken newer_left older_left more from to offset h rise a b has =
     found-append offset taken more
-    ∙ none-or_else (found offset taken) (found offset more) (found-above offset 0 taken from h.rise a)
+    ∙ none-option_or (found offset taken) (found offset more) (found-above offset 0 taken from h.rise a)
     ∙ has ∙ sym (h.older_has offset a)
-    ∙ sym (none-or_else (found offset newer) (found offset older) (h.newer_has offset a ∙ found-under offset to newer_left (2 ^ 20) rise b))
+    ∙ sym (none-option_or (found offset newer) (found offset older) (h.newer_has offset a ∙ found-under offset to newer_left (2 ^ 20) rise b))
 
 up_to : (newer older taken newer_left older_left middle left : List WordSpan) (from to offset : ℕ) → IsMerging newer older taken newer_left older_left from → DoSpansRise to newer_left (2 ^ 20) →
-    IsBetween older_left from to taken middle left → offset < to → found offset middle ≡ or_else (found offset newer) (found offset older)
+    IsBetween older_left from to taken middle left → offset < to → found offset middle ≡ option_or (found offset newer) (found offset older)
 up_to newer older taken newer_left older_left middle left from to offset h rise between below =
     ap (found offset) between.are_more ∙ elim (order_of offset from) [
       | inl before ↦ still offset from to taken between.more before between.rise ∙ h.has offset before
@@ -185,12 +185,12 @@ merging_more newer older taken newer_left older_left middle new left span rest f
       older_rise = between.left_rise;
       has = λ offset below. ap (found offset) pushed ∙ found-append offset middle (span ∷ []) ∙ elim (order_of offset span.offset) [
         | inl before ↦
-            or_else-none (found offset middle) (found offset (span ∷ [])) (found-before offset span [] before)
+            option_or-none (found offset middle) (found offset (span ∷ [])) (found-before offset span [] before)
             ∙ up_to newer older taken newer_left older_left middle left from span.offset offset h (rw e from_span) between before
         | inr behind ↦
-            none-or_else (found offset middle) (found offset (span ∷ [])) (found-above offset 0 middle span.offset low behind)
+            none-option_or (found offset middle) (found offset (span ∷ [])) (found-above offset 0 middle span.offset low behind)
             ∙ found-here offset span [] behind below
-            ∙ sym (ap (λ v. or_else v (found offset older)) (h.newer_has offset (omega arith) ∙ ap (found offset) e ∙ found-here offset span rest behind below))
+            ∙ sym (ap (λ v. option_or v (found offset older)) (h.newer_has offset (omega arith) ∙ ap (found offset) e ∙ found-here offset span rest behind below))
       ];
       newer_has = λ offset a. h.newer_has offset (omega arith) ∙ ap (found offset) e ∙ found-past offset span rest a;
       older_has = λ offset a. h.older_has offset (omega arith) ∙ between.left_has offset (omega arith);
@@ -198,7 +198,7 @@ merging_more newer older taken newer_left older_left middle new left span rest f
 
 -- the older words behind all of the newer ones
 pub merging_all : (newer older taken older_left middle left : List WordSpan) (from : ℕ) → DoSpansRise 0 newer (2 ^ 20) → DoSpansRise 0 older (2 ^ 20) →
-    IsMerging newer older taken [] older_left from → IsBetween older_left from (2 ^ 20) taken middle left → IsFilled (λ offset. or_else (found offset newer) (found offset older)) middle
+    IsMerging newer older taken [] older_left from → IsBetween older_left from (2 ^ 20) taken middle left → IsFilled (λ offset. option_or (found offset newer) (found offset older)) middle
 merging_all newer older taken older_left middle left from h k merging between =
     let low = middle_rise newer older taken [] older_left middle left from (2 ^ 20) merging between in
     record {
@@ -207,25 +207,25 @@ merging_all newer older taken older_left middle left from h k merging between =
         | inl below ↦ up_to newer older taken [] older_left middle left from (2 ^ 20) offset merging (omega arith) between below
         | inr above ↦
             found-above offset 0 middle (2 ^ 20) low above
-            ∙ sym (none-or_else (found offset newer) (found offset older) (found-above offset 0 newer (2 ^ 20) h above) ∙ found-above offset 0 older (2 ^ 20) k above)
+            ∙ sym (none-option_or (found offset newer) (found offset older) (found-above offset 0 newer (2 ^ 20) h above) ∙ found-above offset 0 older (2 ^ 20) k above)
       ];
     }
 
 -- the latest of runs and later runs
-latest-append : (kind : DeckKind) (early late : List (List Parcel)) (word : ℕ) → latest_value kind (early ++ late) word ≡ or_else (latest_value kind late word) (latest_value kind early word)
-latest-append kind [] late word = sym (or_else-none (latest_value kind late word) None refl)
+latest-append : (kind : DeckKind) (early late : List (List Parcel)) (word : ℕ) → latest_value kind (early ++ late) word ≡ option_or (latest_value kind late word) (latest_value kind early word)
+latest-append kind [] late word = sym (option_or-none (latest_value kind late word) None refl)
 latest-append kind (run ∷ early) late word =
-    ap (λ a. or_else a (value_in kind run word)) (latest-append kind early late word) ∙ or_assoc (latest_value kind late word) (latest_value kind early word) (value_in kind run word)
+    ap (λ a. option_or a (value_in kind run word)) (latest-append kind early late word) ∙ option_or-assoc (latest_value kind late word) (latest_value kind early word) (value_in kind run word)
 
 -- two fillings merged are the filling of all runs
 pub filled_both : (kind : DeckKind) (early late : List (List Parcel)) (older newer words : List WordSpan) → IsFilled (latest_value kind early) older → IsFilled (latest_value kind late) newer →
-    IsFilled (λ offset. or_else (found offset newer) (found offset older)) words → IsFilled (latest_value kind (early ++ late)) words
+    IsFilled (λ offset. option_or (found offset newer) (found offset older)) words → IsFilled (latest_value kind (early ++ late)) words
 filled_both kind early late older newer words h k both = record {
   rise = both.rise;
   has = λ offset. both.has offset ∙ pair offset ∙ sym (latest-append kind early late offset);
 }
   where
-    pair : (offset : ℕ) → or_else (found offset newer) (found offset older) ≡ or_else (latest_value kind late offset) (latest_value kind early offset)
+    pair : (offset : ℕ) → option_or (found offset newer) (found offset older) ≡ option_or (latest_value kind late offset) (latest_value kind early offset)
     pair offset = rw (h.has offset, k.has offset) refl
 
 pub filled_none : (kind : DeckKind) → IsFilled (latest_value kind []) []
@@ -249,7 +249,7 @@ halves_rise runs early late middle e k h = runs_rise-append (parcels_in_runs ear
 
 pub halves_filled : {Z : Type 0} (kind : DeckKind) (runs early late : List (Vec Span Z)) (middle : ℕ) → early ≡ take middle runs → late ≡ drop middle runs → (older newer words : List WordSpan) →
     IsFilled (latest_value kind (parcels_in_runs early)) older → IsFilled (latest_value kind (parcels_in_runs late)) newer →
-    IsFilled (λ offset. or_else (found offset newer) (found offset older)) words → IsFilled (latest_value kind (parcels_in_runs runs)) words
+    IsFilled (λ offset. option_or (found offset newer) (found offset older)) words → IsFilled (latest_value kind (parcels_in_runs runs)) words
 halves_filled kind runs early late middle e k older newer words h g both =
     let Holds : List (List Parcel) → Type 0 = λ rs. IsFilled (latest_value kind rs) words in
     subst Holds (halves runs early late middle e k) (filled_both kind (parcels_in_runs early) (parcels_in_runs late) older newer words h g both)

@@ -1,7 +1,7 @@
 -- The words of a block with others over them, as the definitions have them.
-use Rattle.std.proofs.{Common.{◌≡◌, ◌≢◌, ℕ, zero, suc, ◌+◌, ◌^◌, ◌<◌, ◌≤◌, true, false, nat_lt, List, [], ◌∷◌, ◌++◌, Some, None, refl, sym, ap, ◌∙◌, arith, inl, inr}, lemmas.Bool.cases_order, lemmas.Bool.Decides.{eqb_tells, leb_tells}}
-use Rattle.definitions.specs.{Image.stored_at, Words.StoredWord}
-use Rattle.deck_listing.{specs.Joins.Spans.RiseWithin, specs.Joins.Laying.{with_stored, with_all_stored}, specs.Joins.Filling.{DoSpansRise, IsFilled, as_stored, found, or_else, words_from}, specs.declared.packing.word_spans.WordSpan.WordSpan, proofs.RiseLaws.{none-or_else, or_else-none, order_of, rise-lower, rise-order}, proofs.FillLaws.{stored_offsets, stored_at-other, stored_at-under, spans-found, spans-rise, unique}}
+use Rattle.std.{proofs.Common.{◌≡◌, ◌≢◌, ℕ, zero, suc, ◌+◌, ◌^◌, ◌<◌, ◌≤◌, true, false, nat_lt, List, [], ◌∷◌, ◌++◌, Some, None, refl, sym, ap, ◌∙◌, arith, inl, inr}, proofs.lemmas.Bool.cases_order, proofs.lemmas.Bool.Decides.{eqb_tells, leb_tells}, specs.Option.option_or}
+use Rattle.definitions.{specs.Image.stored_at, specs.Words.StoredWord, proofs.TestLaws.option_or-none}
+use Rattle.deck_listing.{specs.Joins.Spans.RiseWithin, specs.Joins.Laying.{with_stored, with_all_stored}, specs.Joins.Filling.{DoSpansRise, IsFilled, as_stored, found, words_from}, specs.declared.packing.word_spans.WordSpan.WordSpan, proofs.RiseLaws.{order_of, rise-lower, rise-order, none-option_or}, proofs.FillLaws.{stored_offsets, stored_at-other, stored_at-under, spans-found, spans-rise, unique}}
 
 lt_is : (a b : ℕ) → a < b → nat_lt a b ≡ true
 lt_is a b h = elim (leb_tells (suc a) b) [ inl e ↦ e.0 | inr e ↦ let k = e.1 in absurd (omega arith) ]
@@ -10,8 +10,8 @@ not_lt : (a b : ℕ) → b ≤ a → nat_lt a b ≡ false
 not_lt a b h = elim (leb_tells (suc a) b) [ inl e ↦ let k = e.1 in absurd (omega arith) | inr e ↦ e.0 ]
 
 -- a word put among others is found at its offset, and else they are
-stored_at-with : (offset : ℕ) (word : StoredWord) (words : List StoredWord) → stored_at offset (with_stored word words) ≡ or_else (stored_at offset (word ∷ [])) (stored_at offset words)
-stored_at-with offset word [] = sym (or_else-none (stored_at offset (word ∷ [])) None refl)
+stored_at-with : (offset : ℕ) (word : StoredWord) (words : List StoredWord) → stored_at offset (with_stored word words) ≡ option_or (stored_at offset (word ∷ [])) (stored_at offset words)
+stored_at-with offset word [] = sym (option_or-none (stored_at offset (word ∷ [])) None refl)
 stored_at-with offset word (other ∷ words) = elim (eqb_tells word.offset other.offset) [
   | inl e ↦ rw e.0 (in_place e.1)
   | inr e ↦ rw e.0 (elim (order_of word.offset other.offset) [
@@ -20,28 +20,28 @@ stored_at-with offset word (other ∷ words) = elim (eqb_tells word.offset other
   ])
 ]
   where
-    in_front : (w : StoredWord) (ws : List StoredWord) → stored_at offset (w ∷ ws) ≡ or_else (stored_at offset (w ∷ [])) (stored_at offset ws)
+    in_front : (w : StoredWord) (ws : List StoredWord) → stored_at offset (w ∷ ws) ≡ option_or (stored_at offset (w ∷ [])) (stored_at offset ws)
     in_front w ws = elim (eqb_tells w.offset offset) [ inl e ↦ rw e.0 refl | inr e ↦ rw e.0 refl ]
 
-    in_place : word.offset ≡ other.offset → stored_at offset (word ∷ words) ≡ or_else (stored_at offset (word ∷ [])) (stored_at offset (other ∷ words))
+    in_place : word.offset ≡ other.offset → stored_at offset (word ∷ words) ≡ option_or (stored_at offset (word ∷ [])) (stored_at offset (other ∷ words))
     in_place same = elim (eqb_tells word.offset offset) [
       | inl e ↦ rw e.0 refl
       | inr e ↦ rw e.0 (sym (stored_at-other offset other words (λ k. e.1 (same ∙ k))))
     ]
 
-    past : word.offset ≢ other.offset → stored_at offset (with_stored word words) ≡ or_else (stored_at offset (word ∷ [])) (stored_at offset words) → stored_at offset (other ∷ with_stored word words) ≡ or_else (stored_at offset (word ∷ [])) (stored_at offset (other ∷ words))
+    past : word.offset ≢ other.offset → stored_at offset (with_stored word words) ≡ option_or (stored_at offset (word ∷ [])) (stored_at offset words) → stored_at offset (other ∷ with_stored word words) ≡ option_or (stored_at offset (word ∷ [])) (stored_at offset (other ∷ words))
     past apart rest = elim (eqb_tells other.offset offset) [
-      | inl e ↦ rw e.0 (sym (none-or_else (stored_at offset (word ∷ [])) (Some other.value) (stored_at-other offset word [] (λ k. apart (k ∙ sym e.1)))))
+      | inl e ↦ rw e.0 (sym (none-option_or (stored_at offset (word ∷ [])) (Some other.value) (stored_at-other offset word [] (λ k. apart (k ∙ sym e.1)))))
       | inr e ↦ rw e.0 rest
     ]
 
-pub over-found : (offset low high : ℕ) (words others : List StoredWord) → RiseWithin low (stored_offsets words) high → stored_at offset (with_all_stored words others) ≡ or_else (stored_at offset words) (stored_at offset others)
+pub over-found : (offset low high : ℕ) (words others : List StoredWord) → RiseWithin low (stored_offsets words) high → stored_at offset (with_all_stored words others) ≡ option_or (stored_at offset words) (stored_at offset others)
 over-found offset low high [] others h = refl
 over-found offset low high (word ∷ words) others h =
     over-found offset (word.offset + 1) high words (with_stored word others) h.1
-    ∙ ap (or_else (stored_at offset words)) (stored_at-with offset word others)
+    ∙ ap (option_or (stored_at offset words)) (stored_at-with offset word others)
     ∙ elim (eqb_tells word.offset offset) [
-      | inl e ↦ rw e.0 (let at = e.1 in none-or_else (stored_at offset words) (Some word.value) (stored_at-under offset (word.offset + 1) words high h.1 (omega arith)))
+      | inl e ↦ rw e.0 (let at = e.1 in none-option_or (stored_at offset words) (Some word.value) (stored_at-under offset (word.offset + 1) words high h.1 (omega arith)))
       | inr e ↦ rw e.0 refl
     ]
 
@@ -65,7 +65,7 @@ over-rise low (word ∷ words) others high h k =
     over-rise (word.offset + 1) words (with_stored word others) high (with-rise 0 word others high (omega arith) (omega arith) h) k.1
 
 -- spans that are filled from two lists are the words of one over those of the other
-pub filled_over : (newer older spans : List WordSpan) → DoSpansRise 0 newer (2 ^ 20) → DoSpansRise 0 older (2 ^ 20) → IsFilled (λ offset. or_else (found offset newer) (found offset older)) spans →
+pub filled_over : (newer older spans : List WordSpan) → DoSpansRise 0 newer (2 ^ 20) → DoSpansRise 0 older (2 ^ 20) → IsFilled (λ offset. option_or (found offset newer) (found offset older)) spans →
     as_stored spans ≡ with_all_stored (as_stored newer) (as_stored older)
 filled_over newer older spans h k both =
     let newer_rise = spans-rise 0 newer (2 ^ 20) h in
@@ -73,7 +73,7 @@ filled_over newer older spans h k both =
     (over-rise 0 (as_stored newer) (as_stored older) (2 ^ 20) (spans-rise 0 older (2 ^ 20) k) newer_rise)
     (λ offset. spans-found offset spans ∙ both.has offset ∙ sym (over-found offset 0 (2 ^ 20) (as_stored newer) (as_stored older) newer_rise ∙ pair offset))
   where
-    pair : (offset : ℕ) → or_else (stored_at offset (as_stored newer)) (stored_at offset (as_stored older)) ≡ or_else (found offset newer) (found offset older)
+    pair : (offset : ℕ) → option_or (stored_at offset (as_stored newer)) (stored_at offset (as_stored older)) ≡ option_or (found offset newer) (found offset older)
     pair offset = rw (spans-found offset newer, spans-found offset older) refl
 
 -- rising spans are some words or none

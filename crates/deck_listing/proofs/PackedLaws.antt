@@ -1,7 +1,7 @@
 -- The block as contracts see it, before and after a put.
-use Rattle.std.{proofs.Common.{◌≡◌, ℕ, ◌+◌, ◌*◌, ◌<◌, ◌≤◌, List, [], ◌∷◌, ◌++◌, reverse, sym, ap, subst, ◌∙◌}, specs.Prelude.{Vec, false}}
+use Rattle.std.{proofs.Common.{◌≡◌, ℕ, ◌+◌, ◌*◌, ◌<◌, ◌≤◌, List, [], ◌∷◌, ◌++◌, reverse, sym, ap, subst, ◌∙◌}, specs.Prelude.{Vec, false}, specs.Option.option_or}
 use Rattle.definitions.specs.{Kinds.{units, unit_bits, word_bits, most_words}, Words.{Parcel, stored, words_in}, declared.deck_kind.DeckKind.DeckKind}
-use Rattle.deck_listing.{specs.Joins.Packing.{MayBegin, OpenRun, Packed, empty_run, most_bits, moved, put_bits, runs_in}, specs.Joins.Spans.{DoRunsRise, IsKept, parcels_in, parcels_in_runs, run_of}, specs.Joins.Filling.{IsFilled, as_stored, found, latest_value, or_else, value_in}, specs.declared.packing.word_spans.WordSpan.WordSpan, specs.declared.packing.spans.Span.Span, specs.declared.packing.spans.OpenParcel.OpenParcel, proofs.MergeLaws.parcels_in_runs-append, proofs.FillLaws.filled_stored, proofs.PutLaws.{zeros_kept, zeros_put, IsMoved, moved_open, reverse-push, runs_rise-push, unit_some, whole_rise}}
+use Rattle.deck_listing.{specs.Joins.Packing.{MayBegin, OpenRun, Packed, empty_run, most_bits, moved, put_bits, runs_in}, specs.Joins.Spans.{DoRunsRise, IsKept, parcels_in, parcels_in_runs, run_of}, specs.Joins.Filling.{IsFilled, as_stored, found, latest_value, value_in}, specs.declared.packing.word_spans.WordSpan.WordSpan, specs.declared.packing.spans.Span.Span, specs.declared.packing.spans.OpenParcel.OpenParcel, proofs.MergeLaws.parcels_in_runs-append, proofs.FillLaws.filled_stored, proofs.PutLaws.{zeros_kept, zeros_put, IsMoved, moved_open, reverse-push, runs_rise-push, unit_some, whole_rise}}
 
 -- a block as contracts see it
 abbrev pub block : DeckKind → OpenRun → List (List Parcel) → Packed
@@ -41,7 +41,7 @@ kept_filled packed kind spans next earlier view h = let P : Packed → Type 0 = 
 -- what is filled from a block is what the definitions store of its runs
 pub fill_view : {Z : Type 0} (packed : Packed) (kind : DeckKind) (spans seen : List Span) (next : OpenParcel) (runs shown : List (Vec Span Z)) (newer older oldest words : List WordSpan) →
     block kind (run_of spans next) (reverse (parcels_in_runs runs)) ≡ packed → seen ≡ spans → shown ≡ runs → oldest ≡ older →
-    IsFilled (value_in kind (parcels_in seen)) newer → IsFilled (latest_value kind (parcels_in_runs shown)) older → IsFilled (λ offset. or_else (found offset newer) (found offset oldest)) words →
+    IsFilled (value_in kind (parcels_in seen)) newer → IsFilled (latest_value kind (parcels_in_runs shown)) older → IsFilled (λ offset. option_or (found offset newer) (found offset oldest)) words →
     as_stored words ≡ stored packed.kind (runs_in packed) (words_in packed.kind (runs_in packed))
 fill_view packed kind spans seen next runs shown newer older oldest words view s r o latest earlier both =
     let After : Packed → Type 0 = λ p. as_stored words ≡ stored p.kind (runs_in p) (words_in p.kind (runs_in p)) in

@@ -1,7 +1,7 @@
 -- Numbers and spans that rise, and what spans that rise have at an offset.
-use Rattle.std.{proofs.Common.{◌≡◌, ℕ, zero, suc, ◌+◌, ◌/◌, ◌<◌, ◌≤◌, Bool, true, false, List, [], ◌∷◌, ◌++◌, Option, Some, None, replicate, refl, ap, subst, ◌∙◌, arith, ◌⊎◌, inl, inr}, specs.Prelude.if◌then◌else◌, proofs.lemmas.Bool.Decides.leb_tells}
+use Rattle.std.{proofs.Common.{◌≡◌, ℕ, zero, suc, ◌+◌, ◌/◌, ◌<◌, ◌≤◌, Bool, true, false, List, [], ◌∷◌, ◌++◌, Option, Some, None, replicate, refl, ap, subst, ◌∙◌, arith, ◌⊎◌, inl, inr}, specs.Prelude.if◌then◌else◌, proofs.lemmas.Bool.Decides.leb_tells, specs.Option.option_or}
 use Rattle.definitions.specs.{Kinds.units, Words.{Parcel, parcels_from}, declared.deck_kind.DeckKind.DeckKind, declared.deck_kind.DeckKind.TheVariants.{Rel, Abs, Periph}}
-use Rattle.deck_listing.specs.{Joins.Spans.{RiseWithin, places}, Joins.Filling.{DoSpansRise, found, is_within, or_else}, declared.packing.word_spans.WordSpan.WordSpan}
+use Rattle.deck_listing.specs.{Joins.Spans.{RiseWithin, places}, Joins.Filling.{DoSpansRise, found, is_within}, declared.packing.word_spans.WordSpan.WordSpan}
 
 pub rise-wider : (low : ℕ) (ns : List ℕ) (high higher : ℕ) → RiseWithin low ns high → high ≤ higher → RiseWithin low ns higher
 rise-wider low [] high higher h k = omega arith
@@ -47,25 +47,14 @@ spans-append low (x ∷ xs) ys middle high h k = (h.0, h.1, spans-append (x.offs
 pub spans-push : (low : ℕ) (spans : List WordSpan) (span : WordSpan) (high : ℕ) → DoSpansRise low spans span.offset → 0 < span.count → span.offset + span.count ≤ high → DoSpansRise low (spans ++ span ∷ []) high
 spans-push low spans span high h some k = spans-append low spans (span ∷ []) span.offset high h (omega arith, some, k)
 
-or_none : (a : Option ℕ) → or_else a None ≡ a
-or_none None = refl
-or_none (Some n) = refl
+pub none-option_or : (a b : Option ℕ) → a ≡ None → option_or a b ≡ b
+none-option_or a b e = rw e refl
 
-pub or_assoc : (a b c : Option ℕ) → or_else (or_else a b) c ≡ or_else a (or_else b c)
-or_assoc None b c = refl
-or_assoc (Some n) b c = refl
-
-pub or_else-none : (a b : Option ℕ) → b ≡ None → or_else a b ≡ a
-or_else-none a b e = rw e (or_none a)
-
-pub none-or_else : (a b : Option ℕ) → a ≡ None → or_else a b ≡ b
-none-or_else a b e = rw e refl
-
-picked-or : (test : Bool) (n : ℕ) (a b : Option ℕ) → (if test then Some n else or_else a b) ≡ or_else (if test then Some n else a) b
+picked-or : (test : Bool) (n : ℕ) (a b : Option ℕ) → (if test then Some n else option_or a b) ≡ option_or (if test then Some n else a) b
 picked-or true n a b = refl
 picked-or false n a b = refl
 
-pub found-append : (offset : ℕ) (xs ys : List WordSpan) → found offset (xs ++ ys) ≡ or_else (found offset xs) (found offset ys)
+pub found-append : (offset : ℕ) (xs ys : List WordSpan) → found offset (xs ++ ys) ≡ option_or (found offset xs) (found offset ys)
 found-append offset [] ys = refl
 found-append offset (x ∷ xs) ys =
     ap (λ rest. if is_within offset x then Some x.value else rest) (found-append offset xs ys) ∙ picked-or (is_within offset x) x.value (found offset xs) (found offset ys)

@@ -1,7 +1,7 @@
 -- Whole words of zeros, gathered at once.
 use Rattle.std.{proofs.Common.{◌≡◌, ◌≢◌, ℕ, zero, suc, ◌+◌, ◌*◌, ◌/◌, ◌%◌, ◌^◌, ◌<◌, ◌≤◌, true, false, nat_eq, List, [], ◌∷◌, ◌++◌, Some, None, replicate, refl, sym, ap, subst, ◌∙◌, arith, inl, inr}, specs.List.list_any, proofs.lemmas.Bool.Decides.{eqb_tells, leb_tells}, proofs.lemmas.List.Elements.filter-append}
-use Rattle.definitions.specs.{Kinds.units, Words.{Parcel, bits_at, filling_of, in_word, parcels_from, word_of_parcels}, declared.deck_kind.DeckKind.DeckKind, declared.deck_kind.DeckKind.TheVariants.{Rel, Abs, Periph}}
-use Rattle.deck_listing.{specs.Joins.Spans.span_parcels, specs.Joins.Filling.{AreZeroWords, IsGathered, IsOpenWord, found, is_none_there, value_of_parcels, zero_parcels}, specs.declared.packing.gathering.OpenWord.OpenWord, specs.declared.packing.spans.Span.Span, specs.declared.packing.word_spans.WordSpan.WordSpan, proofs.GatherLaws.no_parcels, proofs.RiseLaws.{spans-push, found-append, found-above, found-here, found-before, or_else-none, none-or_else, order_of}}
+use Rattle.definitions.{specs.Kinds.units, specs.Words.{Parcel, bits_at, filling_of, in_word, parcels_from, word_of_parcels}, specs.declared.deck_kind.DeckKind.DeckKind, specs.declared.deck_kind.DeckKind.TheVariants.{Rel, Abs, Periph}, proofs.TestLaws.option_or-none}
+use Rattle.deck_listing.{specs.Joins.Spans.span_parcels, specs.Joins.Filling.{AreZeroWords, IsGathered, IsOpenWord, found, is_none_there, value_of_parcels, zero_parcels}, specs.declared.packing.gathering.OpenWord.OpenWord, specs.declared.packing.spans.Span.Span, specs.declared.packing.word_spans.WordSpan.WordSpan, proofs.GatherLaws.no_parcels, proofs.RiseLaws.{spans-push, found-append, found-above, found-here, found-before, order_of, none-option_or}}
 
 -- parcels of zeros that are no instruction's
 abbrev AreZero : List Parcel → Type 0
@@ -109,12 +109,12 @@ zeros_gathered kind parcels old new next later count empty some goes small pushe
       rise = rw (goes, pushed) (spans-push 0 old span (next.word + count) h.rise some (omega arith));
       has = λ offset below. ap (found offset) pushed ∙ found-append offset old (span ∷ []) ∙ elim (order_of offset next.word) [
         | inl before ↦
-            or_else-none (found offset old) (found offset (span ∷ [])) (found-before offset span [] before)
+            option_or-none (found offset old) (found offset (span ∷ [])) (found-before offset span [] before)
             ∙ h.has offset before
             ∙ ap (value_of_parcels kind) (sym (in_word-both kind offset parcels zeros ∙ ap (λ ps. in_word kind offset parcels ++ ps) (zeros-before kind next.word count offset before) ∙ append_none (in_word kind offset parcels)))
         | inr behind ↦
             let within : offset < next.word + count = rw (← goes) below in
-            none-or_else (found offset old) (found offset (span ∷ [])) (found-above offset 0 old next.word h.rise behind)
+            none-option_or (found offset old) (found offset (span ∷ [])) (found-above offset 0 old next.word h.rise behind)
             ∙ found-here offset span [] behind within
             ∙ sym (zero-value kind (in_word kind offset zeros) (zero-held kind offset (units kind * next.word) (units kind * count)) (zeros-there kind next.word count offset behind within))
             ∙ ap (value_of_parcels kind) (sym (in_word-both kind offset parcels zeros ∙ ap (λ ps. ps ++ in_word kind offset zeros) (none-behind kind parcels old next offset h empty behind)))

@@ -1,29 +1,25 @@
 -- Where two decks agree at one place of a common tail, they agree at each later one.
-use Rattle.std.{proofs.Common.{◌≡◌, ℕ, List, [], ◌∷◌, ◌++◌, Option, Some, None, refl, sym, ap, ap₂, ◌∙◌}, specs.Prelude.map}
-use Rattle.definitions.{specs.Statements.Statement, specs.Forms.Form, specs.Settled.{Settled, defined_in, or_form, defined}, specs.Settling.{View, settle, settled_from, settled_all}, specs.Laws.States.{state_after, seen_from, effect_of, advanced}, specs.Laws.Agreement.{early_symbols, Agree, unnumbered_statement, unnumbered, settled_tail, HaveSameCards, AgreeOnTail}, specs.declared.deck_kind.DeckKind.DeckKind, proofs.StateSteps.{AreInUse, seen_of-state, state_after-step}, proofs.ViewLaws.settled_from-agree}
-
-or_form-assoc : (a b c : Option Form) → or_form (or_form a b) c ≡ or_form a (or_form b c)
-or_form-assoc None b c = refl
-or_form-assoc (Some form) b c = refl
+use Rattle.std.{proofs.Common.{◌≡◌, ℕ, List, [], ◌∷◌, ◌++◌, refl, sym, ap, ap₂, ◌∙◌}, specs.Prelude.map, specs.Option.option_or}
+use Rattle.definitions.{specs.Statements.Statement, specs.Settled.{Settled, defined_in, defined}, specs.Settling.{View, settle, settled_from, settled_all}, specs.Laws.States.{state_after, seen_from, effect_of, advanced}, specs.Laws.Agreement.{early_symbols, Agree, unnumbered_statement, unnumbered, settled_tail, HaveSameCards, AgreeOnTail}, specs.declared.deck_kind.DeckKind.DeckKind, proofs.StateSteps.{AreInUse, seen_of-state, state_after-step}, proofs.ViewLaws.settled_from-agree, proofs.TestLaws.option_or-assoc}
 
 -- the first definition among statements, or among those before them
-defined-append : (name : List ℕ) (behind earlier : List Settled) → defined name (behind ++ earlier) ≡ or_form (defined name behind) (defined name earlier)
+defined-append : (name : List ℕ) (behind earlier : List Settled) → defined name (behind ++ earlier) ≡ option_or (defined name behind) (defined name earlier)
 defined-append name [] earlier = refl
 defined-append name (settled ∷ behind) earlier =
-    ap (or_form (defined_in name settled.definitions)) (defined-append name behind earlier)
-    ∙ sym (or_form-assoc (defined_in name settled.definitions) (defined name behind) (defined name earlier))
+    ap (option_or (defined_in name settled.definitions)) (defined-append name behind earlier)
+    ∙ sym (option_or-assoc (defined_in name settled.definitions) (defined name behind) (defined name earlier))
 
 -- the numbers of cards define nothing
 defined-unnumbered : (name : List ℕ) (settled : List Settled) → defined name (map unnumbered settled) ≡ defined name settled
 defined-unnumbered name [] = refl
-defined-unnumbered name (latest ∷ earlier) = ap (or_form (defined_in name latest.definitions)) (defined-unnumbered name earlier)
+defined-unnumbered name (latest ∷ earlier) = ap (option_or (defined_in name latest.definitions)) (defined-unnumbered name earlier)
 
 -- the same statements behind lists that agree on a name agree on it
 defined-agree : (name : List ℕ) (behind other earlier before : List Settled) → map unnumbered behind ≡ map unnumbered other → defined name earlier ≡ defined name before →
     defined name (behind ++ earlier) ≡ defined name (other ++ before)
 defined-agree name behind other earlier before same e =
     defined-append name behind earlier
-    ∙ ap₂ or_form (sym (defined-unnumbered name behind) ∙ ap (defined name) same ∙ defined-unnumbered name other) e
+    ∙ ap₂ option_or (sym (defined-unnumbered name behind) ∙ ap (defined name) same ∙ defined-unnumbered name other) e
     ∙ sym (defined-append name other before)
 
 pub views-agree : (names : List (List ℕ)) (behind other earlier before : List Settled) → map unnumbered behind ≡ map unnumbered other →

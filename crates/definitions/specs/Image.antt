@@ -1,5 +1,5 @@
 -- The octal image (ours): each deck that has a section, with its stored words in order of address, and then the common blocks.
-use Rattle.std.specs.Prelude.{ℕ, ◌==◌, List, [], ◌∷◌, ◌++◌, Bool, true, false, not, Option, Some, None, unwrap_or, codes, filter, flat_map, map, if◌then◌else◌}
+use Rattle.std.specs.{Prelude.{ℕ, ◌==◌, List, [], ◌∷◌, ◌++◌, Bool, true, false, not, Option, Some, None, unwrap_or, codes, filter, flat_map, map, if◌then◌else◌}, Option.option_or}
 use Rattle.definitions.specs.{Numerals.octal_of, Kinds.kind_text, Words.{StoredWord, rising, stored_words}, Objects.Object, Listing.line, Layout.{Based, Common, Layout, AddressedWord, addressed, object_words, is_beyond}, LinkValues.linking_of, declared.deck_kind.DeckKind.DeckKind, declared.deck_kind.DeckKind.TheVariants.{Rel, Periph}}
 
 -- a stored word behind its address: 20 digits behind 6, in a peripheral deck 4 behind 4
@@ -35,7 +35,7 @@ stored_at offset (word ∷ words) = if word.offset == offset then Some word.valu
 -- the value that the last of these lists with a word at an offset has there
 abbrev pub last_at : ℕ → List (List StoredWord) → Option ℕ
 last_at offset [] = None
-last_at offset (words ∷ later) = elim (last_at offset later) [ None ↦ stored_at offset words | Some value ↦ Some value ]
+last_at offset (words ∷ later) = option_or (last_at offset later) (stored_at offset words)
 
 -- lists of words as one, by increasing offset: at each offset that of the last list with a word there
 abbrev pub laid : List (List StoredWord) → List StoredWord

@@ -1,5 +1,5 @@
 -- The values of a link: what entries and externals are worth, and what the link gives a field (ours).
-use Rattle.std.specs.Prelude.{ℕ, List, [], ◌∷◌, Option, Some, None, Bool, true, false, flat_map, unwrap_or, ℤ, pos, ◌+ℤ◌, if◌then◌else◌}
+use Rattle.std.specs.{Prelude.{ℕ, List, [], ◌∷◌, Option, Some, None, Bool, true, false, flat_map, unwrap_or, ℤ, pos, ◌+ℤ◌, if◌then◌else◌}, Option.option_or}
 use Rattle.definitions.specs.{Characters.same_text, Coding.coded_in, Forms.Form, Settled.Definition, StatementItems.{Item, Known, Linked, part_value}, Words.Linking, Layout.{Based, Common, Layout, block_base}}
 
 -- the value of a form in a deck that stands at a base, from the values of externals
@@ -19,11 +19,6 @@ names_of (entry ∷ entries) = entry.name ∷ names_of entries
 abbrev pub entry_names : List Based → List (List ℕ)
 entry_names all = flat_map (λ (based : Based). names_of based.object.entries) all
 
--- a value, or the other one where it is missing
-abbrev pub or_value : Option ℤ → Option ℤ → Option ℤ
-or_value None other = other
-or_value (Some value) other = Some value
-
 -- the value of a name among the entries of a deck, if it has it
 abbrev pub entered_in : List ℕ → List Common → Based → List Definition → Option ℤ
 entered_in name commons based [] = None
@@ -32,7 +27,7 @@ entered_in name commons based (entry ∷ entries) = if same_text name entry.name
 -- an external is the first entry of its name in deck order
 abbrev pub entered : List ℕ → List Common → List Based → Option ℤ
 entered name commons [] = None
-entered name commons (based ∷ others) = or_value (entered_in name commons based based.object.entries) (entered name commons others)
+entered name commons (based ∷ others) = option_or (entered_in name commons based based.object.entries) (entered name commons others)
 
 -- a missing one is 0
 abbrev pub external_value : Layout → List ℕ → ℤ

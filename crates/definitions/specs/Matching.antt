@@ -1,5 +1,5 @@
 -- How an operation and its operand are matched with the rows of the central table.
-use Rattle.std.specs.{Prelude.{ℕ, ◌+◌, ◌-◌, ◌*◌, ◌==◌, List, [], ◌∷◌, ◌++◌, Option, Some, None, Bool, true, ◌&&◌, nat_le, codes, length, filter, map, is_some, option_map, option_and_then, if◌then◌else◌}, List.slice_split}
+use Rattle.std.specs.{Prelude.{ℕ, ◌+◌, ◌-◌, ◌*◌, ◌==◌, List, [], ◌∷◌, ◌++◌, Option, Some, None, Bool, true, ◌&&◌, nat_le, codes, length, filter, map, is_some, option_map, option_and_then, if◌then◌else◌}, List.slice_split, Option.option_or}
 use Rattle.definitions.specs.{Characters.{same_text, is_among, comma, zero_digit}, Pieces.{Mark, Comma, Plus, Minus, Star, Slash, Equals, Piece, IsMark, IsCountedItem, Plain}, Expressions.{Expression, Sign, PlusSign, Term, Operator, Subtract, Element, ARegister, OperatorElement, expression_of, is_plain}, CentralTable.{Row, SumRow, central_rows, ignoring_rows, sum_rows}, declared.number_base.NumberBase.NumberBase}
 
 -- the digits of i, j and k
@@ -215,8 +215,7 @@ fits_of base operation subfields =
 -- the instruction of the first row that fits
 abbrev pub first_fit : List (Option Instruction) → Option Instruction
 first_fit [] = None
-first_fit (None ∷ fits) = first_fit fits
-first_fit (Some instruction ∷ fits) = Some instruction
+first_fit (fit ∷ fits) = option_or fit (first_fit fits)
 
 -- the instruction of an operation with its subfields, if a row of the operation fits them
 abbrev pub central_of : NumberBase → List ℕ → List (List Piece) → Option Instruction

@@ -1,6 +1,6 @@
 -- What a statement is once the statements before it are known: its block, its place, its counters and what it defines.
 -- Lists of settled statements are read newest first.
-use Rattle.std.specs.Prelude.{ℕ, List, [], ◌∷◌, Option, Some, None, Bool, if◌then◌else◌}
+use Rattle.std.specs.{Prelude.{ℕ, List, [], ◌∷◌, Option, Some, None, Bool, if◌then◌else◌}, Option.option_or}
 use Rattle.definitions.specs.{Characters.same_text, Statements.Statement, Fields.{Fields, fields_of}, Forms.Form, Operations.{Operation, operation_of}, Operands.{Operand, operand_of}, declared.deck_kind.DeckKind.DeckKind, declared.number_base.NumberBase.NumberBase, declared.letter.Letter.Letter}
 
 -- what is read of a statement before any name is known
@@ -66,12 +66,7 @@ abbrev pub defined_in : List ℕ → List Definition → Option Form
 defined_in name [] = None
 defined_in name (definition ∷ definitions) = if same_text name definition.name then Some definition.form else defined_in name definitions
 
--- the first of two values, or the second where that is missing
-abbrev pub or_form : Option Form → Option Form → Option Form
-or_form None other = other
-or_form (Some form) other = Some form
-
 -- the value of a symbol's first definition, if one of these statements has it
 abbrev pub defined : List ℕ → List Settled → Option Form
 defined name [] = None
-defined name (settled ∷ earlier) = or_form (defined_in name settled.definitions) (defined name earlier)
+defined name (settled ∷ earlier) = option_or (defined_in name settled.definitions) (defined name earlier)

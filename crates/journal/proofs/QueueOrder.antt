@@ -1,19 +1,19 @@
 -- What goes out of a queue goes out in the order of versions.
-use Rattle.std.proofs.{Common.{ℕ, ◌≡◌, ◌+◌, ◌==◌, cond, List, [], ◌∷◌, ◌++◌, length, Contains, Option, Some, None, refl, sym, ap, ap₂, subst, ◌∙◌, arith, inl, inr, append_assoc, append-nil, eqb-true, eq-eqb, length-append}, lemmas.Bool.cases_Bool, lemmas.List.Elements.{Contains-push, Contains-push_cases, Contains-append_left, Contains-append_right, Contains-append_cases}}
-use Rattle.journal.specs.{declared.queue.Unwritten.Unwritten, Records.text_with_version, Queues.{GoOut, start, more, draft_of, draft_queued, or_else, unwritten, Waits, AllWait, texts_from, InOrder}}
+use Rattle.std.{proofs.Common.{ℕ, ◌≡◌, ◌+◌, ◌==◌, cond, List, [], ◌∷◌, ◌++◌, length, Contains, Option, Some, None, refl, sym, ap, ap₂, subst, ◌∙◌, arith, inl, inr, append_assoc, append-nil, eqb-true, eq-eqb, length-append}, proofs.lemmas.Bool.cases_Bool, proofs.lemmas.List.Elements.{Contains-push, Contains-push_cases, Contains-append_left, Contains-append_right, Contains-append_cases}, specs.Option.option_or}
+use Rattle.journal.specs.{declared.queue.Unwritten.Unwritten, Records.text_with_version, Queues.{GoOut, start, more, draft_of, draft_queued, unwritten, Waits, AllWait, texts_from, InOrder}}
 
 -- the record that is found waits
-here-or-later : (place : Option Unwritten) (places : List (Option Unwritten)) (version : ℕ) (draft : List ℕ) → or_else (draft_of version place) (draft_queued version places) ≡ Some draft →
+here-or-later : (place : Option Unwritten) (places : List (Option Unwritten)) (version : ℕ) (draft : List ℕ) → option_or (draft_of version place) (draft_queued version places) ≡ Some draft →
     (draft_queued version places ≡ Some draft → Waits places version draft) → Waits (place ∷ places) version draft
 here-or-later None places version draft queued later = Contains-append_right (None ∷ []) places (Some (unwritten version draft)) (later queued)
 here-or-later (Some waits) places version draft queued later = elim (cases_Bool (waits.version == version)) [
   | inl same ↦ (
-      let e : or_else (cond (waits.version == version) (Some waits.draft) None) (draft_queued version places) ≡ Some waits.draft = ap (λ b. or_else (cond b (Some waits.draft) None) (draft_queued version places)) same in
+      let e : option_or (cond (waits.version == version) (Some waits.draft) None) (draft_queued version places) ≡ Some waits.draft = ap (λ b. option_or (cond b (Some waits.draft) None) (draft_queued version places)) same in
       let drafts : waits.draft ≡ draft = cc in
       let one : waits ≡ unwritten version draft = ap₂ (λ (v : ℕ) (d : List ℕ). unwritten v d) (eqb-true waits.version version same) drafts in
       subst (λ (u : Unwritten). Waits (Some u ∷ places) version draft) (sym one) (Contains-append_left (Some (unwritten version draft) ∷ []) places (Some (unwritten version draft)) (Contains-push [] (Some (unwritten version draft)))))
   | inr other ↦ (
-      let e : or_else (cond (waits.version == version) (Some waits.draft) None) (draft_queued version places) ≡ draft_queued version places = ap (λ b. or_else (cond b (Some waits.draft) None) (draft_queued version places)) other in
+      let e : option_or (cond (waits.version == version) (Some waits.draft) None) (draft_queued version places) ≡ draft_queued version places = ap (λ b. option_or (cond b (Some waits.draft) None) (draft_queued version places)) other in
       Contains-append_right (Some waits ∷ []) places (Some (unwritten version draft)) (later (sym e ∙ queued)))
 ]
 
@@ -22,7 +22,7 @@ queued-waits [] version draft queued = cc
 queued-waits (place ∷ places) version draft queued = here-or-later place places version draft queued (queued-waits places version draft)
 
 -- neither is there
-neither : (a b : Option (List ℕ)) → or_else a b ≡ None → (a ≡ None) × (b ≡ None)
+neither : (a b : Option (List ℕ)) → option_or a b ≡ None → (a ≡ None) × (b ≡ None)
 neither None b none = (refl, none)
 neither (Some draft) b none = cc
 

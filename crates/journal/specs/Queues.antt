@@ -1,5 +1,5 @@
 -- Records that are not written yet (ours): one place for each session, and the version of the record that is to be written next.
-use Rattle.std.specs.Prelude.{ℕ, ◌≡◌, ⊤, ◌+◌, ◌==◌, List, [], ◌∷◌, ◌++◌, length, Bool, false, ◌&&◌, Contains, Option, Some, None, if◌then◌else◌, position, set}
+use Rattle.std.specs.{Prelude.{ℕ, ◌≡◌, ⊤, ◌+◌, ◌==◌, List, [], ◌∷◌, ◌++◌, length, Bool, false, ◌&&◌, Contains, Option, Some, None, if◌then◌else◌, position, set}, Option.option_or}
 use Rattle.definitions.specs.Characters.{same_text}
 use Rattle.journal.specs.{declared.queue.Unwritten.Unwritten, Records.text_with_version}
 
@@ -33,15 +33,10 @@ abbrev pub draft_of : ℕ → Option Unwritten → Option (List ℕ)
 draft_of version None = None
 draft_of version (Some waits) = if waits.version == version then Some waits.draft else None
 
--- the first of two, or else the second
-abbrev pub or_else : {A : Type 0} → Option A → Option A → Option A
-or_else (Some a) other = Some a
-or_else None other = other
-
 -- the record of a version among those of all places
 abbrev pub draft_queued : ℕ → List (Option Unwritten) → Option (List ℕ)
 draft_queued version [] = None
-draft_queued version (place ∷ places) = or_else (draft_of version place) (draft_queued version places)
+draft_queued version (place ∷ places) = option_or (draft_of version place) (draft_queued version places)
 
 -- what goes out from a version on: nothing; or, behind what went out, the record of the version that comes then
 pub data GoOut (places : List (Option Unwritten)) (first : ℕ) : List (List ℕ) → List ℕ → ℕ → Type 0 where

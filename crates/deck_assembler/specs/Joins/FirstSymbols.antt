@@ -1,6 +1,6 @@
 -- The first definition of each symbol, by the number that its name is.
-use Rattle.std.specs.{Prelude.{ℕ, ⊤, ◌&&◌, nat_lt, nat_eq, Bool, List, [], ◌∷◌, Option, Some, None, if◌then◌else◌}, Int.{w64, from_be_bytes}, List.{AllByRecursion, list_all}, Map.lookup}
-use Rattle.definitions.specs.{Characters.same_text, Forms.Form, Operands.{Operand, NamesOperand}, Settled.or_form, Settling.{View, external}}
+use Rattle.std.specs.{Prelude.{ℕ, ⊤, ◌&&◌, nat_lt, nat_eq, Bool, List, [], ◌∷◌, Option, Some, None, if◌then◌else◌}, Int.{w64, from_be_bytes}, List.{AllByRecursion, list_all}, Map.lookup, Option.option_or}
+use Rattle.definitions.specs.{Characters.same_text, Forms.Form, Operands.{Operand, NamesOperand}, Settling.{View, external}}
 use Rattle.statement_coder.specs.Joins.Readings.{IsLawfulName}
 use Rattle.statement_coder.specs.declared.definitions_made.Defines as code
 use Rattle.statement_coder.specs.declared.definitions_made.Defines.TheVariants as defines
@@ -20,7 +20,7 @@ symbol_in forms name = if is_known_name name then lookup (nat_eq (number_of_name
 
 -- the values of symbols with one definition more, if its name is one; an earlier one stays
 abbrev pub with_symbol : List ℕ → Form → View → View
-with_symbol name form symbols other = or_form (symbols other) (if is_known_name name && same_text other name then Some form else None)
+with_symbol name form symbols other = option_or (symbols other) (if is_known_name name && same_text other name then Some form else None)
 
 -- the values of symbols with the names of an EXT
 abbrev pub with_externals : List (Option (List ℕ)) → View → View

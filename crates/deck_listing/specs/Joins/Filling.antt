@@ -1,5 +1,5 @@
 -- What spans of words say of each word of a block, and what they are to say (ours).
-use Rattle.std.specs.{Prelude.{ℕ, zero, suc, ◌≡◌, ◌+◌, ◌-◌, ◌*◌, ◌%◌, ◌^◌, ◌<◌, ◌≤◌, List, [], ◌∷◌, ◌++◌, Option, None, Some, Bool, true, false, ◌&&◌, nat_le, nat_lt, max, min, replicate, unwrap_or, slice_index_or, if◌then◌else◌}, List.list_any}
+use Rattle.std.specs.{Prelude.{ℕ, zero, suc, ◌≡◌, ◌+◌, ◌-◌, ◌*◌, ◌%◌, ◌^◌, ◌<◌, ◌≤◌, List, [], ◌∷◌, ◌++◌, Option, None, Some, Bool, true, false, ◌&&◌, nat_le, nat_lt, max, min, replicate, unwrap_or, slice_index_or, if◌then◌else◌}, List.list_any, Option.option_or}
 use Rattle.definitions.specs.{Kinds.units, Words.{Parcel, StoredWord, bits_at, in_word, parcels_from, word_of_parcels}, declared.deck_kind.DeckKind.DeckKind}
 use Rattle.deck_listing.specs.declared.packing.{gathering.OpenWord.OpenWord, spans.Span.Span, word_spans.WordSpan.WordSpan}
 
@@ -27,11 +27,6 @@ abbrev pub found : ℕ → List WordSpan → Option ℕ
 found offset [] = None
 found offset (span ∷ spans) = if is_within offset span then Some span.value else found offset spans
 
--- the first value, or the second where there is none
-abbrev pub or_else : Option ℕ → Option ℕ → Option ℕ
-or_else None other = other
-or_else (Some value) other = Some value
-
 -- the word that parcels make, if there are any
 abbrev pub value_of_parcels : DeckKind → List Parcel → Option ℕ
 value_of_parcels kind [] = None
@@ -44,7 +39,7 @@ value_in kind run word = value_of_parcels kind (in_word kind word run)
 -- what the latest of these runs has in a word; the latest run is the last
 abbrev pub latest_value : DeckKind → List (List Parcel) → ℕ → Option ℕ
 latest_value kind [] word = None
-latest_value kind (run ∷ runs) word = or_else (latest_value kind runs word) (value_in kind run word)
+latest_value kind (run ∷ runs) word = option_or (latest_value kind runs word) (value_in kind run word)
 
 -- spans, by increasing offset, that have at each offset the value that they are to have there
 pub record IsFilled (value : ℕ → Option ℕ) (spans : List WordSpan) : Type 0 where
@@ -111,7 +106,7 @@ pub record IsTaking (older : List WordSpan) (from to : ℕ) (old new left : List
   pub within : low ≤ to
   pub rise : (high : ℕ) → from ≤ high → low ≤ high → DoSpansRise from more high
   pub left_rise : DoSpansRise low left (2 ^ 20)
-  pub has : (offset : ℕ) → from ≤ offset → offset < to → or_else (found offset more) (found offset left) ≡ found offset older
+  pub has : (offset : ℕ) → from ≤ offset → offset < to → option_or (found offset more) (found offset left) ≡ found offset older
   pub left_has : (offset : ℕ) → to ≤ offset → found offset older ≡ found offset left
 
 -- two lists of spans being merged: up to an offset all words are taken, the others are those of the spans that are left
@@ -119,6 +114,6 @@ pub record IsMerging (newer older taken newer_left older_left : List WordSpan) (
   pub rise : DoSpansRise 0 taken from
   pub newer_rise : DoSpansRise from newer_left (2 ^ 20)
   pub older_rise : DoSpansRise 0 older_left (2 ^ 20)
-  pub has : (offset : ℕ) → offset < from → found offset taken ≡ or_else (found offset newer) (found offset older)
+  pub has : (offset : ℕ) → offset < from → found offset taken ≡ option_or (found offset newer) (found offset older)
   pub newer_has : (offset : ℕ) → from ≤ offset → found offset newer ≡ found offset newer_left
   pub older_has : (offset : ℕ) → from ≤ offset → found offset older ≡ found offset older_left

@@ -1,7 +1,8 @@
 //! Words over other words: where both are, it is the newer ones.
 ghost use Rattle.std.specs.Prelude.{◌≡◌, ◌+◌, ◌^◌, ◌≤◌, ◌++◌, IfOk, OnOk, drop, length};
+ghost use Rattle.std.specs.Option.{option_or};
 ghost use Rattle.deck_listing.specs.Joins.Laying.{with_all_stored};
-ghost use Rattle.deck_listing.specs.Joins.Filling.{IsFilled, DoSpansRise, IsBetween, as_stored, found, or_else, part_of};
+ghost use Rattle.deck_listing.specs.Joins.Filling.{IsFilled, DoSpansRise, IsBetween, as_stored, found, part_of};
 
 use crate::packing::word_spans::WordSpan;
 use std::alloc::{AllocError, Global};
@@ -80,7 +81,7 @@ pub(crate) fn merged(
 ) -> Result<Vec<WordSpan>, AllocError>
     requires newer { DoSpansRise 0 newer.now (2 ^ 20) }
     requires older { DoSpansRise 0 older.now (2 ^ 20) }
-    ensures { IfOk result (λ spans. IsFilled (λ offset. or_else (found offset newer.now) (found offset older.now)) spans.items) }
+    ensures { IfOk result (λ spans. IsFilled (λ offset. option_or (found offset newer.now) (found offset older.now)) spans.items) }
 {
     let mut spans = Vec::new(alloc);
     let mut place = 0;
@@ -102,7 +103,7 @@ pub(crate) fn laid_over(
 ) -> Result<Vec<WordSpan>, AllocError>
     requires newer { DoSpansRise 0 newer.items (2 ^ 20) }
     requires older { DoSpansRise 0 older.now (2 ^ 20) }
-    ensures { IfOk result (λ spans. IsFilled (λ offset. or_else (found offset newer.items) (found offset older.now)) spans.items) }
+    ensures { IfOk result (λ spans. IsFilled (λ offset. option_or (found offset newer.items) (found offset older.now)) spans.items) }
 {
     if older.is_empty() {
         return Ok(newer);

@@ -1,15 +1,15 @@
 -- No location field is a name.
-use Rattle.std.proofs.{Common.{◌≡◌, ◌==◌, ℕ, true, List, [], ◌∷◌, length, refl, sym, arith}, lemmas.Bool.Decides.nat_tests}
+use Rattle.std.proofs.{Common.{◌≡◌, ◌==◌, ℕ, true, List, [], ◌∷◌, None, length, refl, sym, arith}, lemmas.Bool.Decides.nat_tests}
 use Rattle.definitions.specs.Operands as operands
-use Rattle.definitions.specs.Settling.{View}
+use Rattle.definitions.{specs.Settling.{View}, proofs.TestLaws.option_or-none}
 use Rattle.statement_coder.specs.declared.definitions_made.Defines as made
 use Rattle.statement_coder.specs.declared.definitions_made.Defines.TheVariants as defines
-use Rattle.deck_assembler.{specs.Joins.FirstSymbols.{symbol_in, with_defined}, proofs.DefinitionLaws.or_form-none}
+use Rattle.deck_assembler.specs.Joins.FirstSymbols.{symbol_in, with_defined}
 use Rattle.deck_assembler.proofs.definitions_kept.define_own.Goals as goal
 
 nameless : (what : made.Defines) (v : View) → v ≡ with_defined [] operands.Unread what v
 nameless defines.Nothing v = refl
-nameless (defines.Symbol form) v = λ i other. sym (or_form-none (v other)) i
+nameless (defines.Symbol form) v = λ i other. sym (option_or-none (v other) None refl) i
 nameless defines.Externals v = refl
 
 no-field : (location : List ℕ) (what : made.Defines) (v : View) → true ≡ (length location == 0) → v ≡ with_defined location operands.Unread what v
