@@ -1,13 +1,13 @@
 -- A place makes nothing known; what is noted is known.
-use Rattle.std.proofs.Common.{ℕ, ◌≡◌, List, [], ◌∷◌, Bool, true, false, cond, Option, Some, None, refl, ap, is_some, true≢false}
+use Rattle.std.{proofs.Common.{ℕ, ◌≡◌, List, [], ◌∷◌, Bool, true, false, cond, Option, Some, None, refl, ap, is_some, true≢false}, specs.Option.option_flatten}
 use Rattle.definitions.{specs.Characters.same_text, proofs.TextLaws.same_text-refl}
-use Rattle.deck_files.specs.{declared.file_sums.FileSum.FileSum, declared.known_rows.Known.Known, Files.{Named, named, with_named}, KnownFiles.{IsSaved, after_place, file_known, known_at, version_at}}
+use Rattle.deck_files.specs.{declared.file_sums.FileSum.FileSum, declared.known_rows.Known.Known, Files.{Named, named, with_named}, KnownFiles.{IsSaved, after_place, file_known, version_at}}
 
-known-none : (t : Bool) → known_at (cond t (Some None) None) ≡ None
+known-none : (t : Bool) → option_flatten {T = Known} (cond t (Some None) None) ≡ None
 known-none true = refl
 known-none false = refl
 
-known-pick : (t : Bool) (known : Option Known) (first second : Option (Option Known)) → known_at first ≡ known_at second → known_at (cond t (Some known) first) ≡ known_at (cond t (Some known) second)
+known-pick : (t : Bool) (known : Option Known) (first second : Option (Option Known)) → option_flatten first ≡ option_flatten second → option_flatten (cond t (Some known) first) ≡ option_flatten (cond t (Some known) second)
 known-pick true known first second same = refl
 known-pick false known first second same = same
 
@@ -34,4 +34,4 @@ place-known name other files = place-choose (is_some (named name files)) other f
 pub noted-saved : (name : List ℕ) (sum : FileSum) (version : ℕ) → IsSaved name version
 noted-saved name sum version =
     let known : Known = record { sum = sum; version = Some version } in
-    ((name, Some known) ∷ [], ap (λ (t : Bool). version_at (known_at (cond t (Some (Some known)) None))) (same_text-refl name))
+    ((name, Some known) ∷ [], ap (λ (t : Bool). version_at (option_flatten (cond t (Some (Some known)) None))) (same_text-refl name))

@@ -1,5 +1,5 @@
 -- The files of a folder that a service knows, since it saved them, or its desk took what it loaded (ours).
-use Rattle.std.specs.Prelude.{ℕ, ◌≡◌, ◌<◌, ◌==◌, Bool, List, Option, Some, None, false, true, nat_le, nat_lt, is_some, if◌then◌else◌}
+use Rattle.std.specs.{Prelude.{ℕ, ◌≡◌, ◌<◌, ◌==◌, Bool, List, Option, Some, None, false, true, nat_le, nat_lt, is_some, if◌then◌else◌, option_map, option_and_then}, Option.option_flatten}
 use Rattle.deck_files.specs.{declared.file_sums.FileSum.FileSum, declared.known_rows.Known.Known, FileSums.sum_of, Files.{Named, named, with_named}, SavedVersions.{SavedVersion, saved_version}}
 
 -- the names of the decks that have a place, each with what its file has and the newest version that was saved, or that the desk gave to what was loaded, and none where its file is not known; and how many more surely find memory
@@ -11,23 +11,13 @@ pub record KnownRows : Type 0 where
 abbrev pub has_place : List ℕ → Named (Option Known) → Bool
 has_place name files = is_some (named name files)
 
--- a version for a desk that goes on behind another: a greater one is not known
-abbrev pub version_up_to : ℕ → Option ℕ → Option ℕ
-version_up_to last None = None
-version_up_to last (Some version) = if nat_le version last then Some version else None
-
--- what is known of a file, for such a desk
+-- what is known of a file, for a desk that goes on behind another: a version that is greater is not known
 abbrev pub known_up_to : ℕ → Known → Known
-known_up_to last known = record known { version = version_up_to last known.version }
-
--- what is known at a place
-abbrev pub known_at : Option (Option Known) → Option Known
-known_at None = None
-known_at (Some known) = known
+known_up_to last known = record known { version = option_and_then (λ version. if nat_le version last then Some version else None) known.version }
 
 -- what is known of the deck's file
 abbrev pub file_known : List ℕ → Named (Option Known) → Option Known
-file_known name files = known_at (named name files)
+file_known name files = option_flatten (named name files)
 
 -- what is known of a file that has this text, the cards of this version
 abbrev pub known_as : List ℕ → ℕ → Known
@@ -35,13 +25,11 @@ known_as text version = record { sum = sum_of text; version = Some version }
 
 -- the version of the deck, where it is known
 abbrev pub version_at : Option Known → Option ℕ
-version_at None = None
-version_at (Some known) = known.version
+version_at known = option_and_then (λ (one : Known). one.version) known
 
 -- what the file has, where it is known
 abbrev pub sum_at : Option Known → Option FileSum
-sum_at None = None
-sum_at (Some known) = Some known.sum
+sum_at known = option_map (λ (one : Known). one.sum) known
 
 -- the newest version whose cards the deck's file has, none where it is not known
 abbrev pub version_known : List ℕ → Named (Option Known) → Option ℕ
@@ -53,8 +41,7 @@ IsSaved name version = (files : Named (Option Known)) × (version_known name fil
 
 -- the version that was saved, if one was and it is newer than this one
 abbrev pub newer_saved : List ℕ → ℕ → Option ℕ → Option SavedVersion
-newer_saved name version None = None
-newer_saved name version (Some saved) = if nat_lt version saved then Some (saved_version name saved) else None
+newer_saved name version saved = option_and_then (λ last. if nat_lt version last then Some (saved_version name last) else None) saved
 
 -- it is of this deck, and newer than this version
 abbrev pub IsNewer : List ℕ → ℕ → SavedVersion → Type 0

@@ -1,10 +1,10 @@
 //! The links of an expression behind its first element: operators with their elements.
-ghost use Rattle.std.specs.Prelude.{◌≡◌, ◌≤◌, ◌+◌, ◌∷◌, [], length, option_map, IfNone, IfSome};
+ghost use Rattle.std.specs.Prelude.{◌≡◌, ◌≤◌, ◌+◌, ◌∷◌, [], length, option_map, option_and_then, IfNone, IfSome};
 ghost use Rattle.definitions.specs.Pieces.{Inside, mark_of, pieces_at};
-ghost use Rattle.definitions.specs.Expressions.{pairs_of};
+ghost use Rattle.definitions.specs.Expressions.{operator_of_mark, pairs_of};
 ghost use Rattle.definitions.specs.declared.number_base.NumberBase.{NumberBase};
 ghost use Rattle.expr_forms.specs.Joins.Elements.{element_as};
-ghost use Rattle.expr_forms.specs.Joins.Links.{operator_as, operator_marked, link_as, links_behind, links_found, IsLawful, ForLink};
+ghost use Rattle.expr_forms.specs.Joins.Links.{operator_as, link_as, links_behind, links_found, IsLawful, ForLink};
 ghost use Rattle.expr_forms.specs.Joins.LoneRegisters.{joins_terms, is_register, begins_term, is_lone, without_lone, links_left_by};
 
 use crate::elements::{Element, next_element};
@@ -44,7 +44,7 @@ pub(crate) enum LoneRegisters {
 
 #[inline(always)]
 fn operator_of(c: u8) -> Option<Operator>
-    ensures { option_map operator_as result ≡ operator_marked (mark_of c) }
+    ensures { option_map operator_as result ≡ option_and_then operator_of_mark (mark_of c) }
 {
     match c {
         b'*' => Some(Operator::Times),

@@ -1,7 +1,7 @@
 -- The pieces of a subfield fit a pattern of registers where the elements that they spell do.
-use Rattle.std.{proofs.Common.{◌≡◌, ℕ, ◌-◌, Bool, true, false, not, cond, ◌&&◌, List, [], ◌∷◌, Option, Some, None, eqb, leb, codes, refl, sym, ap, ◌∙◌, inl, inr}, specs.Prelude.option_map, proofs.lemmas.Bool.and_parts, proofs.lemmas.Bool.Decides.eqb_tells}
+use Rattle.std.{proofs.Common.{◌≡◌, ℕ, ◌-◌, Bool, true, false, not, cond, ◌&&◌, List, [], ◌∷◌, Option, Some, None, eqb, leb, codes, refl, sym, ap, ◌∙◌, inl, inr}, specs.Prelude.{option_map, option_and_then}, proofs.lemmas.Bool.and_parts, proofs.lemmas.Bool.Decides.eqb_tells}
 use Rattle.definitions.{specs.Characters.{is_among, same_text}, specs.CountedItems.CountedItem, specs.Pieces.{Mark, Comma, Plus, Minus, Star, Slash, Equals, Piece, IsMark, IsCountedItem, Plain}, specs.Symbols.{Register, register_of, is_symbol, Number, number_read}, specs.Expressions.{Sign, NoSign, PlusSign, MinusSign, OfCountedItem, Element, ANumber, ACountedItem, ASymbol, ARegister, LocationCounter, OriginCounter, ALiteral, Operator, Times, Divide, Add, Subtract, OperatorElement, onto_pairs, pairs_of, element_of_name, element_of_text, counter_of, literal_of}, specs.Matching.{RegisterDigits, is_ijk, with_ijk, is_octal_digit, matched, plain_text}, specs.declared.number_base.NumberBase.NumberBase, proofs.GrammarLaws.pairs_from}
-use Rattle.operations.{specs.Joins.RegisterPieces.{pieces_fit, is_of_run, begins_with_run, is_run, is_sum_of_registers, are_of_field, is_letter_of, is_operator, is_behind_register}, specs.Joins.RegisterLinks.{operator_character, register_digit, with_digit, links_fit, read_links_fit}, proofs.OperationLaws.is_not, proofs.RegisterPieceLaws.{IsLetter, letter_of, letter_no_mark, cond_same, registers_fit, pattern_fits}}
+use Rattle.operations.{specs.Joins.RegisterPieces.{pieces_fit, is_of_run, begins_with_run, is_run, is_sum_of_registers, are_of_field, is_letter_of, is_operator, is_behind_register}, specs.Joins.RegisterLinks.{operator_character, register_digit, links_fit, read_links_fit}, proofs.OperationLaws.is_not, proofs.RegisterPieceLaws.{IsLetter, letter_of, letter_no_mark, cond_same, registers_fit, pattern_fits}}
 
 -- an element that is there and is a register
 abbrev is_register_element : Option Element → Bool
@@ -23,10 +23,10 @@ no_register_fits : (o : Operator) (m p q : ℕ) (ps : List ℕ) (ijk : RegisterD
 no_register_fits o m p q ps ijk None links other = refl
 no_register_fits o m p q ps ijk (Some e) None other = refl
 no_register_fits o m p q ps ijk (Some e) (Some links) other =
-    ap (λ d. cond (eqb m (operator_character o)) (with_digit d (λ digit. links_fit ps links (with_ijk q digit ijk))) None) (no_digit_of p e other)
+    ap (λ d. cond (eqb m (operator_character o)) (option_and_then (λ digit. links_fit ps links (with_ijk q digit ijk)) d) None) (no_digit_of p e other)
     ∙ cond_same (eqb m (operator_character o)) None
 
-digit_of_letter : (b : Bool) (digit : ℕ) (fits : ℕ → Option RegisterDigits) → with_digit (cond b (Some digit) None) fits ≡ cond b (fits digit) None
+digit_of_letter : (b : Bool) (digit : ℕ) (fits : ℕ → Option RegisterDigits) → option_and_then fits (cond b (Some digit) None) ≡ cond b (fits digit) None
 digit_of_letter true digit fits = refl
 digit_of_letter false digit fits = refl
 
@@ -35,7 +35,7 @@ register_fits : (o : Operator) (m p q : ℕ) (ps : List ℕ) (ijk : RegisterDigi
     read_links_fit (m ∷ p ∷ q ∷ ps) (onto_pairs o (Some (ARegister r)) links) ijk ≡ cond (eqb p r.letter) (read_links_fit ps links (with_ijk q r.digit ijk)) None
 register_fits o m p q ps ijk r None same = sym (cond_same (eqb p r.letter) None)
 register_fits o m p q ps ijk r (Some links) same =
-    ap (λ b. cond b (with_digit (cond (eqb p r.letter) (Some r.digit) None) (λ digit. links_fit ps links (with_ijk q digit ijk))) None) same
+    ap (λ b. cond b (option_and_then (λ digit. links_fit ps links (with_ijk q digit ijk)) (cond (eqb p r.letter) (Some r.digit) None)) None) same
     ∙ digit_of_letter (eqb p r.letter) r.digit (λ digit. links_fit ps links (with_ijk q digit ijk))
 
 -- a name that is no register is no register element
@@ -204,7 +204,7 @@ other_operator : (o : Operator) (m p q : ℕ) (ps : List ℕ) (ijk : RegisterDig
 other_operator o m p q ps ijk None links other = refl
 other_operator o m p q ps ijk (Some e) None other = refl
 other_operator o m p q ps ijk (Some e) (Some links) other =
-    ap (λ b. cond b (with_digit (register_digit p e) (λ digit. links_fit ps links (with_ijk q digit ijk))) None) other
+    ap (λ b. cond b (option_and_then (λ digit. links_fit ps links (with_ijk q digit ijk)) (register_digit p e)) None) other
 
 no_pattern : (o : Operator) (ijk : RegisterDigits) (e : Option Element) (links : Option (List OperatorElement)) → read_links_fit [] (onto_pairs o e links) ijk ≡ None
 no_pattern o ijk None links = refl

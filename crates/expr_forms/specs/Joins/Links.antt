@@ -1,6 +1,6 @@
 -- Links of the code, in the words of the definitions.
 use Rattle.std.specs.Prelude.{ℕ, List, [], ◌∷◌, Option, Some, None, ⊤, unwrap_or, ◌≡◌, true, is_some}
-use Rattle.definitions.specs.{Pieces.{Mark, Inside, pieces_at}, Expressions.{Operator, Times, Divide, Add, Subtract, OperatorElement, operator_of_mark, onto_pairs, pairs_of}, declared.number_base.NumberBase.NumberBase}
+use Rattle.definitions.specs.{Pieces.{Inside, pieces_at}, Expressions.{Operator, Times, Divide, Add, Subtract, OperatorElement, onto_pairs, pairs_of}, declared.number_base.NumberBase.NumberBase}
 use Rattle.expr_forms.specs.Joins.Elements.{element_as}
 use Rattle.expr_forms.specs.declared.links.Operator as operators
 use Rattle.expr_forms.specs.declared.links.Operator.TheVariants as operator
@@ -15,11 +15,6 @@ operator_as operator.Times = Times
 operator_as operator.Divide = Divide
 operator_as operator.Add = Add
 operator_as operator.Subtract = Subtract
-
--- the operator of a mark behind an element
-abbrev pub operator_marked : Option Mark → Option Operator
-operator_marked None = None
-operator_marked (Some mark) = operator_of_mark mark
 
 -- the pairs that begin with the link that was found
 abbrev pub links_found : NumberBase → links.LinkFound → Option (List OperatorElement)

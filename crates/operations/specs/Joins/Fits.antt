@@ -1,13 +1,7 @@
 -- What the rows of an operation make of an operand, by the digit that the operation's name has (COMPASS 60492600, CPU instructions).
-use Rattle.std.specs.{Prelude.{ℕ, ◌-◌, ◌==◌, List, [], ◌∷◌, Option, Some, None, nat_le, length, option_map, if◌then◌else◌}, List.slice_split}
+use Rattle.std.specs.{Prelude.{ℕ, ◌-◌, ◌==◌, List, [], ◌∷◌, Option, Some, None, nat_le, length, option_map, if◌then◌else◌, option_and_then}, List.slice_split}
 use Rattle.definitions.specs.{Characters.{comma, zero_digit}, Pieces.Piece, CentralTable.SumRow, Matching.{RegisterDigits, no_ijk, is_octal_digit, matched, Field, NoField, Match, is_plain_field, Instruction, Sum, instruction_of, subfields_matched, sum_code, sum_instruction}, declared.number_base.NumberBase.NumberBase}
 use Rattle.definitions.specs.CentralTable as table
-use Rattle.operations.specs.{declared.central.registers_found.RegistersFound.RegistersFound, Joins.RegistersFound.digits_as}
-
--- the rest of a text against the rest of a pattern, where what is before them fits
-abbrev pub matched_behind : Option RegistersFound → List ℕ → List ℕ → Option RegisterDigits
-matched_behind None ps cs = None
-matched_behind (Some found) ps cs = matched ps cs (digits_as found)
 
 -- the digit that the name of an operation has for i: 6 of BX6
 abbrev pub named_digits : List ℕ → RegisterDigits
@@ -21,8 +15,7 @@ row_fit_with base ijk subfields row =
 
 -- the instruction of a sum by a row, if there is a sum
 abbrev pub sum_fit_with : RegisterDigits → Option Sum → SumRow → Option Instruction
-sum_fit_with ijk None row = None
-sum_fit_with ijk (Some sum) row = sum_instruction (sum_code row sum.others) sum (matched row.registers sum.registers ijk)
+sum_fit_with ijk sum row = option_and_then (λ (s : Sum). sum_instruction (sum_code row s.others) s (matched row.registers s.registers ijk)) sum
 
 -- the instruction of a code, where there is one, with what was found
 abbrev pub code_fit : List ℕ → Match → Option Instruction

@@ -1,5 +1,5 @@
 //! The instruction of an operation and its operand.
-ghost use Rattle.std.specs.Prelude.{◌≡◌, ◌≤◌, ◌||◌, List, IsTrue, false, map, is_some, IfSome, IfOk, IfErr, None, if◌then◌else◌};
+ghost use Rattle.std.specs.Prelude.{◌≡◌, ◌≤◌, ◌||◌, List, IsTrue, false, map, is_some, option_and_then, IfSome, IfOk, IfErr, None, if◌then◌else◌};
 ghost use Rattle.std.specs.List.{list_all, list_any};
 ghost use Rattle.definitions.specs.Pieces.{Piece};
 ghost use Rattle.definitions.specs.CentralTable as table;
@@ -11,7 +11,7 @@ ghost use Rattle.expr_forms.specs.Joins.Operands.{IsOperand};
 ghost use Rattle.expr_forms.specs.Joins.Shapes.{instruction_as};
 ghost use Rattle.operations.specs.Joins.CentralTables.{operand_row, sum_row, operand_rows_of, sum_rows_of, is_some_of};
 ghost use Rattle.operations.specs.Joins.LawfulCodes.{has_lawful_code, has_lawful_codes};
-ghost use Rattle.operations.specs.Joins.Found.{ReadsAs, shape_as};
+ghost use Rattle.operations.specs.Joins.Found.{ReadsAs};
 
 use crate::Row;
 use crate::central::central_fits::central_fit;
@@ -27,7 +27,7 @@ use expr_forms::{Operand, Shape};
 /// The instruction of the first row that has an operation and ignores its operand.
 fn ignoring_fit<'a>(operation: &[u8]) -> Option<Shape<'a>>
     ensures rows { is_some result ≡ list_any (λ (row : table.Row). is_operation row.operation operation.now) table.ignoring_rows }
-    ensures fits { shape_as result ≡ first_fit (map ignoring_fit (rows_for operation.now table.ignoring_rows)) }
+    ensures fits { option_and_then instruction_as result ≡ first_fit (map ignoring_fit (rows_for operation.now table.ignoring_rows)) }
     ensures central { IfSome result (λ shape. IsTrue (is_some (instruction_as shape))) }
     ensures short { IfSome result (λ shape. shape.digit_count ≤ 10) }
 {

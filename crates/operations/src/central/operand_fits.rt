@@ -1,5 +1,5 @@
 //! Operands against the patterns of rows, subfield by subfield.
-ghost use Rattle.std.specs.Prelude.{◌≡◌, ◌==◌, List, [], Some, IsTrue, option_map};
+ghost use Rattle.std.specs.Prelude.{◌≡◌, ◌==◌, List, [], Some, IsTrue, option_map, option_and_then};
 ghost use Rattle.std.specs.List.{slice_split};
 ghost use Rattle.definitions.specs.Pieces.{Piece};
 ghost use Rattle.definitions.specs.Matching.{NoField, subfield_matched, subfields_matched};
@@ -8,7 +8,7 @@ ghost use Rattle.expr_forms.specs.Joins.Operands.{IsSubfield, IsOperand};
 ghost use Rattle.operations.specs.Joins.RegistersFound.{digits_as};
 ghost use Rattle.operations.specs.Joins.CodeTexts.{operand_text};
 ghost use Rattle.operations.specs.Joins.Parts.{part_text, is_part, parts_as};
-ghost use Rattle.operations.specs.Joins.Found.{found_as, next_found};
+ghost use Rattle.operations.specs.Joins.Found.{found_as};
 
 use crate::central::found::{CentralField, Found};
 use crate::central::parts::{Part, Parts};
@@ -66,7 +66,7 @@ fn next_fit<'e, 'a>(
 ) -> Option<Found<'e, 'a>>
     requires { IsTrue (is_part part) }
     ensures { (base : NumberBase) (pieces : List Piece) → IsSubfield base pieces subfield.now →
-        option_map found_as result ≡ next_found base (part_text part) pieces (option_map found_as found.entry) }
+        option_map found_as result ≡ option_and_then (subfield_matched base (part_text part) pieces) (option_map found_as found.entry) }
 {
     match found {
         Some(before) => subfield_fit(part, subfield, before),

@@ -1,5 +1,5 @@
 //! A sum against the rows of an operation whose operand is a sum.
-ghost use Rattle.std.specs.Prelude.{◌≡◌, ◌≤◌, ℕ, List, Some, option_map, IsTrue, map, is_some, IfSome};
+ghost use Rattle.std.specs.Prelude.{◌≡◌, ◌≤◌, ℕ, List, Some, option_map, option_and_then, IsTrue, map, is_some, IfSome};
 ghost use Rattle.std.specs.List.{list_all};
 ghost use Rattle.definitions.specs.Pieces.{Piece};
 ghost use Rattle.definitions.specs.CentralTable as table;
@@ -15,7 +15,7 @@ ghost use Rattle.operations.specs.Joins.RegistersFound.{digits_as};
 ghost use Rattle.operations.specs.Joins.CodeTexts.{registers_text, code_text_or_none};
 ghost use Rattle.operations.specs.Joins.CentralTables.{sum_row, sum_rows_of};
 ghost use Rattle.operations.specs.Joins.LawfulCodes.{is_lawful_or_none, has_lawful_codes};
-ghost use Rattle.operations.specs.Joins.Found.{fitted_as, shape_as};
+ghost use Rattle.operations.specs.Joins.Found.{fitted_as};
 ghost use Rattle.operations.specs.Joins.Fits.{sum_fit_with, form_fit};
 
 use crate::Row;
@@ -120,7 +120,7 @@ fn first_fit<'e, 'a>(
 fn one_fit<'a>(operation: &[u8], rows: &[Row<SumForm>], expression: &Expr<'a>) -> Option<Shape<'a>>
     requires rows { map sum_row rows.now ≡ sum_rows_of operation.now }
     requires lawful { IsTrue (list_all has_lawful_codes rows.now) }
-    ensures instruction { shape_as result ≡ matching.first_fit (map (matching.sum_fit operation.now (sum_read (Some expression.now))) (sum_rows_for operation.now table.sum_rows)) }
+    ensures instruction { option_and_then instruction_as result ≡ matching.first_fit (map (matching.sum_fit operation.now (sum_read (Some expression.now))) (sum_rows_for operation.now table.sum_rows)) }
     ensures central { IfSome result (λ shape. IsTrue (is_some (instruction_as shape))) }
     ensures short { IfSome result (λ shape. shape.digit_count ≤ 10) }
 {
@@ -145,7 +145,7 @@ pub(crate) fn sum_fit<'a>(
     requires rows { map sum_row rows.now ≡ sum_rows_of operation.now }
     requires lawful { IsTrue (list_all has_lawful_codes rows.now) }
     ensures instruction { (base : NumberBase) (subfields : List (List Piece)) → IsOperand base subfields operand.now →
-        shape_as result ≡ matching.first_fit (map (matching.sum_fit operation.now (sum_read (single base subfields))) (sum_rows_for operation.now table.sum_rows)) }
+        option_and_then instruction_as result ≡ matching.first_fit (map (matching.sum_fit operation.now (sum_read (single base subfields))) (sum_rows_for operation.now table.sum_rows)) }
     ensures central { IfSome result (λ shape. IsTrue (is_some (instruction_as shape))) }
     ensures short { IfSome result (λ shape. shape.digit_count ≤ 10) }
 {

@@ -1,8 +1,8 @@
 //! Texts against patterns of registers, and the digits that they have.
-ghost use Rattle.std.specs.Prelude.{◌≡◌, ◌<◌, ◌∷◌, ℕ, List, option_map};
+ghost use Rattle.std.specs.Prelude.{◌≡◌, ◌<◌, ◌∷◌, ℕ, List, option_map, option_and_then};
 ghost use Rattle.definitions.specs.Matching.{is_ijk, is_octal_digit, matched, with_ijk};
 ghost use Rattle.operations.specs.Joins.RegistersFound.{digits_as};
-ghost use Rattle.operations.specs.Joins.Fits.{matched_behind, named_digits};
+ghost use Rattle.operations.specs.Joins.Fits.{named_digits};
 
 use crate::central::registers_found::RegistersFound;
 
@@ -36,7 +36,7 @@ fn with_digit(registers: RegistersFound, place: u8, digit: u8) -> RegistersFound
 
 /// The digits behind a character of a pattern, where a character of a text fits it.
 fn with_character(registers: RegistersFound, p: u8, c: u8) -> Option<RegistersFound>
-    ensures { (ps cs : List ℕ) → matched (p ∷ ps) (c ∷ cs) (digits_as registers) ≡ matched_behind result ps cs }
+    ensures { (ps cs : List ℕ) → matched (p ∷ ps) (c ∷ cs) (digits_as registers) ≡ option_and_then (λ found. matched ps cs (digits_as found)) result }
 {
     if is_place(p) {
         if is_octal_digit(c) {
