@@ -1,5 +1,5 @@
 -- Blocks: the stack of USE, and the blocks in order of first use (COMPASS 60492600, USE; that the stack has no bound is ours).
-use Rattle.std.specs.{Prelude.{ℕ, List, [], ◌∷◌, ◌++◌, Bool, false, ◌==◌, ◌||◌, nat_lt, codes, length, drop, if◌then◌else◌}, List.list_any}
+use Rattle.std.specs.{Prelude.{ℕ, List, [], ◌∷◌, ◌++◌, Bool, false, ◌==◌, ◌||◌, nat_lt, codes, length, drop, if◌then◌else◌, map}, List.list_any}
 use Rattle.definitions.specs.{Characters.{same_text, slash}, Operands.{Operand, UseName, UseBefore}, Settled.{Settled, BlockChange, NoChange, Opens, Closes}}
 
 -- the name of the nominal block
@@ -33,8 +33,7 @@ block_in_use (name ∷ names) = name
 
 -- what statements did to the stack of blocks, newest first
 abbrev pub changes : List Settled → List BlockChange
-changes [] = []
-changes (settled ∷ earlier) = settled.change ∷ changes earlier
+changes settled = map (λ (one : Settled). one.change) settled
 
 -- whether a name is among these names
 abbrev pub is_named : List ℕ → List (List ℕ) → Bool

@@ -1,5 +1,5 @@
 -- The layout of a link: where decks and common blocks stand, and the words of a deck with their addresses (ours; labelled common: COMPASS 60492600, USE).
-use Rattle.std.specs.{Prelude.{ℕ, ◌+◌, List, [], ◌∷◌, Bool, true, false, not, max, flat_map, filter, nat_lt, nat_le, if◌then◌else◌}, List.list_any}
+use Rattle.std.specs.{Prelude.{ℕ, ◌+◌, List, [], ◌∷◌, Bool, true, false, not, max, flat_map, filter, nat_lt, nat_le, if◌then◌else◌, map}, List.list_any}
 use Rattle.definitions.specs.{Characters.same_text, Kinds.memory_end, Blocks.{literals_block, is_common}, Lengths.{BlockLength, BlockRow, base_in, total_length}, Words.{Linking, StoredWord, stored_words}, Objects.Object, declared.deck_kind.DeckKind.DeckKind, declared.deck_kind.DeckKind.TheVariants.Rel}
 
 -- where the first REL deck stands
@@ -49,8 +49,7 @@ pub record AddressedWord : Type 0 where
 
 -- stored words with their addresses, from a base on
 abbrev pub addressed : ℕ → List StoredWord → List AddressedWord
-addressed base [] = []
-addressed base (word ∷ words) = record { address = base + word.offset; value = word.value } ∷ addressed base words
+addressed base words = map (λ (word : StoredWord). record { address = base + word.offset; value = word.value }) words
 
 -- the rows of the blocks that stand in the deck itself
 abbrev pub local_rows : Object → List BlockRow

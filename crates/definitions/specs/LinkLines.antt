@@ -1,5 +1,5 @@
 -- The LINK lines: what went wrong in a link, each with its letter and its deck (ours).
-use Rattle.std.specs.Prelude.{ℕ, ◌+◌, ◌*◌, ◌/◌, List, [], ◌∷◌, ◌++◌, Bool, codes, flat_map, reverse, if◌then◌else◌}
+use Rattle.std.specs.Prelude.{ℕ, ◌+◌, ◌*◌, ◌/◌, List, [], ◌∷◌, ◌++◌, Bool, codes, flat_map, reverse, if◌then◌else◌, map}
 use Rattle.definitions.specs.{Numerals.octal_of, Kinds.{unit_bits, word_bits}, Settled.Definition, Blocks.is_named, StatementItems.Item, Words.Coded, Listing.line, Layout.{Based, Common, Layout, block_base}, LinkValues.{names_of, entry_names, is_unfit}}
 
 -- a LINK line: its letter, its deck, and what it reports
@@ -24,8 +24,7 @@ unfit_words layout based from (item ∷ fields) =
 
 -- a LINK A line for each of these words of a block, with its address
 abbrev pub address_lines : List ℕ → ℕ → List ℕ → List (List ℕ)
-address_lines deck base [] = []
-address_lines deck base (word ∷ words) = link_line (codes "A") deck (codes " " ++ octal_of 8 (base + word)) ∷ address_lines deck base words
+address_lines deck base words = map (λ word. link_line (codes "A") deck (codes " " ++ octal_of 8 (base + word))) words
 
 -- the LINK A lines of a statement, one for each field that does not fit
 abbrev pub unfit_addresses : Layout → Based → Coded → List (List ℕ)

@@ -1,5 +1,5 @@
 -- The values of a link: what entries and externals are worth, and what the link gives a field (ours).
-use Rattle.std.specs.{Prelude.{ℕ, List, [], ◌∷◌, Option, Some, None, Bool, true, false, flat_map, unwrap_or, ℤ, pos, ◌+ℤ◌, if◌then◌else◌}, Option.option_or}
+use Rattle.std.specs.{Prelude.{ℕ, List, [], ◌∷◌, Option, Some, None, Bool, true, false, flat_map, unwrap_or, ℤ, pos, ◌+ℤ◌, if◌then◌else◌, map}, Option.option_or}
 use Rattle.definitions.specs.{Characters.same_text, Coding.coded_in, Forms.Form, Settled.Definition, StatementItems.{Item, Known, Linked, part_value}, Words.Linking, Layout.{Based, Common, Layout, block_base}}
 
 -- the value of a form in a deck that stands at a base, from the values of externals
@@ -12,8 +12,7 @@ entry_value commons based entry = form_value (λ name. pos 0) commons based entr
 
 -- the names of definitions
 abbrev pub names_of : List Definition → List (List ℕ)
-names_of [] = []
-names_of (entry ∷ entries) = entry.name ∷ names_of entries
+names_of entries = map (λ (entry : Definition). entry.name) entries
 
 -- the names that decks enter
 abbrev pub entry_names : List Based → List (List ℕ)

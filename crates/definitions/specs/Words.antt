@@ -123,8 +123,7 @@ pub record StoredWord : Type 0 where
 
 -- each of these words with what the latest run has there
 abbrev pub stored : DeckKind → List (List Parcel) → List ℕ → List StoredWord
-stored kind runs [] = []
-stored kind runs (word ∷ words) = record { offset = word; value = word_of_parcels kind (latest_in_word kind word runs) } ∷ stored kind runs words
+stored kind runs words = map (λ word. record { offset = word; value = word_of_parcels kind (latest_in_word kind word runs) }) words
 
 -- the stored words of a block by increasing offset, from the deck's statements newest first
 abbrev pub stored_words : DeckKind → Linking → List ℕ → List Coded → List StoredWord
