@@ -2,7 +2,7 @@
 
 use definitions::DeckKind;
 use operations::Operation;
-use operations::peripheral::{Form, row_of};
+use ppu_opcodes::{Form, row_of};
 
 /// What a peripheral instruction takes.
 fn peripheral_form(name: &[u8]) -> &'static str {

@@ -6,7 +6,7 @@ use crate::near_names::{is_operation, nearest};
 use crate::words::{Shown, Words};
 use definitions::{DeckKind, is_same_text};
 use expr_forms::is_symbol;
-use operations::{Operation, central, peripheral};
+use operations::Operation;
 
 /// How many characters a name has at most that decks share.
 const MOST_SHARED: usize = 7;
@@ -14,13 +14,13 @@ const MOST_SHARED: usize = 7;
 /// What is said of an instruction of the other processor; none where it is none.
 fn other_processor(kind: DeckKind, name: &[u8]) -> Option<&'static str> {
     match kind {
-        DeckKind::Periph if central::is_central(name) => {
+        DeckKind::Periph if cpu_opcodes::is_central(name) => {
             Some(" is a central instruction, and this deck is PERIPH")
         }
-        DeckKind::Rel if peripheral::is_peripheral(name) => {
+        DeckKind::Rel if ppu_opcodes::is_peripheral(name) => {
             Some(" is a peripheral instruction, and this deck is REL")
         }
-        DeckKind::Abs if peripheral::is_peripheral(name) => {
+        DeckKind::Abs if ppu_opcodes::is_peripheral(name) => {
             Some(" is a peripheral instruction, and this deck is ABS")
         }
         _ => None,

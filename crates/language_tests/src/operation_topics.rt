@@ -1,15 +1,10 @@
 //! Operations, their classes and settings, letters, and the tables of both instruction sets.
 
 use crate::outputs::Answer;
+use cpu_opcodes::{Code, RegistersFound, central_rows, ignoring_rows, is_central, sum_rows};
 use definitions::{Letter, NumberBase};
 use expr_forms::{Field, Shape, operand};
-use operations::central::{
-    Code, RegistersFound, central_rows, ignoring_rows, is_central, sum_rows,
-};
-use operations::{
-    KindSearch, Letters, Operation, central, is_end, number_base_set, peripheral,
-    pseudo_instruction,
-};
+use operations::{KindSearch, Letters, Operation, is_end, number_base_set, pseudo_instruction};
 use std::alloc::AllocError;
 use test_parts::{bytes_of, cut};
 
@@ -149,8 +144,8 @@ fn search<'a>(topic: &str, text: &'a str) -> Result<Shape<'a>, Letter> {
     }
     let read = operand(field, NumberBase::Decimal)?;
     match topic {
-        "central" => central::find(name.as_bytes(), &read),
-        _ => peripheral::find(name.as_bytes(), &read),
+        "central" => cpu_opcodes::find(name.as_bytes(), &read),
+        _ => ppu_opcodes::find(name.as_bytes(), &read),
     }
 }
 

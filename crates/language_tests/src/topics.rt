@@ -7,7 +7,7 @@ use crate::{
 };
 use cards::{Card, DeckName};
 use expr_forms::number_literal;
-use operations::{central, peripheral, pseudo_instruction};
+use operations::pseudo_instruction;
 use std::alloc::AllocError;
 use test_parts::signed;
 
@@ -40,9 +40,12 @@ pub fn answer(answer: &mut Answer, topic: &str, text: &str) -> Result<bool, Allo
         "central" | "peripheral" | "peripheral_codes" => {
             operation_topics::instruction(answer, topic, text);
         }
-        "central_ignoring" => answer.or_none(&central::ignoring(bytes), operation_topics::shape),
+        "central_ignoring" => answer.or_none(
+            &cpu_opcodes::ignoring(bytes),
+            operation_topics::shape,
+        ),
         "peripheral_ignoring" => {
-            answer.or_none(&peripheral::ignoring(bytes), operation_topics::shape);
+            answer.or_none(&ppu_opcodes::ignoring(bytes), operation_topics::shape);
         }
         _ => return upper_answer(answer, topic, text),
     }

@@ -1,8 +1,7 @@
-//! Operations by their names: the instructions of both processors, with the patterns of their operands
-//! and their codes, and the instruction of an operation with its operand, in a module for each
-//! processor; the other operations; and what the fields of a statement say before any value is known,
-//! the kind of its deck, the number base, END, and the letters that flag it. What an operand is worth
-//! is not here.
+//! Operations by their names: those that are no instructions, the classes of all, and the rows of a
+//! name in a table of instructions (`cpu_opcodes` and `ppu_opcodes` have these); and what the fields
+//! of a statement say before any value is known, the kind of its deck, the number base, END, and the
+//! letters that flag it.
 //!
 //! `KindSearch` is handed one operation after the other, and may be asked at any time; nothing
 //! changes what it found. `Letters` is a set, whose text is all that contracts see. `rows_of`
@@ -13,10 +12,6 @@
 // The rows of a name.
 mod row;
 mod row_search;
-
-// The instructions.
-pub mod central;
-pub mod peripheral;
 
 // The other operations, and their classes.
 mod operation;

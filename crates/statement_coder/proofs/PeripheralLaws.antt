@@ -2,7 +2,7 @@
 use Rattle.std.{proofs.Common.{◌≡◌, Bool, true, false, ◌&&◌, List, [], ◌∷◌, Option, Some, None, refl, map, if◌then◌else◌}, specs.Prelude.is_some}
 use Rattle.definitions.specs.{Pieces.Piece, Expressions.{Expression, expression_of, is_plain}, PeripheralTable.{PeripheralForm, Ignored, Short, ShortJump, Shift, Wide, Long, PeripheralRow}, Operands.{BadOperand, plain_expression, plain_of, one_or_two, just_one, by_form, peripheral_operand}, declared.number_base.NumberBase.NumberBase}
 use Rattle.expr_forms.specs.Joins.Operands.{is_operand}
-use Rattle.operations.specs.Joins.PeripheralShapes.{is_ignored, is_ignoring}
+use Rattle.ppu_opcodes.specs.Joins.PeripheralShapes.{is_ignored, is_ignoring}
 
 -- more than one value
 just_one-two : (row : PeripheralRow) (x y : Option Expression) (rest : List (Option Expression)) → just_one row (x ∷ y ∷ rest) ≡ BadOperand

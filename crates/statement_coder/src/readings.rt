@@ -44,14 +44,14 @@ fn read_central<'a>(base: NumberBase, name: &[u8], text: &'a [u8]) -> Reading<'a
     ensures lawful { IsLawful result }
     ensures unlisted { is_listed result ≡ false }
 {
-    if let Some(shape) = operations::central::ignoring(name) {
+    if let Some(shape) = cpu_opcodes::ignoring(name) {
         return Reading::Instruction(shape);
     }
     let read = operand(text, base);
     let Ok(operand) = &read else {
         return Reading::Bad;
     };
-    let Ok(shape) = operations::central::find(name, operand) else {
+    let Ok(shape) = cpu_opcodes::find(name, operand) else {
         return Reading::Bad;
     };
     Reading::Instruction(shape)
@@ -64,11 +64,11 @@ fn read_peripheral<'a>(base: NumberBase, name: &[u8], text: &'a [u8]) -> Reading
     ensures lawful { IsLawful result }
     ensures unlisted { is_listed result ≡ false }
 {
-    match operations::peripheral::ignoring(name) {
+    match ppu_opcodes::ignoring(name) {
         Some(shape) => Reading::Instruction(shape),
         None => match operand(text, base) {
             Err(_) => Reading::Bad,
-            Ok(operand) => match operations::peripheral::find(name, &operand) {
+            Ok(operand) => match ppu_opcodes::find(name, &operand) {
                 Ok(shape) => Reading::Instruction(shape),
                 Err(_) => Reading::Bad,
             },

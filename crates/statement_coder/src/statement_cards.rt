@@ -16,9 +16,9 @@ fn is_instruction_name(kind: DeckKind, name: &[u8]) -> bool
     ensures { result ≡ is_instruction_name kind name.now }
 {
     match kind {
-        DeckKind::Periph => operations::peripheral::is_peripheral(name),
-        DeckKind::Rel => operations::central::is_central(name),
-        DeckKind::Abs => operations::central::is_central(name),
+        DeckKind::Periph => ppu_opcodes::is_peripheral(name),
+        DeckKind::Rel => cpu_opcodes::is_central(name),
+        DeckKind::Abs => cpu_opcodes::is_central(name),
     }
 }
 

@@ -1,6 +1,6 @@
 use Rattle.std.{proofs.Common.{◌∙◌, ap, sym}, specs.Prelude.is_some}
 use Rattle.definitions.specs.Operands.{central_operand}
-use Rattle.operations.proofs.UnreadLaws.{field_unread-none}
+use Rattle.cpu_opcodes.proofs.UnreadLaws.{field_unread-none}
 use Rattle.statement_coder.proofs.readings.read_central.Goals as goal
 
 pub returns-in_default-read-clause-reading : goal.returns-in_default-read-clause-reading

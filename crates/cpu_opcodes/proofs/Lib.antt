@@ -1,0 +1,13 @@
+pub mod OperationLaws
+pub mod CentralLaws
+pub mod DigitLaws
+pub mod RegisterPieceLaws
+pub mod RegisterLinkLaws
+pub mod PatternTextLaws
+pub mod FitLaws
+pub mod CodeLaws
+pub mod RowLaws
+pub mod SumLaws
+pub mod SearchLaws
+pub mod FirstLetterLaws
+pub mod UnreadLaws

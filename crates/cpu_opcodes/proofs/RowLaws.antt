@@ -1,0 +1,144 @@
+-- The rows of an operation give what the definitions' rows give.
+use Rattle.std.{proofs.Common.{◌≡◌, ℕ, Bool, true, false, not, cond, ◌&&◌, List, [], ◌∷◌, ◌++◌, Option, Some, None, map, filter, eqb, refl, sym, ap, ◌∙◌}, specs.Prelude.{nat_lt, option_map, option_and_then}, specs.List.{list_all, slice_split}, proofs.lemmas.Bool.{and_parts, eqb-true}}
+use Rattle.definitions.specs.{Pieces.Piece, CentralTable.SumRow, Matching.{RegisterDigits, no_ijk, is_ijk, is_octal_digit, matched, is_operation, NoField, Instruction, instruction_of, Sum, subfields_matched, with_field, sum_code, sum_instruction, ignoring_fit, row_fit, sum_fit, rows_for, sum_rows_for, first_fit}, declared.number_base.NumberBase.NumberBase}
+use Rattle.definitions.specs.CentralTable as table
+use Rattle.operations.specs.declared.row.Row.{Row}
+use Rattle.cpu_opcodes.{specs.declared.code.Code.Code, specs.declared.code.OperandForm.OperandForm, specs.declared.code.SumForm.SumForm, specs.Joins.CentralTables.{operand_row, code_row, sum_row, padded_row, padded_sum_row, ignoring_rows_of, operand_rows_of, sum_rows_of}, specs.Joins.Fits.{named_digits, row_fit_with, sum_fit_with}, proofs.OperationLaws.{is_shaped, is_found, is_operation-found, no_more, matched-letter, is_not, operation-none, operation-short}}
+
+both_ways : true ≡ false → ⊥
+both_ways e = cc
+
+found_behind : (x y : Bool) (o : Option RegisterDigits) → is_found (cond x (cond y o None) None) ≡ true → cond x (cond y o None) None ≡ o
+found_behind true true o found = refl
+found_behind true false o found = absurd (both_ways (sym found))
+found_behind false y o found = absurd (both_ways (sym found))
+
+-- behind the two letters of a name
+behind_letters : (p q a b : ℕ) (ps cs : List ℕ) → is_ijk p ≡ false → is_ijk q ≡ false → is_operation (p ∷ q ∷ ps) (a ∷ b ∷ cs) ≡ true →
+    matched (p ∷ q ∷ ps) (a ∷ b ∷ cs) no_ijk ≡ matched ps cs no_ijk
+behind_letters p q a b ps cs first second same =
+    let letters = matched-letter p (q ∷ ps) a (b ∷ cs) no_ijk first ∙ ap (λ o. cond (eqb p a) o None) (matched-letter q ps b cs no_ijk second) in
+    let found = sym (is_operation-found (p ∷ q ∷ ps) (a ∷ b ∷ cs) ∙ ap is_found letters) ∙ same in
+    letters ∙ found_behind (eqb p a) (eqb q b) (matched ps cs no_ijk) found
+
+digit_by : (a b c : ℕ) (octal : Bool) → is_octal_digit c ≡ octal → is_found (matched (105 ∷ []) (c ∷ []) no_ijk) ≡ true → matched (105 ∷ []) (c ∷ []) no_ijk ≡ Some (named_digits (a ∷ b ∷ c ∷ []))
+digit_by a b c true octal found = rw octal refl
+digit_by a b c false other found = absurd (both_ways (sym found ∙ rw other refl))
+
+-- behind the two letters: nothing, or i and its digit
+behind_name : (a b : ℕ) (cs : List ℕ) → is_found (matched [] cs no_ijk) ≡ true → matched [] cs no_ijk ≡ Some (named_digits (a ∷ b ∷ cs))
+behind_name a b [] found = refl
+behind_name a b (c ∷ cs) found = absurd (both_ways (sym found))
+
+behind_i : (a b : ℕ) (cs : List ℕ) → is_found (matched (105 ∷ []) cs no_ijk) ≡ true → matched (105 ∷ []) cs no_ijk ≡ Some (named_digits (a ∷ b ∷ cs))
+behind_i a b [] found = absurd (both_ways (sym found))
+behind_i a b (c ∷ []) found = digit_by a b c (is_octal_digit c) refl found
+behind_i a b (c ∷ d ∷ ds) found = absurd (both_ways (sym found ∙ no_more c d ds no_ijk (is_octal_digit c) refl))
+
+-- an operation of a pattern has the digit of its own name
+pub matched-named : (pattern operation : List ℕ) → is_shaped pattern ≡ true → is_operation pattern operation ≡ true → matched pattern operation no_ijk ≡ Some (named_digits operation)
+matched-named pattern [] shaped same = absurd (both_ways (sym same ∙ operation-none pattern shaped))
+matched-named pattern (a ∷ []) shaped same = absurd (both_ways (sym same ∙ operation-short pattern a shaped))
+matched-named [] (a ∷ b ∷ cs) shaped same = absurd (cc)
+matched-named (p ∷ []) (a ∷ b ∷ cs) shaped same = absurd (cc)
+matched-named (p ∷ q ∷ []) (a ∷ b ∷ cs) shaped same =
+    let one = and_parts (not (is_ijk p)) (not (is_ijk q) && nat_lt q 256) shaped in
+    let two = and_parts (not (is_ijk q)) (nat_lt q 256) one.1 in
+    let behind = behind_letters p q a b [] cs (is_not (is_ijk p) one.0) (is_not (is_ijk q) two.0) same in
+    let found = sym (is_operation-found (p ∷ q ∷ []) (a ∷ b ∷ cs) ∙ ap is_found behind) ∙ same in
+    behind ∙ behind_name a b cs found
+matched-named (p ∷ q ∷ r ∷ []) (a ∷ b ∷ cs) shaped same =
+    let zero = and_parts (eqb r 105) (not (is_ijk p) && (not (is_ijk q) && nat_lt q 256)) shaped in
+    let one = and_parts (not (is_ijk p)) (not (is_ijk q) && nat_lt q 256) zero.1 in
+    let two = and_parts (not (is_ijk q)) (nat_lt q 256) one.1 in
+    let third : r ≡ 105 = eqb-true r 105 zero.0 in
+    let behind =
+    behind_letters p q a b (r ∷ []) cs (is_not (is_ijk p) one.0) (is_not (is_ijk q) two.0) same
+    ∙ ap (λ n. matched (n ∷ []) cs no_ijk) third
+    in
+    let found = sym (is_operation-found (p ∷ q ∷ r ∷ []) (a ∷ b ∷ cs) ∙ ap is_found behind) ∙ same in
+    behind ∙ behind_i a b cs found
+matched-named (p ∷ q ∷ r ∷ s ∷ ss) (a ∷ b ∷ cs) shaped same = absurd (cc)
+
+kept_agree : {X Z : Type 0} (b : Bool) (f g : X → Z) (x : X) (rest : List X) → (b ≡ true → f x ≡ g x) → map f rest ≡ map g rest → map f (cond b (x ∷ rest) rest) ≡ map g (cond b (x ∷ rest) rest)
+kept_agree true f g x rest same more = ap (λ z. z ∷ map f rest) (same refl) ∙ ap (λ l. g x ∷ l) more
+kept_agree false f g x rest same more = more
+
+-- maps that agree on what is kept
+agree_on_kept : {X Z : Type 0} (s p : X → Bool) (f g : X → Z) (xs : List X) → ((x : X) → s x ≡ true → p x ≡ true → f x ≡ g x) → list_all s xs ≡ true →
+    map f (filter p xs) ≡ map g (filter p xs)
+agree_on_kept s p f g [] agree all = refl
+agree_on_kept s p f g (x ∷ xs) agree all =
+    let parts = and_parts (s x) (list_all s xs) all in
+    kept_agree (p x) f g x (filter p xs) (agree x parts.0) (agree_on_kept s p f g xs agree parts.1)
+
+map_twice : {X Y Z : Type 0} (f : Y → Z) (g : X → Y) (xs : List X) → map f (map g xs) ≡ map (λ x. f (g x)) xs
+map_twice f g [] = refl
+map_twice f g (x ∷ xs) = ap (λ l. f (g x) ∷ l) (map_twice f g xs)
+
+-- the rows of the code against the definitions' rows, which fit alike with and without the name's blank
+rows_agree : {X C Z : Type 0} (op_of : X → List ℕ) (padded : X → X) (f g : X → Z) (as_row : C → X) (xs : List X) (rows : List C) (operation : List ℕ) →
+    map as_row rows ≡ map padded (filter (λ x. is_operation (op_of x) operation) xs) → ((x : X) → f (padded x) ≡ f x) →
+    ((x : X) → is_shaped (op_of x) ≡ true → is_operation (op_of x) operation ≡ true → f x ≡ g x) → list_all (λ x. is_shaped (op_of x)) xs ≡ true →
+    map (λ c. f (as_row c)) rows ≡ map g (filter (λ x. is_operation (op_of x) operation) xs)
+rows_agree op_of padded f g as_row xs rows operation same alike agree shaped =
+    sym (map_twice f as_row rows)
+    ∙ ap (map f) same
+    ∙ map_twice f padded (filter (λ x. is_operation (op_of x) operation) xs)
+    ∙ agree_on_kept (λ x. is_shaped (op_of x)) (λ x. is_operation (op_of x) operation) (λ x. f (padded x)) g xs (λ x s o. alike x ∙ agree x s o) shaped
+
+abbrev pub no_fit : Option Instruction
+no_fit = None
+
+-- the rows that are read subfield by subfield
+pub central-fits : (base : NumberBase) (operation : List ℕ) (subfields : List (List Piece)) (rows : List (Row OperandForm)) (ijk : RegisterDigits) →
+    ijk ≡ named_digits operation → map operand_row rows ≡ operand_rows_of operation →
+    map (λ (row : Row OperandForm). row_fit_with base ijk subfields (operand_row row)) rows ≡ map (row_fit base operation subfields) (rows_for operation table.central_rows)
+central-fits base operation subfields rows ijk named same =
+    ap (λ n. map (λ (row : Row OperandForm). row_fit_with base n subfields (operand_row row)) rows) named
+    ∙ rows_agree (λ (row : table.Row). row.operation) padded_row (row_fit_with base (named_digits operation) subfields) (row_fit base operation subfields) operand_row table.central_rows rows operation
+    same (λ row. refl)
+    (λ row shaped is. ap (λ n. option_map (instruction_of row.code) (subfields_matched base (slice_split (λ c. eqb c 44) row.operand) subfields (with_field NoField n))) (sym (matched-named row.operation operation shaped is)))
+    refl
+
+-- the rows of sums
+pub sum-fits : (operation : List ℕ) (sum : Option Sum) (rows : List (Row SumForm)) (ijk : RegisterDigits) →
+    ijk ≡ named_digits operation → map sum_row rows ≡ sum_rows_of operation →
+    map (λ (row : Row SumForm). sum_fit_with ijk sum (sum_row row)) rows ≡ map (sum_fit operation sum) (sum_rows_for operation table.sum_rows)
+sum-fits operation None rows ijk named same =
+    rows_agree (λ (row : SumRow). row.operation) padded_sum_row (λ (row : SumRow). no_fit) (sum_fit operation None) sum_row table.sum_rows rows operation
+    same (λ row. refl) (λ row shaped is. refl) refl
+sum-fits operation (Some sum) rows ijk named same =
+    ap (λ n. map (λ (row : Row SumForm). sum_fit_with n (Some sum) (sum_row row)) rows) named
+    ∙ rows_agree (λ (row : SumRow). row.operation) padded_sum_row (sum_fit_with (named_digits operation) (Some sum)) (sum_fit operation (Some sum)) sum_row table.sum_rows rows operation
+    same (λ row. refl)
+    (λ row shaped is. ap (λ n. sum_instruction (sum_code row sum.others) sum (option_and_then (matched row.registers sum.registers) n)) (sym (matched-named row.operation operation shaped is)))
+    refl
+
+-- the rows whose operand is ignored
+pub ignoring-fits : (operation : List ℕ) (rows : List (Row Code)) → map code_row rows ≡ ignoring_rows_of operation →
+    map (λ (row : Row Code). ignoring_fit (code_row row)) rows ≡ map ignoring_fit (rows_for operation table.ignoring_rows)
+ignoring-fits operation rows same =
+    rows_agree (λ (row : table.Row). row.operation) padded_row ignoring_fit ignoring_fit code_row table.ignoring_rows rows operation same (λ row. refl) (λ row shaped is. refl) refl
+
+-- the first that fits of two lists
+abbrev pub or_fit : Option Instruction → Option Instruction → Option Instruction
+or_fit None o = o
+or_fit (Some instruction) o = Some instruction
+
+pub first_fit-append : (xs ys : List (Option Instruction)) → first_fit (xs ++ ys) ≡ or_fit (first_fit xs) (first_fit ys)
+first_fit-append [] ys = refl
+first_fit-append (None ∷ xs) ys = first_fit-append xs ys
+first_fit-append (Some instruction ∷ xs) ys = refl
+
+pub first_fit-none : {X : Type 0} (xs : List X) → first_fit (map (λ (x : X). no_fit) xs) ≡ None
+first_fit-none [] = refl
+first_fit-none (x ∷ xs) = first_fit-none xs
+
+-- the rows of sums that are asked for none
+pub no_sum-fits : (operation : List ℕ) → first_fit (map (sum_fit operation None) (sum_rows_for operation table.sum_rows)) ≡ None
+no_sum-fits operation = first_fit-none (sum_rows_for operation table.sum_rows)
+
+-- where the rows of a table are none, no row fits
+pub none_left : {X Y : Type 0} (as_row : X → Y) (rows : List X) → rows ≡ [] → map as_row rows ≡ []
+none_left as_row rows none = ap (map as_row) none

@@ -1,0 +1,127 @@
+//! The instruction of an operation and its operand.
+ghost use Rattle.std.specs.Prelude.{◌≡◌, ◌≤◌, ◌||◌, List, IsTrue, false, map, is_some, option_and_then, IfSome, IfOk, IfErr, None, if◌then◌else◌};
+ghost use Rattle.std.specs.List.{list_all, list_any};
+ghost use Rattle.definitions.specs.Pieces.{Piece};
+ghost use Rattle.definitions.specs.CentralTable as table;
+ghost use Rattle.definitions.specs.Operations.{is_central};
+ghost use Rattle.definitions.specs.Matching.{is_operation, ignoring_fit, rows_for, first_fit, central_of};
+ghost use Rattle.definitions.specs.declared.number_base.NumberBase.{NumberBase};
+ghost use Rattle.definitions.specs.declared.letter.Letter.TheVariants as letters;
+ghost use Rattle.expr_forms.specs.Joins.Operands.{IsOperand};
+ghost use Rattle.expr_forms.specs.Joins.Shapes.{instruction_as};
+ghost use Rattle.cpu_opcodes.specs.Joins.CentralTables.{operand_row, sum_row, operand_rows_of, sum_rows_of, is_some_of};
+ghost use Rattle.cpu_opcodes.specs.Joins.LawfulCodes.{has_lawful_code, has_lawful_codes};
+ghost use Rattle.cpu_opcodes.specs.Joins.Found.{ReadsAs};
+
+use crate::central_fits::central_fit;
+use crate::code::{OperandForm, SumForm};
+use crate::found::{CentralField, Found};
+use crate::registers_found::RegistersFound;
+use crate::shapes::shape_of;
+use crate::sum_fits::sum_fit;
+use crate::tables::{central_rows, has_rows, ignoring_rows, sum_rows};
+use definitions::Letter;
+use expr_forms::{Operand, Shape};
+use operations::Row;
+
+/// The instruction of the first row that has an operation and ignores its operand.
+fn ignoring_fit<'a>(operation: &[u8]) -> Option<Shape<'a>>
+    ensures rows { is_some result ≡ list_any (λ (row : table.Row). is_operation row.operation operation.now) table.ignoring_rows }
+    ensures fits { option_and_then instruction_as result ≡ first_fit (map ignoring_fit (rows_for operation.now table.ignoring_rows)) }
+    ensures central { IfSome result (λ shape. IsTrue (is_some (instruction_as shape))) }
+    ensures short { IfSome result (λ shape. shape.digit_count ≤ 10) }
+{
+    match ignoring_rows(operation) {
+        [] => None,
+        [row, ..] => {
+            let found: Found<'a, 'a> = Found {
+                registers: RegistersFound { i: 0, j: 0, k: 0 },
+                field: CentralField::Absent,
+            };
+            Some(shape_of(row.form, found))
+        }
+    }
+}
+
+/// The instruction of PS or NO, whose operand is not read; none of every other operation (COMPASS
+/// 60492600, CPU instructions).
+pub fn ignoring<'a>(operation: &[u8]) -> Option<Shape<'a>>
+    ensures rows { is_some result ≡ list_any (λ (row : table.Row). is_operation row.operation operation.now) table.ignoring_rows }
+    ensures instruction { IfSome result (λ shape. (base : NumberBase) (subfields : List (List Piece)) → central_of base operation.now subfields ≡ instruction_as shape) }
+    ensures central { IfSome result (λ shape. IsTrue (is_some (instruction_as shape))) }
+    ensures short { IfSome result (λ shape. shape.digit_count ≤ 10) }
+{
+    ignoring_fit(operation)
+}
+
+/// V of an operation that has rows, O of one that has none.
+fn letter_of(sums: &[Row<SumForm>], others: &[Row<OperandForm>]) -> Letter
+    ensures { result ≡ (if is_some_of sums.now || is_some_of others.now then letters.V else letters.O) }
+{
+    if has_rows(sums) || has_rows(others) {
+        Letter::V
+    } else {
+        Letter::O
+    }
+}
+
+/// The instruction of an operation that reads its operand, by the first of its rows that the operand
+/// fits.
+fn fit<'a>(
+    operation: &[u8],
+    sums: &[Row<SumForm>],
+    others: &[Row<OperandForm>],
+    operand: &Operand<'a>,
+) -> Result<Shape<'a>, Letter>
+    requires reads { list_any (λ (row : table.Row). is_operation row.operation operation.now) table.ignoring_rows ≡ false }
+    requires no_fit { None ≡ first_fit (map ignoring_fit (rows_for operation.now table.ignoring_rows)) }
+    requires sums { map sum_row sums.now ≡ sum_rows_of operation.now }
+    requires others { map operand_row others.now ≡ operand_rows_of operation.now }
+    requires lawful_sums { IsTrue (list_all has_lawful_codes sums.now) }
+    requires lawful_others { IsTrue (list_all has_lawful_code others.now) }
+    ensures found { IfOk result (λ shape. ReadsAs operation.now operand.now (instruction_as shape)) }
+    ensures refused { IfErr result (λ letter. ReadsAs operation.now operand.now None) }
+    ensures letter { IfErr result (λ letter. letter ≡ (if is_central operation.now then letters.V else letters.O)) }
+    ensures central { IfOk result (λ shape. IsTrue (is_some (instruction_as shape))) }
+    ensures short { IfOk result (λ shape. shape.digit_count ≤ 10) }
+{
+    if let Some(shape) = sum_fit(operation, sums, operand) {
+        return Ok(shape);
+    }
+    match central_fit(operation, others, operand) {
+        Some(fitted) => Ok(shape_of(fitted.code, fitted.found)),
+        None => Err(letter_of(sums, others)),
+    }
+}
+
+/// The instruction of an operation and its operand (COMPASS 60492600, CPU instructions): O where no
+/// row has the operation, V where its rows do not take the operand. PS and NO take every operand.
+///
+/// An operation is looked up once, by at most fifteen comparisons of names, whether a table has it or
+/// not. Two letters that begin with N or P are compared with NO or PS. Then the first letter shows the
+/// table, and both letters a place in it, where at most four comparisons show the rows. An operation
+/// that does not stand there is looked for by halving: sums have 44 rows and at most 14 of an
+/// operation, which is six comparisons and four more; the other has 72 rows and at most 8 of an
+/// operation, seven comparisons and four more. So NO and PS take one, each other operation of a table
+/// five at most, and what is no two letters, with an octal digit or none behind them, takes none.
+/// Then the operand is compared with the rows of the operation alone, in the order of the
+/// definitions.
+pub fn find<'a>(operation: &[u8], operand: &Operand<'a>) -> Result<Shape<'a>, Letter>
+    ensures found { IfOk result (λ shape. (base : NumberBase) (subfields : List (List Piece)) → IsOperand base subfields operand.now →
+        central_of base operation.now subfields ≡ instruction_as shape) }
+    ensures refused { IfErr result (λ letter. (base : NumberBase) (subfields : List (List Piece)) → IsOperand base subfields operand.now →
+        central_of base operation.now subfields ≡ None) }
+    ensures letter { IfErr result (λ letter. letter ≡ (if is_central operation.now then letters.V else letters.O)) }
+    ensures central { IfOk result (λ shape. IsTrue (is_some (instruction_as shape))) }
+    ensures short { IfOk result (λ shape. shape.digit_count ≤ 10) }
+{
+    if let Some(shape) = ignoring_fit(operation) {
+        return Ok(shape);
+    }
+    fit(
+        operation,
+        sum_rows(operation),
+        central_rows(operation),
+        operand,
+    )
+}

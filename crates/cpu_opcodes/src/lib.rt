@@ -1,0 +1,42 @@
+//! The central instructions: their names, the patterns of their operands, their codes, and the
+//! instruction of an operation with its operand. What an operand is worth is not here.
+//!
+//! A table has a row for each form, to be compared with the manual row by row; a code is written
+//! with a character for each octal digit. `ignoring` is asked first: PS and NO have their
+//! instruction whatever stands in the field. `find` takes any other operation with its operand, and
+//! answers its `Shape`, or O or V. An operation that begins with J or S has rows of sums alone,
+//! every other one none, so one table of two is searched. A pattern of registers fits the text of a
+//! subfield exactly where it fits the elements of its expression. A row that is wrong is mended
+//! here and in the definitions. Nothing here takes memory.
+#![tactic(auto)]
+
+// Codes, patterns and the tables.
+mod code;
+mod code_digits;
+mod digits;
+mod operand_table;
+mod operation_name;
+mod pattern_laws;
+mod patterns;
+mod registers_found;
+mod row_places;
+mod sum_table;
+mod tables;
+
+// Operands against rows.
+mod central_fits;
+mod found;
+mod instruction_search;
+mod operand_fits;
+mod parts;
+mod shapes;
+mod sum_fits;
+mod text_match;
+
+pub use code::{Code, OperandForm, SumForm};
+pub use digits::Digits;
+pub use instruction_search::{find, ignoring};
+pub use pattern_laws::{patterns_fit_expressions, patterns_fit_pieces};
+pub use patterns::{OperandPattern, SumPattern};
+pub use registers_found::RegistersFound;
+pub use tables::{central_rows, ignoring_rows, is_central, sum_rows};

@@ -1,0 +1,2 @@
+pub mod PeripheralLaws
+pub mod ShapeLaws

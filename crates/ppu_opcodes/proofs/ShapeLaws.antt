@@ -1,0 +1,47 @@
+-- Instructions that were found are those of the definitions.
+use Rattle.std.{proofs.Common.{◌≡◌, ℕ, Bool, true, false, not, cond, List, [], ◌∷◌, Option, Some, map, codes, drop, refl, sym, ap, ◌∙◌, subst}, specs.List.list_all, proofs.lemmas.Bool.{and_parts, not-true}}
+use Rattle.definitions.specs.{Characters.same_text, Pieces.Piece, PeripheralTable.{PeripheralRow, peripheral_row, peripheral_rows, row_among}, Operands.{plain_of, by_form, peripheral_operand}, declared.number_base.NumberBase.NumberBase}
+use Rattle.definitions.specs.Operands as operand
+use Rattle.expr_forms.specs.{declared.shapes.Shape.Shape, Joins.Shapes.HasForm}
+use Rattle.ppu_opcodes.specs.{declared.code.Code.Code, Joins.PeripheralCodes.{row_as, form_as, found_row}, Joins.PeripheralShapes.{IsFieldOf, IsFound, is_ignored, is_ignoring}}
+
+-- the digits of a row, and its field
+is_found-operand : (shape : Shape) (row : PeripheralRow) (found : operand.Operand) → shape.digits ≡ row.code → shape.digit_count ≡ 2 →
+    IsFieldOf (Some shape.field) row found → IsFound shape found
+is_found-operand shape row (operand.PeripheralOperand other values) digits count (is, form) =
+    (digits ∙ ap (λ (r : PeripheralRow). r.code) (sym is), count, subst (λ (r : PeripheralRow). HasForm shape.field r.form values) (sym is) form)
+is_found-operand shape row operand.Unread digits count is = is
+is_found-operand shape row operand.BadOperand digits count is = is
+is_found-operand shape row (operand.CentralOperand instruction) digits count is = is
+is_found-operand shape row (operand.WordsOperand data') digits count is = is
+is_found-operand shape row (operand.BitsOperand fields) digits count is = is
+is_found-operand shape row (operand.TextOperand n text) digits count is = is
+is_found-operand shape row (operand.ValueOperand e) digits count is = is
+is_found-operand shape row (operand.NamesOperand names) digits count is = is
+is_found-operand shape row (operand.UseName name) digits count is = is
+is_found-operand shape row operand.UseBefore digits count is = is
+is_found-operand shape row operand.UseRefused digits count is = is
+
+-- the row that was found, and a field of its form
+pub is_found : (operation : List ℕ) (code : Code) (shape : Shape) (base : NumberBase) (subfields : List (List Piece)) (row : Option PeripheralRow) →
+    found_row operation (Some code) ≡ row → shape.digits ≡ code.digits → shape.digit_count ≡ 2 →
+    IsFieldOf (Some shape.field) (row_as operation code) (by_form (row_as operation code) (form_as code.form) (map (plain_of false base) subfields)) →
+    IsFound shape (peripheral_operand base row subfields)
+is_found operation code shape base subfields row found digits count field =
+    subst (λ r. IsFound shape (peripheral_operand base r subfields)) found
+    (is_found-operand shape (row_as operation code) (by_form (row_as operation code) (form_as code.form) (map (plain_of false base) subfields)) digits count field)
+
+none_of_two : (b : Bool) (row : PeripheralRow) (other : Option PeripheralRow) → not (is_ignored row.form) ≡ true → is_ignoring other ≡ false → is_ignoring (cond b (Some row) other) ≡ false
+none_of_two true row other here there = not-true (is_ignored row.form) here
+none_of_two false row other here there = there
+
+-- where each row reads something, none is found that does not
+none_ignored : (operation : List ℕ) (rows : List PeripheralRow) → list_all (λ (row : PeripheralRow). not (is_ignored row.form)) rows ≡ true → is_ignoring (row_among operation rows) ≡ false
+none_ignored operation [] all = refl
+none_ignored operation (row ∷ rows) all =
+    let parts = and_parts (not (is_ignored row.form)) (list_all (λ (row : PeripheralRow). not (is_ignored row.form)) rows) all in
+    none_of_two (same_text row.operation operation) row (row_among operation rows) parts.0 (none_ignored operation rows parts.1)
+
+-- every operation but PSN, which is the first of the table, reads its operand
+pub reads-other : (operation : List ℕ) → same_text (codes "PSN") operation ≡ false → is_ignoring (peripheral_row operation) ≡ false
+reads-other operation other = rw other (none_ignored operation (drop 1 peripheral_rows) refl)
