@@ -1,7 +1,8 @@
 -- The words of the common blocks of a link, a deck and a block at a time.
 use Rattle.std.{proofs.Common.{ℕ, zero, suc, ◌≡◌, ◌+◌, ◌^◌, ◌<◌, ◌≤◌, Bool, true, false, ◌||◌, cond, List, [], ◌∷◌, ◌++◌, Option, Some, None, length, map, take, get_or, refl, sym, ap, ap₂, subst, ◌∙◌, inl, inr, arith}, specs.Prelude.{Vec, slice_get, if◌then◌else◌}, specs.List.{AllByRecursion, position_from}, specs.Option.is_some, proofs.lemmas.List.{length-append, length-map, take_more}, proofs.lemmas.List.Folds.list_any-append, proofs.lemmas.Map.Keys.{IsDistinct-head, IsDistinct-tail}, proofs.lemmas.Option.{slice_get-get_or, slice_get_within}}
 use Rattle.definitions.{specs.Characters.same_text, specs.Image.common_words, specs.Lengths.BlockRow, specs.Layout.{Based, Common, Layout}, specs.LinkValues.linking_of, specs.Words.{StoredWord, runs_of}, proofs.TextLaws.{same_text-refl, same_text_tells}}
-use Rattle.deck_listing.{specs.Joins.Laying.with_all_stored, specs.Joins.Filling.{DoSpansRise, as_stored}, specs.declared.packing.word_spans.WordSpan.WordSpan, specs.Joins.Walking.DoNamesDiffer, proofs.BlockSteps.behind_other, proofs.FillLaws.stored-rise, proofs.LaidLaws.{DoesRise, over-laid}}
+use Rattle.parcel_packer.{specs.Joins.Laying.with_all_stored, specs.Joins.Filling.{DoSpansRise, as_stored}, specs.declared.word_spans.WordSpan.WordSpan, proofs.FillLaws.stored-rise, proofs.LaidLaws.{DoesRise, over-laid}}
+use Rattle.deck_listing.{specs.Joins.Walking.DoNamesDiffer, proofs.BlockSteps.behind_other}
 use Rattle.deck_linker.specs.Joins.{CommonWords.{AreCommonWords, AreMade, AreNone, DoListsRise, IsPutOver, common_place, deck_words, has_common, has_row, over_deck, over_decks, over_row, over_rows}, Placing.names_of_commons}
 
 -- a place that is found lies between the first and the end

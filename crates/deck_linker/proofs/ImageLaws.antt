@@ -1,7 +1,7 @@
 -- The sections of common blocks.
 use Rattle.std.{proofs.Common.{◌≡◌, ℕ, zero, suc, ◌+◌, ◌-◌, ◌<◌, List, [], ◌∷◌, ◌++◌, Bool, false, eqb, length, refl, sym, ap, ap₂, ◌∙◌, append_assoc, append-nil, arith}, specs.Prelude.{codes, flat_map, if◌then◌else◌}}
 use Rattle.definitions.specs.{Characters.line_feed, Numerals.octal_of, Layout.{Layout, Common, addressed}, Image.{word_line, common_words, common_section, common_section_by}, Words.StoredWord, declared.deck_kind.DeckKind.TheVariants.Rel}
-use Rattle.deck_listing.specs.Joins.Filling.{words_from}
+use Rattle.parcel_packer.specs.Joins.Filling.{words_from}
 use Rattle.deck_linker.{specs.Joins.Sections.{common_head, common_word, common_words_text}, proofs.TextLaws.four-ended}
 
 -- a word of a span is written

@@ -2,7 +2,8 @@
 use Rattle.std.{proofs.Common.{ℕ, ◌≡◌, ◌+◌, ◌<◌, ◌≤◌, ◌^◌, zero, suc, List, [], ◌∷◌, ◌++◌, length, take, drop, get_or, sym, ap, ap₂, subst, ◌∙◌, arith, length-append, take-append-drop}, specs.Prelude.{Err, IfErr, Ok, Option, Result, Some, Vec, flat_map, map}, specs.List.AllZip, proofs.lemmas.Grind.flat_map-append, proofs.lemmas.List.{at_drop_more, take_more}, proofs.lemmas.Option.slice_get-get_or, proofs.lemmas.Slice.Zip.AllZip-long}
 use Rattle.definitions.specs.{Build.build_of, DeckInput.Deck, Layout.{Based, Layout, layout_of}, LinkValues.linking_of, Objects.object_of}
 use Rattle.text_ports.{proofs.SendSteps.texts-more, specs.Joins.Sending.Sends, specs.declared.writing.Broken.Broken}
-use Rattle.deck_listing.{proofs.BlockSteps.zip-at, specs.Joins.BlockWords.{AreBlockWords, AreWordsOf}, specs.Joins.Sheets.{room_of, text_of}, specs.declared.packing.word_spans.WordSpan.WordSpan}
+use Rattle.deck_listing.{proofs.BlockSteps.zip-at, specs.Joins.BlockWords.{AreBlockWords, AreWordsOf}, specs.Joins.Sheets.{room_of, text_of}}
+use Rattle.parcel_packer.specs.declared.word_spans.WordSpan.{WordSpan}
 use Rattle.deck_linker.specs.{Joins.CommonWords.AreCommonWords, Joins.InPieces.{AreDeckWords, AreLinked, DoFit, deck_text, end_text}, Publishing.{listings, map_of}, Joins.Sections.deck_section}
 
 module _ {A : Type 0} (text : A → List ℕ) where

@@ -4,13 +4,13 @@ ghost use Rattle.std.specs.Option.{is_some};
 ghost use Rattle.definitions.specs.Image.{common_section_by, common_words};
 ghost use Rattle.deck_linker.specs.Joins.CommonWords.{AreCommonWords, common_place};
 ghost use Rattle.deck_linker.specs.Joins.Sections.{common_head, common_words_text};
-ghost use Rattle.deck_listing.specs.Joins.Filling.{DoSpansRise, as_stored, words_from};
+ghost use Rattle.parcel_packer.specs.Joins.Filling.{DoSpansRise, as_stored, words_from};
 
 use crate::{Common, Layout};
-use deck_listing::packing::WordSpan;
 use deck_listing::{Sheet, push_image_line};
 use definitions::DeckKind;
 use expr_forms::Name;
+use parcel_packer::WordSpan;
 
 /// Writes the words of a common block that stands at a base.
 fn push_words(text: &mut Sheet, base: u32, words: &[WordSpan])

@@ -5,12 +5,12 @@ ghost use Rattle.definitions.specs.LinkValues.{linking_of};
 ghost use Rattle.deck_linker.specs.Joins.CommonWords.{AreCommonWords, AreMade, AreNone, DoListsRise, IsPutOver, has_common, over_deck, over_row, over_rows, over_decks};
 ghost use Rattle.deck_listing.specs.Joins.BlockWords.{AreWordsOf};
 ghost use Rattle.deck_listing.specs.Joins.Walking.{DoNamesDiffer};
-ghost use Rattle.deck_listing.specs.Joins.Filling.{DoSpansRise, as_stored};
+ghost use Rattle.parcel_packer.specs.Joins.Filling.{DoSpansRise, as_stored};
 
 use crate::linked_deck::parts;
 use crate::{Based, DeckLinking, Layout};
-use deck_listing::packing::{WordSpan, words_over};
 use deck_listing::words_of_blocks;
+use parcel_packer::{WordSpan, words_over};
 use std::alloc::{AllocError, Global};
 use use_blocks::BlockRow;
 

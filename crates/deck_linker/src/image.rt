@@ -12,9 +12,9 @@ use crate::common_image::push_commons;
 use crate::common_words::words_of_commons;
 use crate::linked_deck::kind;
 use crate::{Based, DeckLinking, Layout};
-use deck_listing::packing::WordSpan;
 use deck_listing::{Sheet, push_section, words_of_blocks};
 use definitions::DeckKind;
+use parcel_packer::WordSpan;
 use std::alloc::{AllocError, Global};
 use text_ports::Text;
 

@@ -14,9 +14,9 @@ ghost use Rattle.deck_linker.specs.Joins.Sections.{deck_section};
 use crate::image::{push_deck, push_end};
 use crate::publication::sum;
 use crate::{Based, Layout};
-use deck_listing::packing::WordSpan;
 use deck_listing::{Sheet, listing};
 use deck_objects::{Object, SharedObject};
+use parcel_packer::WordSpan;
 use std::alloc::{AllocError, Global};
 
 /// How many bytes some parts have together, and how many the longest of them has.

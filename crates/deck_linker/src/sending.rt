@@ -11,9 +11,9 @@ ghost use Rattle.deck_linker.specs.Joins.Sections.{deck_section};
 
 use crate::image::{push_deck, push_end};
 use crate::{Based, Layout};
-use deck_listing::packing::WordSpan;
 use deck_listing::{Sheet, push_listing};
 use deck_objects::SharedObject;
+use parcel_packer::WordSpan;
 use std::io::Write;
 use text_ports::{Broken, Counted, put_all};
 

@@ -2,7 +2,8 @@
 use Rattle.std.{proofs.Common.{◌≡◌, ℕ, zero, suc, ◌+◌, ◌<◌, false, List, [], ◌∷◌, ◌++◌, Option, Some, None, length, get_or, length-set, map, refl, sym, ap, ap₂, subst, ◌∙◌, inl, inr, arith}, specs.Prelude.{Vec, slice_get, slice_set}, specs.List.{AllByRecursion, AllZip}, proofs.lemmas.List.length-append, proofs.lemmas.Map.Keys.{IsDistinct-head, IsDistinct-tail}, proofs.lemmas.Option.{slice_get-get_or, slice_get_read, slice_get_within}}
 use Rattle.definitions.{specs.Characters.same_text, specs.Lengths.BlockRow, specs.Objects.Object, specs.Words.{Coded, Linking, Parcel, runs_of, stored, words_in}, specs.declared.deck_kind.DeckKind.DeckKind, proofs.TextLaws.{same_text-refl, same_text_tells}}
 use Rattle.statement_coder.specs.declared.items.Item as code
-use Rattle.deck_listing.{specs.Joins.Packing.{Packed, empty_run}, specs.declared.packing.word_spans.WordSpan.WordSpan, specs.Joins.BlockWords.{AreWhole, AreWordsOf, IsFilledWith}, specs.Joins.Walking.{AreEmpty, DoNamesDiffer, DoesFollow, DoesFollowAll, HasRuns, HaveRuns}, proofs.RunSteps.other-runs}
+use Rattle.parcel_packer.specs.{Joins.Packing.{Packed, empty_run}, declared.word_spans.WordSpan.WordSpan}
+use Rattle.deck_listing.{specs.Joins.BlockWords.{AreWhole, AreWordsOf, IsFilledWith}, specs.Joins.Walking.{AreEmpty, DoNamesDiffer, DoesFollow, DoesFollowAll, HasRuns, HaveRuns}, proofs.RunSteps.other-runs}
 use Rattle.deck_objects.specs.Joins.CodedLines.{IsNamed}
 use Rattle.deck_objects.specs.declared.lines.CodedLine as lines
 

@@ -3,7 +3,7 @@ use Rattle.std.proofs.{Common.{◌≡◌, ℕ, zero, suc, ◌+◌, ◌^◌, ◌<
 use Rattle.definitions.specs.{StatementItems.Item, Words.width_of, Laws.Filling.HasRoom, declared.deck_kind.DeckKind.DeckKind, declared.deck_kind.DeckKind.TheVariants.{Rel, Abs, Periph}}
 use Rattle.statement_coder.specs.Joins.Items.{item_as}
 use Rattle.statement_coder.specs.declared.items.Item as code
-use Rattle.deck_listing.specs.Joins.Packing.{most_bits}
+use Rattle.parcel_packer.specs.Joins.Packing.{most_bits}
 use Rattle.deck_objects.specs.Joins.LineItems.{AreShort}
 
 pub fields_more : (items : List code.Item) (i : ℕ) (x : code.Item) → i < length items → x ≡ get_or items i x → map item_as (take (i + 1) items) ≡ map item_as (take i items) ++ item_as x ∷ []

@@ -1,7 +1,8 @@
 -- The lines of words, one after the other.
 use Rattle.std.{proofs.Common.{◌≡◌, ℕ, zero, suc, ◌+◌, ◌-◌, ◌<◌, ◌≤◌, Bool, true, false, List, [], ◌∷◌, ◌++◌, not, flat_map, length, take, get_or, refl, sym, ap, ◌∙◌, append_assoc, append-nil, ap₂, Some, None, nat_le, arith, inl, inr, true≢false}, specs.Prelude.{filter, if◌then◌else◌}, proofs.lemmas.Bool.Decides.leb_tells, proofs.lemmas.List.take_more, proofs.lemmas.List.Elements.filter-append, proofs.lemmas.Grind.flat_map-append}
 use Rattle.definitions.specs.{Blocks.is_common, Image.word_line, Kinds.memory_end, Lengths.BlockRow, Layout.{AddressedWord, addressed, block_words, is_beyond}, Objects.Object, Words.{Linking, StoredWord}, declared.deck_kind.DeckKind.DeckKind}
-use Rattle.deck_listing.specs.{Joins.Filling.{as_stored, words_from}, declared.packing.word_spans.WordSpan.WordSpan, Joins.ImageWordLines.{block_lines, lines_of, row_words, rows_words, span_lines}}
+use Rattle.parcel_packer.specs.{Joins.Filling.{as_stored, words_from}, declared.word_spans.WordSpan.WordSpan}
+use Rattle.deck_listing.specs.Joins.ImageWordLines.{block_lines, lines_of, row_words, rows_words, span_lines}
 
 lines-append : (kind : DeckKind) (xs ys : List AddressedWord) → lines_of kind (xs ++ ys) ≡ lines_of kind xs ++ lines_of kind ys
 lines-append kind xs ys =

@@ -1,19 +1,3 @@
--- The words of one block.
-mod PackingLaws
-mod ParcelSteps
-mod RiseLaws
-mod GatherLaws
-mod ZeroLaws
-mod MergeLaws
-mod JoinLaws
-mod NothingLaws
-pub mod FillLaws
-pub mod OverLaws
-pub mod LaidLaws
-mod GatherSteps
-mod PutLaws
-mod PackedLaws
--- The texts.
 mod PushLaws
 mod CutLaws
 mod WordLaws

@@ -4,7 +4,8 @@ use Rattle.definitions.{specs.Characters.same_text, specs.Kinds.{units, unit_bit
 use Rattle.definitions.specs.Operations as op
 use Rattle.statement_coder.specs.declared.items.Item as code
 use Rattle.operations.specs.Joins.OperationsAs.{operation_as}
-use Rattle.deck_listing.{specs.Joins.Packing.{OpenRun, Packed, moved, put_bits}, proofs.PutLaws.unit_some, specs.Joins.Putting.{StandsAt, ArePut, IsReady}, specs.Joins.Walking.DoesFollow, proofs.PutSteps.put_one}
+use Rattle.parcel_packer.{specs.Joins.Packing.{OpenRun, Packed, moved, put_bits}, proofs.PutLaws.unit_some}
+use Rattle.deck_listing.{specs.Joins.Putting.{StandsAt, ArePut, IsReady}, specs.Joins.Walking.DoesFollow, proofs.PutSteps.put_one}
 use Rattle.deck_objects.specs.Joins.{CodedLines.{IsCoded, IsNamed}, LineItems.{AreBitsOf, kept_items, zeros_to}}
 use Rattle.deck_objects.specs.declared.lines.CodedLine as lines
 use Rattle.deck_objects.specs.declared.lines.LineFields.TheVariants as variant

@@ -1,7 +1,8 @@
 -- Fields put one behind the other, field by field.
 use Rattle.std.proofs.{Common.{◌≡◌, ◌≢◌, ℕ, zero, suc, ◌+◌, ◌*◌, ◌/◌, ◌%◌, ◌^◌, ◌<◌, ◌≤◌, Bool, List, [], ◌∷◌, ◌++◌, refl, sym, ap, subst, ◌∙◌, arith, inl, inr}, Math.Nat.{mul-div_cancel_left, mul-mod_right}, lemmas.Nat.le-div, lemmas.Bool.Decides.eqb_tells}
 use Rattle.definitions.specs.{StatementItems.Item, Words.{Linking, content_bits, cut, joined, parcels_from, width_of}}
-use Rattle.deck_listing.{specs.Joins.Packing.{OpenRun, DoItemsFit, end_bit, moved, put_bits, put_items}, proofs.PutLaws.{items_whole, put_bits-end}, specs.Joins.Putting.{StandsAt, ArePut}}
+use Rattle.parcel_packer.{specs.Joins.Packing.{OpenRun, DoItemsFit, end_bit, moved, put_bits, put_items}, proofs.PutLaws.{items_whole, put_bits-end}}
+use Rattle.deck_listing.specs.Joins.Putting.{StandsAt, ArePut}
 
 whole_parcels : (size n : ℕ) → 0 < size → n % size ≡ 0 → size * (n / size) ≡ n
 whole_parcels size n some h = omega arith

@@ -3,7 +3,8 @@ use Rattle.std.{proofs.Common.{◌≡◌, ℕ, ◌-◌, ◌*◌, ◌≤◌, Bool
 use Rattle.definitions.specs.{Characters.same_text, Kinds.unit_bits, Lengths.BlockRow, Operations.is_instruction, StatementItems.Item, Words.{Coded, Linking, Parcel, cut, joined, parcels_from, parcels_of, onto_runs, runs_of, width_of}, declared.deck_kind.DeckKind.DeckKind, Laws.Filling.DoFill, Laws.Rising.{run_end, end_with, end_behind}}
 use Rattle.statement_coder.specs.declared.items.Item as code
 use Rattle.operations.specs.Joins.OperationsAs.{operation_as}
-use Rattle.deck_listing.{specs.Joins.Packing.{OpenRun, Packed, empty_run}, proofs.PutLaws.{runs_put, runs_begun, unit_some}, specs.Joins.Putting.ArePut, specs.Joins.Walking.{DoesFollow, HasRuns}, proofs.PutSteps.parcels_put, proofs.LineSteps.follows-ready}
+use Rattle.parcel_packer.{specs.Joins.Packing.{OpenRun, Packed, empty_run}, proofs.PutLaws.{runs_put, runs_begun, unit_some}}
+use Rattle.deck_listing.{specs.Joins.Putting.ArePut, specs.Joins.Walking.{DoesFollow, HasRuns}, proofs.PutSteps.parcels_put, proofs.LineSteps.follows-ready}
 use Rattle.deck_objects.specs.Joins.LineItems.{AreBitsOf, kept_items}
 use Rattle.deck_objects.specs.declared.lines.CodedLine as lines
 

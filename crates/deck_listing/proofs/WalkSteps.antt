@@ -2,7 +2,8 @@
 use Rattle.std.proofs.{Common.{◌≡◌, List, [], ◌∷◌, ◌++◌, Option, Some, None, reverse, refl, sym, ap, subst, ◌∙◌, append_assoc, append-nil, length}, lemmas.List.{reverse-append, reverse-reverse}}
 use Rattle.definitions.specs.{Cards.Card, Lengths.BlockRow, Objects.Object, Words.{Coded, Linking}, declared.deck_kind.DeckKind.DeckKind, Laws.Reaching.DoReach, Laws.Rising.AreLaidOut}
 use Rattle.statement_coder.specs.declared.items.Item as code
-use Rattle.deck_listing.{specs.Joins.Packing.Packed, specs.Joins.Walking.{AreEmpty, DoesFollowAll, HaveRuns, IsNextOfAll, AreWalked}, proofs.BlockSteps.empty-runs}
+use Rattle.parcel_packer.specs.Joins.Packing.{Packed}
+use Rattle.deck_listing.{specs.Joins.Walking.{AreEmpty, DoesFollowAll, HaveRuns, IsNextOfAll, AreWalked}, proofs.BlockSteps.empty-runs}
 use Rattle.deck_objects.specs.{Joins.CodedLines.{IsCoded, AreCoded}, Joins.PartsOf.ArePartsOf, declared.lines.Line.Line, declared.object.ObjectParts.ObjectParts}
 use Rattle.deck_objects.specs.declared.lines.CodedLine as lines
 

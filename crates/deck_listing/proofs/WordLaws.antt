@@ -2,7 +2,8 @@
 use Rattle.std.{proofs.Common.{◌≡◌, ℕ, suc, ◌+◌, ◌-◌, ◌*◌, ◌/◌, ◌%◌, ◌^◌, ◌<◌, ◌≤◌, List, [], ◌∷◌, ◌++◌, Option, Some, None, refl, sym, ap, ap₂, ◌∙◌, arith, append_assoc}, specs.Prelude.{ℤ, pos, ◌+ℤ◌, unwrap_or}, proofs.Math.Nat.mod-lt, proofs.Math.Pow.pow_mono, proofs.lemmas.Nat.{pow-add, shr_below}}
 use Rattle.definitions.{specs.Coding.coded_in, specs.Forms.Form, specs.Kinds.word_bits, specs.Lengths.{BlockRow, base_in}, specs.Listing.{unlinked, data_lines, peripheral_lines}, specs.StatementItems.{Item, Content, Known, Linked, part_value}, specs.Words.{content_bits, cut, joined, width_of}, specs.declared.deck_kind.DeckKind.DeckKind, specs.declared.deck_kind.DeckKind.TheVariants.{Rel, Abs, Periph}, proofs.WordLaws.pow_positive, specs.Laws.Filling.HasRoom, proofs.CodingLaws.coded_in-below}
 use Rattle.deck_objects.specs.Joins.LineItems.{AreShort}
-use Rattle.deck_listing.{specs.Joins.WordLines.{AreJoined, DoFillWords, behind_full, lines_ahead, with_bits, word_line, word_lines}, specs.declared.field_lines.OpenWord.OpenWord, proofs.CutLaws.cut-first, proofs.ParcelSteps.joined_below}
+use Rattle.deck_listing.{specs.Joins.WordLines.{AreJoined, DoFillWords, behind_full, lines_ahead, with_bits, word_line, word_lines}, specs.declared.field_lines.OpenWord.OpenWord, proofs.CutLaws.cut-first}
+use Rattle.parcel_packer.proofs.ParcelSteps.{joined_below}
 
 or_zero-below : (width : ℕ) (value : ℤ) → unwrap_or (coded_in width value) 0 < 2 ^ width
 or_zero-below width value = step (coded_in width value) refl

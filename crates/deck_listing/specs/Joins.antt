@@ -1,10 +1,4 @@
 -- What inner functions promise, so that the proofs of the outer ones join: no promise of the documents leads here.
--- What is put into a block, run by run, and the words that it then has.
-pub mod Packing
-pub mod Spans
-pub mod Filling
-pub mod Joining
-pub mod Laying
 -- The lines of the words that fields fill.
 pub mod WordLines
 -- The text of what an object keeps, and the decks behind its END.

@@ -8,10 +8,10 @@ ghost use Rattle.deck_objects.specs.Joins.PartsOf.{ArePartsOf};
 ghost use Rattle.deck_listing.specs.Joins.BlockWords.{AreBlockWords, AreWhole, IsFilledWith};
 ghost use Rattle.deck_listing.specs.Joins.Walking.{AreEmpty, DoNamesDiffer, HasObject};
 
-use crate::packing::{WordSpan, Words};
 use crate::word_lines::put_lines;
 use deck_objects::{Linking, Object, ObjectParts};
 use definitions::DeckKind;
+use parcel_packer::{WordSpan, Words};
 use std::alloc::{AllocError, Global};
 
 /// So many blocks in which nothing lies.

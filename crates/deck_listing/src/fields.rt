@@ -4,12 +4,12 @@ ghost use Rattle.definitions.specs.Kinds.{unit_bits};
 ghost use Rattle.definitions.specs.Words.{width_of};
 ghost use Rattle.statement_coder.specs.Joins.Items.{item_as};
 ghost use Rattle.definitions.specs.Laws.Filling.{HasRoom};
-ghost use Rattle.deck_listing.specs.Joins.Packing.{most_bits};
+ghost use Rattle.parcel_packer.specs.Joins.Packing.{most_bits};
 ghost use Rattle.deck_objects.specs.Joins.LineItems.{AreShort};
 ghost use Rattle.deck_listing.specs.Joins.Putting.{StandsAt, ArePut};
 
-use crate::packing::{Field, Words};
 use deck_objects::{Linking, linked_bits};
+use parcel_packer::{Field, Words};
 use statement_coder::Item;
 use std::alloc::AllocError;
 

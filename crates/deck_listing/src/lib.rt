@@ -26,7 +26,6 @@ mod whole;
 // The stored words of its blocks: the fields of its statements, put line by line, each into its block.
 mod blocks;
 mod fields;
-pub mod packing;
 mod word_lines;
 
 // The image.

@@ -9,17 +9,17 @@ ghost use Rattle.definitions.specs.Layout.{object_words};
 ghost use Rattle.definitions.specs.Objects.{Object};
 ghost use Rattle.definitions.specs.Words as language;
 ghost use Rattle.definitions.specs.Words.{stored_words};
-ghost use Rattle.deck_listing.specs.Joins.Filling.{as_stored};
+ghost use Rattle.parcel_packer.specs.Joins.Filling.{as_stored};
 ghost use Rattle.deck_objects.specs.Joins.PartsOf.{ArePartsOf};
 ghost use Rattle.deck_listing.specs.Joins.BlockWords.{AreBlockWords, AreWordsOf};
 ghost use Rattle.deck_listing.specs.Joins.ImageWordLines.{block_lines, lines_of, literal_lines, row_words, rows_words, span_lines};
 
 use crate::image_lines::{address_within, push_image_line};
-use crate::packing::WordSpan;
 use crate::sheet::Sheet;
 use deck_objects::ObjectParts;
 use definitions::DeckKind;
 use expr_forms::Name;
+use parcel_packer::WordSpan;
 use use_blocks::{BlockRow, is_common};
 
 /// Appends the lines of the words of a span of a block, as far as they lie within the memory of the

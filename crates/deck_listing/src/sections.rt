@@ -9,11 +9,11 @@ ghost use Rattle.deck_listing.specs.Joins.ImageWordLines.{section_head};
 
 use crate::alone::Alone;
 use crate::blocks::words_of_blocks;
-use crate::packing::WordSpan;
 use crate::section_words::push_object_words;
 use crate::sheet::Sheet;
 use deck_objects::Object;
 use definitions::DeckKind;
+use parcel_packer::WordSpan;
 use std::alloc::{AllocError, Global};
 use text_ports::Text;
 

@@ -12,9 +12,9 @@ ghost use Rattle.deck_listing.specs.Joins.Putting.{ArePut, IsReady};
 ghost use Rattle.deck_listing.specs.Joins.Walking.{AreEmpty, DoNamesDiffer, DoesFollow, DoesFollowAll, HasObject, HasRuns, HaveRuns, IsNext, IsNextOfAll};
 
 use crate::fields::put_fields;
-use crate::packing::Words;
 use deck_objects::{CodedLine, LineFields, Linking, ObjectParts, listed};
 use definitions::DeckKind;
+use parcel_packer::Words;
 use statement_coder::Item;
 use std::alloc::AllocError;
 

@@ -5,7 +5,7 @@ ghost use Rattle.definitions.specs.Characters.{same_text};
 ghost use Rattle.definitions.specs.Kinds.{units};
 ghost use Rattle.definitions.specs.Operands as operands;
 ghost use Rattle.definitions.specs.Pieces.{pieces_of, subfields_of};
-ghost use Rattle.definitions.specs.Places.{is_bad, is_long, allows_minus, has_minus, is_upper, to_word, past_last_parcel, is_at_word, least_place, asks_upper, asks_after};
+ghost use Rattle.definitions.specs.Places.{is_bad, is_long, allows_minus, has_minus, is_upper, least_place, asks_upper, asks_after};
 ghost use Rattle.definitions.specs.Settling.{place_of};
 ghost use Rattle.definitions.specs.Sizes.{size_of};
 ghost use Rattle.operations.specs.Joins.OperationsAs.{operation_as};
@@ -53,28 +53,6 @@ fn is_upper(kind: DeckKind, operation: Operation, location: &[u8], asks: bool) -
         || asks && !has_minus(kind, operation, location)
 }
 
-/// The next word at or behind a place.
-pub(crate) fn to_word(kind: DeckKind, place: u32) -> u32
-    requires { place ≤ 524288 }
-    ensures word { result ≡ to_word kind place }
-    ensures within { result ≤ 524288 }
-{
-    (place + kind.units() - 1) / kind.units() * kind.units()
-}
-
-/// The place, or the next word where a long instruction would begin in parcel 3.
-fn past_last_parcel(is_long: bool, place: u32) -> u32
-    requires { place ≤ 524288 }
-    ensures place { result ≡ past_last_parcel is_long place }
-    ensures within { result ≤ 524288 }
-{
-    if is_long && place % 4 == 3 {
-        place + 1
-    } else {
-        place
-    }
-}
-
 /// The place of a statement that has one, from the end of the statement before it in its block.
 fn least_place(
     kind: DeckKind,
@@ -90,11 +68,8 @@ fn least_place(
     ensures within { result ≤ 524288 }
 {
     let is_at_word = operation.is_reserving() || operation.is_data() && !class.is_bad;
-    if is_at_word || is_upper(kind, operation, location, asks) {
-        to_word(kind, from)
-    } else {
-        past_last_parcel(class.is_long, from)
-    }
+    let is_at_word = is_at_word || is_upper(kind, operation, location, asks);
+    parcel_packer::place(kind, from, is_at_word, class.is_long)
 }
 
 /// The place of a statement: one that has none of its own has the position of its block, or the
@@ -114,10 +89,8 @@ fn place_of(
 {
     if operation.has_place() {
         least_place(kind, operation, class, location, asks, from)
-    } else if asks {
-        to_word(kind, from)
     } else {
-        from
+        parcel_packer::place(kind, from, asks, false)
     }
 }
 

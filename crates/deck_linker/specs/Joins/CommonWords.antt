@@ -1,7 +1,7 @@
 -- The words of the common blocks of a link, as the code gathers them: a list for each, in their order.
 use Rattle.std.specs.{Prelude.{ℕ, ◌≡◌, ◌^◌, List, [], Option, Some, Bool, Vec, length, map, slice_get, if◌then◌else◌}, List.{list_any, position_from}, Option.is_some}
 use Rattle.definitions.specs.{Characters.same_text, Image.common_words, Lengths.BlockRow, Layout.{Based, Common, Layout}, LinkValues.linking_of, Words.{StoredWord, stored_words}}
-use Rattle.deck_listing.specs.{Joins.Laying.{with_all_stored, over_all}, Joins.Filling.{DoSpansRise, as_stored}, declared.packing.word_spans.WordSpan.WordSpan}
+use Rattle.parcel_packer.specs.{Joins.Laying.{with_all_stored, over_all}, Joins.Filling.{DoSpansRise, as_stored}, declared.word_spans.WordSpan.WordSpan}
 use Rattle.deck_linker.specs.Joins.Placing.{names_of_commons}
 
 -- where the first common block of a name stands among others

@@ -1,7 +1,8 @@
 -- Decks whose texts are made part by part, each when it is written (ours).
 use Rattle.std.specs.{Prelude.{ℕ, ◌≡◌, ◌<◌, ◌≤◌, ◌+◌, ◌^◌, ⊤, List, [], ◌∷◌, ◌++◌, Vec, codes, flat_map, length, map}, List.AllZip}
 use Rattle.definitions.specs.{Build.build_of, DeckInput.Deck, Image.common_section_by, Layout.{Based, Layout, layout_of}, LinkValues.linking_of, Listing.{deck_listing, line}, Objects.object_of}
-use Rattle.deck_listing.specs.{Joins.BlockWords.AreBlockWords, Joins.Sheets.room_of, declared.packing.word_spans.WordSpan.WordSpan}
+use Rattle.deck_listing.specs.{Joins.BlockWords.AreBlockWords, Joins.Sheets.room_of}
+use Rattle.parcel_packer.specs.declared.word_spans.WordSpan.{WordSpan}
 use Rattle.deck_linker.specs.{Joins.CommonWords.AreCommonWords, Publishing.map_of, Joins.Sections.deck_section}
 
 -- the listing of a deck

@@ -1,7 +1,7 @@
 -- The words of all blocks of an object.
 use Rattle.std.specs.{Prelude.{ℕ, ◌≡◌, ◌^◌, List, Some, Vec, slice_get}, List.AllZip}
 use Rattle.definitions.specs.{Lengths.BlockRow, Objects.Object, Words.{Linking, stored, stored_words, words_in}}
-use Rattle.deck_listing.specs.{Joins.Filling.{DoSpansRise, as_stored}, Joins.Packing.{Packed, runs_in}, declared.packing.word_spans.WordSpan.WordSpan}
+use Rattle.parcel_packer.specs.{Joins.Filling.{DoSpansRise, as_stored}, Joins.Packing.{Packed, runs_in}, declared.word_spans.WordSpan.WordSpan}
 
 -- spans by increasing offset are the words that the statements of an object store in a block
 pub record AreWordsOf {Z : Type 0} (linking : Linking) (object : Object) (row : BlockRow) (spans : Vec WordSpan Z) : Type 0 where

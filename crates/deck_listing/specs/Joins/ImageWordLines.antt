@@ -1,7 +1,7 @@
 -- The lines of stored words.
 use Rattle.std.specs.Prelude.{ℕ, ◌+◌, List, [], ◌++◌, codes, not, filter, flat_map, if◌then◌else◌}
 use Rattle.definitions.specs.{Blocks.is_common, Image.word_line, Kinds.kind_text, Lengths.BlockRow, Layout.{AddressedWord, addressed, block_words, is_beyond, literal_stored}, Listing.line, Numerals.octal_of, Objects.Object, Words.Linking, declared.deck_kind.DeckKind.DeckKind}
-use Rattle.deck_listing.specs.{Joins.Filling.{as_stored, words_from}, declared.packing.word_spans.WordSpan.WordSpan}
+use Rattle.parcel_packer.specs.{Joins.Filling.{as_stored, words_from}, declared.word_spans.WordSpan.WordSpan}
 
 -- the lines of words; one beyond the memory of the deck has none
 abbrev pub lines_of : DeckKind → List AddressedWord → List ℕ

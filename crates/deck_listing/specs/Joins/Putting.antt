@@ -3,7 +3,7 @@ use Rattle.std.specs.Prelude.{ℕ, ◌≡◌, ◌+◌, ◌*◌, ◌%◌, ◌<◌
 use Rattle.definitions.specs.{Kinds.{units, most_words}, Operations.is_instruction, StatementItems.Item, Words.{Linking, width_of}, declared.deck_kind.DeckKind.DeckKind, Laws.Filling.DoFill}
 use Rattle.statement_coder.specs.declared.items.Item as code
 use Rattle.operations.specs.Joins.OperationsAs.{operation_as}
-use Rattle.deck_listing.specs.Joins.Packing.{OpenRun, Packed, DoItemsFit, MayBegin, moved, put_items}
+use Rattle.parcel_packer.specs.Joins.Packing.{OpenRun, Packed, DoItemsFit, MayBegin, moved, put_items}
 use Rattle.deck_objects.specs.Joins.LineItems.{kept_items, AreKept}
 use Rattle.deck_objects.specs.declared.lines.CodedLine as lines
 use Rattle.deck_objects.specs.declared.lines.LineFields.TheVariants as variant

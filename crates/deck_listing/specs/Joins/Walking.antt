@@ -2,7 +2,7 @@
 use Rattle.std.specs.{Prelude.{ℕ, ◌≡◌, ◌≤◌, List, [], ◌++◌, length, map, reverse, slice_get, Some}, List.IsDistinct}
 use Rattle.definitions.specs.{Characters.same_text, Cards.Card, Lengths.BlockRow, Objects.Object, Words.{Coded, Linking, runs_of}, declared.deck_kind.DeckKind.DeckKind, Laws.Reaching.{DoesReach, DoReach}, Laws.Rising.{run_end, IsLaidOut, AreLaidOut}}
 use Rattle.statement_coder.specs.declared.items.Item as code
-use Rattle.deck_listing.specs.Joins.Packing.{Packed, empty_run, runs_in}
+use Rattle.parcel_packer.specs.Joins.Packing.{Packed, empty_run, runs_in}
 use Rattle.deck_objects.specs.{Joins.CodedLines.{IsCoded, AreCoded}, Joins.PartsOf.ArePartsOf, declared.lines.Line.Line, declared.object.ObjectParts.ObjectParts}
 use Rattle.deck_objects.specs.declared.lines.CodedLine as lines
 

@@ -1,5 +1,5 @@
 use Rattle.std.proofs.{Common.{◌^◌, ◌∙◌, List, Some, ap, subst, sym}, lemmas.Option.slice_get-get_or}
-use Rattle.deck_listing.specs.{Joins.Filling.{DoSpansRise, as_stored}, declared.packing.word_spans.WordSpan.WordSpan}
+use Rattle.parcel_packer.specs.{Joins.Filling.{DoSpansRise, as_stored}, declared.word_spans.WordSpan.WordSpan}
 use Rattle.deck_linker.proofs.common_image.push_placed.Goals as goal
 
 pub push_section-requires-clause-words : goal.push_section-requires-clause-words

@@ -1,5 +1,5 @@
 use Rattle.std.proofs.Common.{◌^◌, ◌∙◌, refl}
-use Rattle.deck_listing.{specs.Joins.Filling.as_stored, proofs.OverLaws.some_stored}
+use Rattle.parcel_packer.{specs.Joins.Filling.as_stored, proofs.OverLaws.some_stored}
 use Rattle.deck_linker.proofs.ImageLaws.{section-written, some_words}
 use Rattle.deck_linker.proofs.common_image.push_section.Goals as goal
 

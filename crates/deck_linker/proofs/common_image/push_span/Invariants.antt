@@ -1,6 +1,6 @@
 -- The lines so far, and those of the words of the span that are left.
 use Rattle.std.proofs.Common.{◌≡◌, ◌+◌, ◌-◌, ◌++◌}
-use Rattle.deck_listing.specs.Joins.Filling.{words_from}
+use Rattle.parcel_packer.specs.Joins.Filling.{words_from}
 use Rattle.deck_linker.specs.Joins.Sections.{common_words_text}
 use Rattle.deck_linker.proofs.common_image.push_span.Given as goal
 

@@ -1,6 +1,6 @@
 -- The lines so far, and those of the words that are left.
 use Rattle.std.proofs.Common.{◌≡◌, ◌++◌, drop}
-use Rattle.deck_listing.specs.Joins.Filling.{as_stored}
+use Rattle.parcel_packer.specs.Joins.Filling.{as_stored}
 use Rattle.deck_linker.specs.Joins.Sections.{common_words_text}
 use Rattle.deck_linker.proofs.common_image.push_words.Given as goal
 

@@ -1,6 +1,7 @@
 use Rattle.std.proofs.{Common.{◌+◌, ◌^◌, ◌<◌, ◌∙◌, List, Some, ap, length, sym, subst, take, arith}, lemmas.List.take_all, lemmas.Option.slice_get-get_or, lemmas.Slice.Zip.AllZip-long}
 use Rattle.definitions.specs.LinkValues.{linking_of}
-use Rattle.deck_listing.{specs.Joins.Filling.{DoSpansRise, as_stored}, specs.declared.packing.word_spans.WordSpan.WordSpan, specs.Joins.BlockWords.AreWordsOf, proofs.BlockSteps.zip-at}
+use Rattle.parcel_packer.specs.{Joins.Filling.{DoSpansRise, as_stored}, declared.word_spans.WordSpan.WordSpan}
+use Rattle.deck_listing.{specs.Joins.BlockWords.AreWordsOf, proofs.BlockSteps.zip-at}
 use Rattle.deck_linker.{specs.Joins.CommonWords.{AreMade, over_row, over_rows}, proofs.CommonSteps.{made-both, made-none, made-same, rows-more}}
 use Rattle.deck_linker.proofs.common_words.put_rows.Goals as goal
 

@@ -1,5 +1,6 @@
 use Rattle.std.{proofs.Common.{List, ap, length, sym, subst}, specs.List.AllZip, proofs.lemmas.Result.IfOk-weaker}
-use Rattle.deck_listing.{specs.Joins.Packing.Packed, specs.Joins.BlockWords.{AreWhole, AreWordsOf, IsFilledWith}, specs.Joins.Walking.AreEmpty, proofs.BlockSteps.{filled-words, runs-whole}}
+use Rattle.parcel_packer.specs.Joins.Packing.{Packed}
+use Rattle.deck_listing.{specs.Joins.BlockWords.{AreWhole, AreWordsOf, IsFilledWith}, specs.Joins.Walking.AreEmpty, proofs.BlockSteps.{filled-words, runs-whole}}
 use Rattle.deck_listing.proofs.blocks.words_of_parts.Goals as goal
 
 pub put_lines-requires-clause-empty : goal.put_lines-requires-clause-empty

@@ -1,7 +1,8 @@
 use Rattle.std.proofs.Common.{◌≡◌, ◌<◌, List, [], ◌∷◌, length, map, take, subst, sym, ap, ◌∙◌, arith}
 use Rattle.definitions.specs.{Kinds.unit_bits, StatementItems.Item, declared.deck_kind.DeckKind.DeckKind}
 use Rattle.statement_coder.specs.Joins.Items.{item_as}
-use Rattle.deck_listing.{specs.Joins.Packing.most_bits, specs.Joins.Putting.ArePut, proofs.FieldSteps.{field_short, fields_more, fields_within, width_more, most_small}, proofs.PutSteps.put_more}
+use Rattle.parcel_packer.specs.Joins.Packing.{most_bits}
+use Rattle.deck_listing.{specs.Joins.Putting.ArePut, proofs.FieldSteps.{field_short, fields_more, fields_within, width_more, most_small}, proofs.PutSteps.put_more}
 use Rattle.deck_listing.proofs.fields.put_fields.Goals as goal
 
 pub put_item-requires-clause-short : goal.put_item-requires-clause-short

@@ -1,7 +1,8 @@
 use Rattle.std.proofs.{Common.ap, lemmas.Result.on_ok_weaker}
 use Rattle.definitions.specs.Kinds.{unit_bits}
 use Rattle.statement_coder.specs.Joins.Items.{item_as}
-use Rattle.deck_listing.{specs.Joins.Packing.Packed, proofs.PutLaws.unit_some, proofs.PutSteps.put_one}
+use Rattle.parcel_packer.{specs.Joins.Packing.Packed, proofs.PutLaws.unit_some}
+use Rattle.deck_listing.proofs.PutSteps.{put_one}
 use Rattle.deck_listing.proofs.fields.put_item.Goals as goal
 
 pub returns-clause-put : goal.returns-clause-put

@@ -1,5 +1,6 @@
 use Rattle.std.proofs.{Common.{◌<◌, ◌++◌, ◌∙◌, Some, ap, length, sym, arith}, lemmas.List.take_all, lemmas.Option.slice_get-get_or}
-use Rattle.deck_listing.{specs.Joins.Filling.as_stored, specs.Joins.BlockWords.AreWordsOf, specs.Joins.ImageWordLines.{lines_of, rows_words}, proofs.BlockSteps.zip-at, proofs.ImageLineSteps.{row_more, row_put}}
+use Rattle.parcel_packer.specs.Joins.Filling.{as_stored}
+use Rattle.deck_listing.{specs.Joins.BlockWords.AreWordsOf, specs.Joins.ImageWordLines.{lines_of, rows_words}, proofs.BlockSteps.zip-at, proofs.ImageLineSteps.{row_more, row_put}}
 use Rattle.deck_listing.proofs.section_words.push_blocks.Goals as goal
 
 pub loop-index-preserved : goal.loop-index-preserved

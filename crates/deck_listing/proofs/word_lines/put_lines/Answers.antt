@@ -1,5 +1,6 @@
 use Rattle.std.proofs.{Common.{◌≡◌, ℕ, ◌+◌, ◌<◌, List, ◌∷◌, drop, get_or, length, Vec, ap, sym, subst, ◌∙◌, arith}, lemmas.List.drop_more}
-use Rattle.deck_listing.{specs.Joins.Packing.Packed, specs.Joins.Walking.AreWalked, proofs.WalkSteps.{walked-first, walked-next, walked-on, walked-past}, proofs.word_lines.put_lines.Goals.{in-Some+in_ok-put_coded, in_default}}
+use Rattle.parcel_packer.specs.Joins.Packing.{Packed}
+use Rattle.deck_listing.{specs.Joins.Walking.AreWalked, proofs.WalkSteps.{walked-first, walked-next, walked-on, walked-past}, proofs.word_lines.put_lines.Goals.{in-Some+in_ok-put_coded, in_default}}
 use Rattle.deck_objects.specs.declared.lines.Line.{Line}
 use Rattle.deck_listing.proofs.word_lines.put_lines.Goals as goal
 

@@ -1,5 +1,0 @@
-use Rattle.deck_listing.proofs.GatherLaws.{gathered_none}
-use Rattle.deck_listing.proofs.packing.gathering.Gathered.new.Goals as goal
-
-pub returns-clause-gathered : goal.returns-clause-gathered
-returns-clause-gathered c = λ kind. rw c.new.ensures.items (gathered_none kind c.at.result c.at.ensures.word (c.at.ensures.empty kind))

@@ -1,8 +1,0 @@
-use Rattle.deck_listing.proofs.{PackingLaws.put_bits-joined, PutLaws.moved_stays}
-use Rattle.deck_listing.proofs.packing.laws.fields_join.Goals as goal
-
-pub returns-clause-joined : goal.returns-clause-joined
-returns-clause-joined c = put_bits-joined
-
-pub returns-clause-stays : goal.returns-clause-stays
-returns-clause-stays c = moved_stays

@@ -1,8 +1,0 @@
-use Rattle.deck_listing.proofs.PutLaws.{runs_put, runs_begun}
-use Rattle.deck_listing.proofs.packing.laws.runs_follow_statements.Goals as goal
-
-pub returns-clause-joined : goal.returns-clause-joined
-returns-clause-joined c = runs_put
-
-pub returns-clause-begun : goal.returns-clause-begun
-returns-clause-begun c = runs_begun

@@ -1,6 +1,0 @@
-use Rattle.std.proofs.Common.{drop}
-use Rattle.deck_listing.specs.Joins.Filling.{IsMerging}
-use Rattle.deck_listing.proofs.packing.merging.merged.Given as goal
-
-abbrev pub invariant-loop-next : goal.invariant-loop-next
-invariant-loop-next l = IsMerging l.newer l.older l.spans.items (drop l.next-index l.newer) (drop l.place l.older) l.from

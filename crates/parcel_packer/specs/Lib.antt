@@ -1,0 +1,2 @@
+-- What no promise leads to.
+pub mod Joins
