@@ -31,16 +31,6 @@ pub(crate) struct Gathered {
     pub(crate) next: OpenWord,
 }
 
-/// How many parcels a word has.
-pub(crate) fn units_of(kind: DeckKind) -> u32
-    ensures { result ≡ units kind }
-{
-    match kind {
-        DeckKind::Periph => 1,
-        DeckKind::Rel | DeckKind::Abs => 4,
-    }
-}
-
 fn either(a: bool, b: bool) -> bool
     ensures { result ≡ (a || b) }
 {
@@ -51,7 +41,7 @@ fn either(a: bool, b: bool) -> bool
 fn is_zero_words(kind: DeckKind, span: Span) -> bool
     ensures { result ≡ true → AreZeroWords kind span }
 {
-    let units = units_of(kind);
+    let units = kind.units();
     span.count != 0
         && span.place % units == 0
         && span.count % units == 0
@@ -118,7 +108,7 @@ impl OpenWord {
         ensures { (parcels : List Parcel) → IsOpenWord kind self.now parcels → result ≡ word_of_parcels kind parcels }
     {
         let filling = self.filling(kind);
-        if units_of(kind) == 1 {
+        if kind.units() == 1 {
             return self.bits(0, filling);
         }
         self.central_value(filling)
@@ -182,7 +172,7 @@ impl Gathered {
             IsGathered kind (parcels ++ parcel_at is_instruction place bits ∷ []) self.new.words.items self.new.next) }
         ensures word { OnOk result (self.new.next.word ≡ place / units kind) }
     {
-        let units = units_of(kind);
+        let units = kind.units();
         self.go_to(kind, place / units)?;
         self.next
             .add((place % units) as usize, bits, is_instruction);
@@ -235,11 +225,11 @@ impl Gathered {
         if !is_zero_words(kind, span) {
             return self.add_parcels(kind, span);
         }
-        self.go_to(kind, span.place / units_of(kind))?;
+        self.go_to(kind, span.place / kind.units())?;
         if !self.next.is_empty {
             return self.add_parcels(kind, span);
         }
-        self.add_zeros(span.count / units_of(kind))
+        self.add_zeros(span.count / kind.units())
     }
 
     fn finish(mut self, kind: DeckKind) -> Result<Vec<WordSpan>, AllocError>

@@ -9,7 +9,7 @@ ghost use Rattle.parcel_packer.specs.Joins.Filling.{DoSpansRise, as_stored};
 
 use crate::fields::{Field, moved_to, parcel_bits, put_field};
 use crate::filling::runs_words;
-use crate::gathering::{run_words, units_of};
+use crate::gathering::run_words;
 use crate::joining::joined;
 use crate::merging::laid_over;
 use crate::nothing::{lies_in, lies_in_any};
@@ -121,7 +121,7 @@ impl Words {
         }) }
         ensures unchanged { OnErr result (self.new ≡ self.old) }
     {
-        let units = units_of(self.kind);
+        let units = self.kind.units();
         let place = units * word;
         let zeros = units * count;
         self.run.push(Span {

@@ -4,7 +4,7 @@ use Rattle.parcel_packer.proofs.gathering.Gathered.add.Goals as goal
 
 pub returns-clause-gathered : goal.returns-clause-gathered
 returns-clause-gathered c =
-    let same = c.units_of-units.ensures in
+    let same = c.units-units.ensures in
     λ parcels h.
     gathered_more c.args.kind parcels c.go_to.new.self.words.items c.go_to.new.self.next c.add.new.self (parcel_at c.args.is_instruction c.args.place c.args.bits)
     (c.in_ok-go_to.ensures.word ∙ ap (λ u. c.args.place / u) same) c.add.ensures.word

@@ -8,7 +8,7 @@ returns-clause-gathered c =
     let kind = c.args.kind in
     let span = c.args.span in
     let after = c.add_zeros.new.self in
-    let same = zeros-span kind span c.go_to.new.self.next.word c.units_of.result c.units_of-2.result (c.if-not-is_zero_words.ensures refl) c.units_of.ensures c.units_of-2.ensures c.in_ok-go_to.ensures.word in
+    let same = zeros-span kind span c.go_to.new.self.next.word c.units.result c.units-2.result (c.if-not-is_zero_words.ensures refl) c.units.ensures c.units-2.ensures c.in_ok-go_to.ensures.word in
     on_ok_weaker c.add_zeros.result
     (λ put parcels h.
     let Holds : List Parcel → Type 0 = λ more. IsGathered kind (parcels ++ more) after.words.items after.next in

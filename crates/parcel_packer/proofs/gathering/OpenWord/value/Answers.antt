@@ -6,4 +6,4 @@ pub returns : goal.returns
 returns c =
     λ parcels h.
     c.central_value.ensures
-    ∙ word_central c.args.kind c.args.self.now parcels c.filling-filling.result (λ one. c.if-units_of-eq1.false (c.units_of.ensures ∙ one)) h (c.filling-filling.ensures parcels h)
+    ∙ word_central c.args.kind c.args.self.now parcels c.filling-filling.result (λ one. c.if-units-eq1.false (c.units.ensures ∙ one)) h (c.filling-filling.ensures parcels h)

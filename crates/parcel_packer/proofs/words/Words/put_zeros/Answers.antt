@@ -6,12 +6,12 @@ pub invariant_of-self-2 : goal.invariant_of-self-2
 invariant_of-self-2 c =
     let inside = c.self.inside in
     let runs = parcels_in_runs inside.earlier.items in
-    zeros_kept_by c.args.self.now inside.kind c.units_of-units.result c.args.word c.args.count inside.run.items c.push.new.self.items inside.next runs (reverse runs)
-    c.self.view_is c.units_of-units.ensures c.self.invariant c.requires.begins c.requires.within c.in_ok-push.ensures.items
+    zeros_kept_by c.args.self.now inside.kind c.units-units.result c.args.word c.args.count inside.run.items c.push.new.self.items inside.next runs (reverse runs)
+    c.self.view_is c.units-units.ensures c.self.invariant c.requires.begins c.requires.within c.in_ok-push.ensures.items
 
 pub returns-clause-put : goal.returns-clause-put
 returns-clause-put c =
     let inside = c.self.inside in
     let runs = parcels_in_runs inside.earlier.items in
-    zeros_view c.args.self.now inside.kind c.units_of-units.result c.args.word c.args.count inside.run.items c.push.new.self.items inside.next runs (reverse runs)
-    c.self.view_is c.units_of-units.ensures c.self.invariant c.requires.whole c.in_ok-push.ensures.items
+    zeros_view c.args.self.now inside.kind c.units-units.result c.args.word c.args.count inside.run.items c.push.new.self.items inside.next runs (reverse runs)
+    c.self.view_is c.units-units.ensures c.self.invariant c.requires.whole c.in_ok-push.ensures.items
