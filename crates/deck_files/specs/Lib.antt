@@ -9,7 +9,6 @@ pub mod SaveTurns
 pub mod KnownTexts
 pub mod Savings
 pub mod ShelfRelations
-pub mod Moments
 pub mod Folders
 pub mod FileRows
 pub mod NewNames

@@ -2,9 +2,9 @@
 ghost use Rattle.std.specs.Prelude.{◌≡◌, ◌≤◌, ◌+◌, OnOk, length, position};
 ghost use Rattle.deck_files.specs.FileRows.{deck_in, deck_named, is_before, place_in, with_row};
 
-use crate::moments::Moment;
 use cards::DeckName;
 use definitions::is_same_text;
+use moments::Moment;
 use std::alloc::AllocError;
 
 /// How many files of decks are listed at most.

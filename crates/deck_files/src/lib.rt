@@ -16,7 +16,6 @@ mod loading;
 mod saving;
 
 // Shelves of files.
-mod calendar;
 mod deck_places;
 mod deck_shelf;
 mod file_rows;
@@ -30,7 +29,6 @@ mod known_files;
 mod known_rows;
 mod known_texts;
 mod leftovers;
-mod moments;
 mod new_files;
 mod new_names;
 mod save_turns;
@@ -56,7 +54,6 @@ pub use known_files::{FILES, KnownFiles};
 pub use leftovers::clear_folder;
 pub use load_fault::LoadFault;
 pub use loading::load;
-pub use moments::Moment;
 pub use saving::{save, save_file};
 pub use size_limits::{Limited, NO_LIMIT, has_room, size_limit};
 pub use system_folder::SystemFolder;

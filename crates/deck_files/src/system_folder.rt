@@ -2,10 +2,10 @@
 
 use crate::file_rows::{DeckEntry, MOST_FILES, deck_in};
 use crate::folders::{Folder, Standing};
-use crate::moments::Moment;
 use crate::size_limits::{Limited, size_limit};
 use crate::unwaiting::{check_stands, open_plain, plain_at};
 use crate::whole_files::take_owner_and_mode;
+use moments::Moment;
 use std::alloc::{AllocGlobal, Global};
 use std::fs::{DirEntry, File, Metadata, OpenOptions};
 use std::io::ErrorKind;

@@ -13,13 +13,11 @@ ghost use Rattle.std.specs.Prelude.{◌≡◌, true, false, is_none, IfOk, IsSom
 ghost use Rattle.journal.specs.JournalFiles.{IsKeptAs};
 ghost use Rattle.desk_service.specs.SessionEnds.{IsMadeUp, news_of, queue_behind};
 
-use deck_files::Moment;
 use deck_listing::SharedText;
 use journal::{Batch, Draft, JournalFile, KeptBatch, Queue, RecordsFile};
 use std::alloc::{AllocError, Global};
 use std::marker::Model;
 use std::sync::{Condvar, Mutex, MutexGuard, Wait};
-use std::time::{Clock, SystemTime, UNIX_EPOCH};
 
 /// What is reported of a journal on standard error.
 #[derive(Clone, Copy)]
@@ -236,16 +234,4 @@ impl<F: RecordsFile + Drop> Journal<F> {
         let shared = self.await_written(rt, shared, version);
         shared.shows(session, version, &text)
     }
-}
-
-/// The moment of the system's clock; the first of 1970 where it can't be read.
-pub(crate) fn moment_now<R: Clock>(rt: &R) -> Moment {
-    let seconds = match SystemTime::now(rt) {
-        Ok(now) => match now.duration_since(UNIX_EPOCH) {
-            Ok(since) => since.as_secs(),
-            Err(_) => 0,
-        },
-        Err(_) => 0,
-    };
-    Moment::of_seconds(seconds)
 }

@@ -2,7 +2,7 @@
 ghost use Rattle.std.specs.Prelude.{◌≡◌, ◌+◌, ◌-◌, ◌^◌, false, min, IfOk, IfSome};
 
 use crate::faults::ServeFault;
-use crate::journals::{Journal, moment_now};
+use crate::journals::Journal;
 use crate::root::{JournalLock, journal_path};
 use crate::settings::{Journaling, Settings};
 use crate::system_file::SystemFile;
@@ -13,6 +13,7 @@ use journal::{
     Ending, JournalFile, Mark, Next, Place, RecordsFile, ReplayFault, compacted_text, kept_length,
     mark_of_front, next_record, replay,
 };
+use moments::Moment;
 use std::alloc::Global;
 use std::fs;
 use std::fs::{File, OpenOptions};
@@ -215,7 +216,7 @@ fn begin_anew<R: Files<File = File> + Clock>(
 where
     R::File: AsFd,
 {
-    let text = compacted_text(alloc, &moment_now(rt), begun, desk)?;
+    let text = compacted_text(alloc, &Moment::now(rt), begun, desk)?;
     write_anew(rt, alloc, path, text.as_slice(), lock)?;
     let Records { desk, length, .. } = read_records(rt, alloc, keys, path)?;
     Ok(Found {

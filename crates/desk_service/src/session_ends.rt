@@ -4,7 +4,6 @@ ghost use Rattle.std.specs.Prelude.{◌≡◌, ◌<◌, is_some, IfOk, IfSome, N
 ghost use Rattle.journal.specs.Names.{session_name};
 ghost use Rattle.desk_service.specs.Company.{AreListed};
 
-use crate::journals::{Journal, moment_now};
 use crate::service_end::ServiceEnd;
 use cards::DeckName;
 use crossbeam_channel::Sender;
@@ -17,6 +16,8 @@ use std::alloc::{AllocError, Global};
 use std::marker::Model;
 use std::sync::Wait;
 use std::time::Clock;
+use crate::journals::Journal;
+use moments::Moment;
 
 /// What a session has of its service beside the journal.
 #[derive(Drop)]
@@ -133,7 +134,7 @@ impl<R: Wait + Clock + Eprint, F: RecordsFile + Drop> Ends for SessionEnds<'_, R
             }
         }
         let stamp = Stamp {
-            moment: moment_now(self.rt),
+            moment: Moment::now(self.rt),
             by: self.name.copied(),
         };
         if self.journal.is_none() {

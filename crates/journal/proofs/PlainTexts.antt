@@ -1,9 +1,9 @@
 -- Texts without line feeds, and how long they are.
-use Rattle.std.{proofs.Common.{ℕ, zero, suc, ◌≡◌, ◌≢◌, ◌<◌, ◌≤◌, ◌==◌, inl, inr, Bool, true, false, ◌&&◌, List, [], ◌∷◌, ◌++◌, Option, None, Some, position, length, get_or, refl, sym, ap, subst, ◌∙◌, arith, if◌then◌else◌, cond, eqb-true, true≢false, le-ltb, lt-ltb}, specs.Prelude.{nat_le, decimal, is_none, ◌||◌}, specs.List.{list_all, position_or_len}, proofs.lemmas.List.Sums.fails_before_first, proofs.lemmas.Bool.{and_parts, and_from, le-leb, leb-true, or_cases}, proofs.lemmas.Bool.Decides.leb_tells, proofs.lemmas.List.Elements.{All-nil, All-cons}, proofs.lemmas.Fmt.length-decimal-le, proofs.lemmas.List.Folds.list_all-append, proofs.lemmas.List.Quantifiers.position-Some}
-use Rattle.definitions.specs.{Characters.{blank, is_digit, is_letter, characters, display_code_of, zero_digit}, Cards.{Card, CardRead, IsCard, TooWide, BadCharacter, card_of, checked, trimmed}, DeckInput.is_deck_name}
+use Rattle.std.{proofs.Common.{ℕ, zero, suc, ◌≡◌, ◌≢◌, ◌<◌, ◌≤◌, ◌==◌, inl, inr, Bool, true, false, ◌&&◌, List, [], ◌∷◌, ◌++◌, Option, None, Some, position, length, get_or, refl, sym, ap, subst, ◌∙◌, arith, cond, eqb-true, true≢false, le-ltb, lt-ltb}, specs.Prelude.{nat_le, decimal, is_none, if◌then◌else◌, ◌||◌}, specs.List.{list_all, position_or_len}, proofs.lemmas.List.Sums.fails_before_first, proofs.lemmas.Bool.{and_parts, and_from, le-leb, leb-true, or_cases}, proofs.lemmas.Bool.Decides.leb_tells, proofs.lemmas.List.Elements.{All-nil, All-cons}, proofs.lemmas.Fmt.length-decimal-le, proofs.lemmas.List.Folds.list_all-append, proofs.lemmas.List.Quantifiers.position-Some}
+use Rattle.definitions.specs.{Characters.{blank, is_digit, is_letter, characters, display_code_of}, Cards.{Card, CardRead, IsCard, TooWide, BadCharacter, card_of, checked, trimmed}, DeckInput.is_deck_name}
 use Rattle.text_ports.specs.Lines.{line_feed, IsUnbroken}
 use Rattle.session_commands.{specs.Words.greatest_number, proofs.ReadBack.{all-by, digit-no_blank, no_blank, spells-decimal, IsWord}}
-use Rattle.deck_files.specs.Moments.{moment_form, fits_one, fits, is_moment}
+use Rattle.moments.{specs.Moments.is_moment, proofs.MomentTexts.{moment-all, moment-length}}
 
 -- a character from the blank on
 abbrev pub is_plain : ℕ → Bool
@@ -56,50 +56,16 @@ name-short name is =
     leb-true (length name) 7 (and_parts (nat_le 1 (length name)) (nat_le (length name) 7) parts.0).1
 
 -- moments
-fitting-plain : (form c : ℕ) → is_plain form ≡ true → fits_one form c ≡ true → is_plain c ≡ true
-fitting-plain form c plain is = by (form == zero_digit) refl
-  where
-    by : (t : Bool) → (form == zero_digit) ≡ t → is_plain c ≡ true
-    by true e = digit-plain c (sym (ap (λ (t : Bool). if t then is_digit c else c == form) e) ∙ is)
-    by false e =
-        let same : c ≡ form = eqb-true c form (sym (ap (λ (t : Bool). if t then is_digit c else c == form) e) ∙ is) in
-        ap is_plain same ∙ plain
-
-fitting-no_blank : (form c : ℕ) → no_blank form ≡ true → fits_one form c ≡ true → no_blank c ≡ true
-fitting-no_blank form c other is = by (form == zero_digit) refl
-  where
-    by : (t : Bool) → (form == zero_digit) ≡ t → no_blank c ≡ true
-    by true e = digit-no_blank c (sym (ap (λ (t : Bool). if t then is_digit c else c == form) e) ∙ is)
-    by false e =
-        let same : c ≡ form = eqb-true c form (sym (ap (λ (t : Bool). if t then is_digit c else c == form) e) ∙ is) in
-        ap no_blank same ∙ other
-
-fitting-all : (p : ℕ → Bool) → ((form c : ℕ) → p form ≡ true → fits_one form c ≡ true → p c ≡ true) → (forms text : List ℕ) → length text ≤ length forms → list_all p forms ≡ true → fits forms text ≡ true → list_all p text ≡ true
-fitting-all p follows forms [] few all is = refl
-fitting-all p follows [] (c ∷ cs) few all is = absurd (omega (arith, few))
-fitting-all p follows (form ∷ forms) (c ∷ cs) few all is =
-    let tests = and_parts (p form) (list_all p forms) all in
-    let parts = and_parts (fits_one form c) (fits forms cs) is in
-    and_from (p c) (list_all p cs) (follows form c tests.0 parts.0) (fitting-all p follows forms cs (omega (arith, few)) tests.1 parts.1)
-
-moment-length : (text : List ℕ) → is_moment text ≡ true → length text ≡ 20
-moment-length text is = eqb-true (length text) 20 (and_parts (length text == 20) (fits moment_form text) is).0
-
 pub moment-short : (text : List ℕ) → is_moment text ≡ true → length text ≤ 20
 moment-short text is = let n = moment-length text is in omega (arith, n)
 
 pub moment-plain : (text : List ℕ) → is_moment text ≡ true → ArePlain text
-moment-plain text is =
-    let n = moment-length text is in
-    fitting-all is_plain fitting-plain moment_form text (omega (arith, n)) refl (and_parts (length text == 20) (fits moment_form text) is).1
+moment-plain text is = moment-all is_plain digit-plain refl text is
 
 pub moment-word : (text : List ℕ) → is_moment text ≡ true → IsWord text
 moment-word text is =
     let n = moment-length text is in
-    record {
-      unbroken = fitting-all no_blank fitting-no_blank moment_form text (omega (arith, n)) refl (and_parts (length text == 20) (fits moment_form text) is).1;
-      some = omega (arith, n);
-    }
+    record { unbroken = moment-all no_blank digit-no_blank refl text is; some = omega (arith, n) }
 
 -- cards
 all-characters : (p : ℕ → Bool) (xs : List ℕ) → list_all p xs ≡ true → (i : ℕ) → i < length xs → p (get_or xs i 0) ≡ true

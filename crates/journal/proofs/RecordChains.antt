@@ -7,7 +7,7 @@ use Rattle.session_commands.{specs.declared.refusals.Refusal.Refusal, specs.Word
 use Rattle.desk_core.specs.declared.calls.{Change.TheVariants.{AddDeck, PutDeck, DropDeck, EditDeck, Undo}, Edits.TheVariants.{One, Batch}}
 use Rattle.journal.{specs.declared.records.Entry.Entry, specs.declared.records.Record.Record, specs.declared.beginning.Begun.Begun, specs.declared.beginning.Open.Open, specs.declared.steps.Step.TheVariants.{Ends, Wrong}, specs.CheckSums.{first_sum, sum_after, sum_over, check_sum}, specs.Records.{ended, text_of_lines, line_of_entry, lines_behind, first_line, lines_of_record, sum_line}, specs.Begun.{given, begun_by, begun_of, name_of, open_with, opened}, specs.Steps.{deck_with_card, deck_with, edits_with, entry_with, inner_step, has_all, sum_in, end_step, first_step, line_step}, specs.Lawful.{IsLawfulEntry, IsLawful}, proofs.LineChains.{IsLine, IsChain}, proofs.LineSizes.{first-line, card-line, edit-line}, proofs.PlainTexts.moment-word}
 use Rattle.journal.specs.declared.records.Entry.TheVariants as entry
-use Rattle.deck_files.specs.Moments.{moment_of}
+use Rattle.moments.specs.Moments.{moment_of}
 
 -- what the first line of a record shows
 abbrev pub bare : Entry → Begun

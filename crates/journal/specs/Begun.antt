@@ -7,7 +7,7 @@ use Rattle.cards.specs.declared.edits.Edit.{Edit}
 use Rattle.desk_core.specs.declared.calls.{Change.TheVariants.{AddDeck, PutDeck, DropDeck, EditDeck}, Edits.TheVariants.{One, Batch}}
 use Rattle.journal.specs.{declared.records.Entry.Entry, declared.records.Entry.TheVariants.Made, declared.beginning.Begun.Begun, declared.beginning.Open.Open, CheckSums.{first_sum, sum_over}, Records.ended}
 use Rattle.journal.specs.declared.records.Entry.TheVariants as entry
-use Rattle.deck_files.specs.Moments.{moment_of}
+use Rattle.moments.specs.Moments.{moment_of}
 
 -- what is made of a part that a line needs, if it has it
 abbrev pub given : {A B : Type 0} → Option A → (A → Option B) → Option B

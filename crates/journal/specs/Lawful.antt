@@ -5,7 +5,7 @@ use Rattle.session_commands.specs.{declared.words.Seen.TheVariants.{Exactly, Sin
 use Rattle.desk_core.specs.declared.calls.{Change.Change, Change.TheVariants.{AddDeck, PutDeck, DropDeck, EditDeck, Undo}, Edits.Edits, Edits.TheVariants.{One, Batch}}
 use Rattle.journal.specs.declared.{records.Entry.Entry, records.Record.Record}
 use Rattle.journal.specs.declared.records.Entry.TheVariants as entry
-use Rattle.deck_files.specs.Moments.{is_moment}
+use Rattle.moments.specs.Moments.{is_moment}
 
 -- a deck with a lawful name and cards
 abbrev pub IsLawfulDeck : Deck → Type 0

@@ -2,20 +2,17 @@
 ghost use Rattle.std.specs.Prelude.{◌≡◌, List, Result, option_map, option_and_then};
 ghost use Rattle.session_commands.specs.Words.{first_word};
 ghost use Rattle.session_commands.specs.declared.refusals.Refusal.{Refusal as Reason};
-ghost use Rattle.deck_files.specs.Moments.{moment_of};
 ghost use Rattle.journal.specs.Begun.{alone, begun_by, begun_of, batch_named, batch_seen, edit_seen, name_of, put_named, opened, opened_by};
+ghost use Rattle.moments.specs.Moments.{moment_of};
 
 use crate::check_sums::{FIRST_SUM, sum_over_line};
 use crate::records::{Entry, Record};
 use cards::{DeckName, Edit};
-use deck_files::Moment;
 use definitions::is_same_text;
 use desk_core::{Change, Edits, Listed, NewDeck};
-use session_commands::{
-    Command, Refusal, Seen, behind_blank, behind_word, first_number, first_word, from_blank,
-    read_command, to_blank,
-};
+use session_commands::{Command, Refusal, Seen, behind_blank, behind_word, first_number, first_word, from_blank, read_command, to_blank};
 use std::alloc::Global;
+use moments::Moment;
 
 /// What a record shows by its first line alone, and how many lines of edits or cards it announces.
 #[derive(Drop)]

@@ -7,10 +7,10 @@ ghost use Rattle.journal.specs.Records.{text_of_record, text_of_records};
 use crate::names::session_name;
 use crate::records::{Entry, Record};
 use crate::writing::record_text;
-use deck_files::Moment;
 use desk_core::{Change, Desk, StoredDeck};
 use std::alloc::{AllocError, Global};
 use text_ports::Text;
+use moments::Moment;
 
 /// Appends the record of a deck.
 fn push_added(

@@ -5,13 +5,13 @@ ghost use Rattle.journal.specs.Drafts.{change_carried, form_text, is_dropped, st
 
 use crate::writing::text_behind_version;
 use cards::{DeckName, Edit};
-use deck_files::Moment;
 use deck_listing::SharedText;
 use desk_core::{Change, Edits, Listed};
 use session_commands::Seen;
 use std::alloc::{AllocError, Global};
 use std::marker::Model;
 use text_ports::Text;
+use moments::Moment;
 
 /// When a change is asked for, and the name of the session that asks.
 #[derive(Drop)]

@@ -1,8 +1,8 @@
 //! The records of a journal.
 
 use cards::DeckName;
-use deck_files::Moment;
 use desk_core::Change;
+use moments::Moment;
 
 /// What a record shows.
 #[derive(Drop)]

@@ -7,12 +7,12 @@ ghost use Rattle.journal.specs.Records.{ended, first_line, line_of_change, line_
 use crate::check_sums::{FIRST_SUM, sum_over};
 use crate::records::{Entry, Record};
 use cards::{Card, DeckName, Edit};
-use deck_files::Moment;
 use desk_core::{Change, Edits};
 use itoa::Buffer;
 use session_commands::Seen;
 use std::alloc::{AllocError, Global};
 use text_ports::Text;
+use moments::Moment;
 
 /// Appends a blank and a word.
 fn push_word(text: &mut Text, word: &[u8]) -> Result<(), AllocError>

@@ -4,17 +4,14 @@
 //! records are shown as they are written again; `replay VERSION`: its changes are made again up to a version;
 //! `compact`: it becomes the one that begins with its decks.
 
-use deck_files::Moment;
 use desk_core::{Call, Question};
 use desk_tests::push_asked;
-use journal::{
-    Ending, JournalFault, Next, Place, Record, ReplayFault, Replayed, compacted_text, next_record,
-    record_text, replay,
-};
+use journal::{Ending, JournalFault, Next, Place, Record, ReplayFault, Replayed, compacted_text, next_record, record_text, replay};
 use std::alloc::{AllocError, Global};
 use std::io::Read;
 use test_parts::{Answer, FaultyReader, fixed_keys, name_of, number};
 use text_ports::{Counted, Text};
+use moments::Moment;
 
 /// Makes a step of this word, if it is one of journals, and answers whether it is.
 pub fn make(file: &mut Vec<u8>, word: &str, rest: &str, answer: &mut Answer) -> bool {

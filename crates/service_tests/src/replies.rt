@@ -5,10 +5,11 @@
 //! writer fails at each byte in turn; `moment SECONDS`.
 
 use cards::{Card, CardFault, EditFault};
-use deck_files::{LoadFault, Moment};
+use deck_files::LoadFault;
 use desk_core::{Row, State};
 use desk_service::ServeFault;
 use desk_tests::text_of;
+use moments::Moment;
 use session_commands::Refusal;
 use session_line::{DeckOutcome, MarkedRow, Reply, ToldDeck, write_reply};
 use std::alloc::{AllocError, Global};

@@ -1,9 +1,10 @@
 //! Moments of time as text.
 ghost use Rattle.std.specs.Prelude.{◌≡◌, length, true};
-ghost use Rattle.deck_files.specs.Moments.{fits, fits_one, is_moment, moment_of};
+ghost use Rattle.moments.specs.Moments.{fits, fits_one, is_moment, moment_of};
 
 use crate::calendar::characters_at;
 use std::marker::Model;
+use std::time::{Clock, SystemTime, UNIX_EPOCH};
 
 /// How many characters a moment has.
 const LENGTH: usize = 20;
@@ -74,6 +75,20 @@ impl Moment {
         } else {
             Moment { characters: FORM }
         }
+    }
+
+    /// The moment of the system's clock; the first of 1970 where it can't be read.
+    pub fn now<R: Clock>(rt: &R) -> Moment
+        ensures { is_moment result ≡ true }
+    {
+        let seconds = match SystemTime::now(rt) {
+            Ok(now) => match now.duration_since(UNIX_EPOCH) {
+                Ok(since) => since.as_secs(),
+                Err(_) => 0,
+            },
+            Err(_) => 0,
+        };
+        Moment::of_seconds(seconds)
     }
 
     /// The same moment once more.

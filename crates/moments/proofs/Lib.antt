@@ -1,0 +1,2 @@
+-- What each character of a moment has.
+pub mod MomentTexts
