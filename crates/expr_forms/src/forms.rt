@@ -12,7 +12,7 @@ use crate::names::Name;
 use definitions::Letter;
 use std::marker::Model;
 
-/// What is known at the pair alone: where a block stands, what an external is.
+/// What is known at the link alone: where a block stands, what an external is.
 #[derive(Clone, Copy, PartialEq, Eq)]
 pub enum Relocation {
     Block(Name),
