@@ -91,7 +91,7 @@ impl Model for KnownRows {
 }
 
 /// Whether this is the version that is known.
-pub(crate) fn is_at(version: u64, known: Option<u64>) -> bool
+pub fn is_at(version: u64, known: Option<u64>) -> bool
     ensures { result ≡ is_at version known }
 {
     match known {

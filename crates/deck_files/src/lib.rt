@@ -51,6 +51,7 @@ pub use folder_laws::{
 pub use folder_shelf::FolderShelf;
 pub use folders::{Folder, Standing};
 pub use known_files::{FILES, KnownFiles};
+pub use known_rows::is_at;
 pub use leftovers::clear_folder;
 pub use load_fault::LoadFault;
 pub use loading::load;

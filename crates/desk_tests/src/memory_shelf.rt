@@ -2,14 +2,13 @@
 ghost use Rattle.std.specs.Prelude.{◌≡◌, ◌≤◌, [], length, Ok, OnOk, IfOk, IfErr, OnErr};
 ghost use Rattle.std.specs.Option.{option_map};
 ghost use Rattle.deck_files.specs.DeckFiles.{cards_of_file, file_of};
-ghost use Rattle.deck_files.specs.KnownFiles.{is_at};
 ghost use Rattle.deck_files.specs.Loads.{FaultsSo};
 ghost use Rattle.desk_tests.specs.MemoryFiles.{bytes_of, kept_file, version_of};
 ghost use Rattle.deck_files.specs.Files.{named, with_named};
 
 use cards::{Card, DeckName};
 use deck_files::{
-    FileRow, LoadFault, SaveOver, Shelf, ShelfLoadFault, ShelfSaveFault, load, save_file,
+    FileRow, LoadFault, SaveOver, Shelf, ShelfLoadFault, ShelfSaveFault, is_at, load, save_file,
 };
 use indexmap::IndexMap;
 use std::alloc::{AllocError, Global};
@@ -87,16 +86,6 @@ impl MemoryShelf {
             Some(file) => Some(file.version),
             None => None,
         }
-    }
-}
-
-/// Whether this is the version that is known.
-fn is_at(version: u64, known: Option<u64>) -> bool
-    ensures { result ≡ is_at version known }
-{
-    match known {
-        Some(known) => known == version,
-        None => false,
     }
 }
 

@@ -173,7 +173,7 @@ fn push_entry(text: &mut Text, entry: &Entry) -> Result<(), AllocError>
 
 /// Appends a record as one line, and its line feed.
 fn push_log_line(text: &mut Text, record: &Record) -> Result<(), AllocError>
-    ensures { OnOk result (text.new ≡ text.old ++ ended (log_line record.now)) }
+    ensures { OnOk result (text.new ≡ text.old ++ ended (log_line «record».now)) }
 {
     let mut buffer = Buffer::new();
     text.push_bytes(buffer.format(record.version).as_bytes())?;
@@ -186,7 +186,7 @@ fn push_log_line(text: &mut Text, record: &Record) -> Result<(), AllocError>
 
 /// Appends the first line of a record, and its line feed.
 fn push_first_line(text: &mut Text, record: &Record) -> Result<(), AllocError>
-    ensures { OnOk result (text.new ≡ text.old ++ ended (first_line record.now)) }
+    ensures { OnOk result (text.new ≡ text.old ++ ended (first_line «record».now)) }
 {
     text.push_bytes(b"RECORD ")?;
     push_log_line(text, record)
@@ -195,7 +195,7 @@ fn push_first_line(text: &mut Text, record: &Record) -> Result<(), AllocError>
 /// A record as one line, with its line feed: the version, when it was made, the name of the session, and
 /// the line that asked for the change.
 pub fn log_line(alloc: Global, record: &Record) -> Result<Text, AllocError>
-    ensures { IfOk result (λ text. text ≡ ended (log_line record.now)) }
+    ensures { IfOk result (λ text. text ≡ ended (log_line «record».now)) }
 {
     let mut text = Text::new(alloc);
     push_log_line(&mut text, record)?;
@@ -269,7 +269,7 @@ fn push_sum(text: &mut Text) -> Result<(), AllocError>
 
 /// The text of a record.
 pub fn record_text(alloc: Global, record: &Record) -> Result<Text, AllocError>
-    ensures { IfOk result (λ text. text ≡ text_of_record record.now) }
+    ensures { IfOk result (λ text. text ≡ text_of_record «record».now) }
 {
     let mut text = Text::new(alloc);
     push_first_line(&mut text, record)?;
