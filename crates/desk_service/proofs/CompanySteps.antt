@@ -1,5 +1,5 @@
 -- Who is listed of some seats, seat by seat.
-use Rattle.std.proofs.{Common.{ℕ, ◌≡◌, ◌+◌, ◌<◌, List, [], ◌∷◌, ◌++◌, Option, length, take, get_or, refl, sym, ap, ◌∙◌, arith, append-nil, append_assoc, length-take}, lemmas.List.take_more}
+use Rattle.std.proofs.{Common.{ℕ, ◌≡◌, ◌+◌, ◌<◌, List, [], ◌∷◌, ◌++◌, Option, length, take, get_or, sym, ap, ◌∙◌, arith, append-nil, append_assoc, length-take}, lemmas.List.take_more}
 use Rattle.session_line.specs.declared.greetings.Connected.{Connected}
 use Rattle.desk_service.specs.Company.{seated, listed_at, listed_from}
 

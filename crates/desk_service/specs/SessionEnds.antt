@@ -14,10 +14,6 @@ pub record SessionEnds : Type 0 where
   pub missed : Option ℕ
   pub name : List ℕ
 
--- the name by which the session asks for changes
-abbrev pub asking_name : SessionEnds → List ℕ
-asking_name ends = ends.name
-
 -- by this name it asks for changes from now on; or by its number, where it gave none
 abbrev pub IsNamed : SessionEnds → Option (List ℕ) → SessionEnds → Type 0
 IsNamed old (Some name) new = new ≡ record old { name = name }
@@ -67,7 +63,7 @@ module _ {F : Type 0} (has_done : F → List Step → Type 0) where
     sleeps = λ old version woken new. new ≡ old;
     lists = λ old name sessions new. (new ≡ old) × AreListed old.session name sessions;
     names = IsNamed;
-    who = asking_name;
+    who = λ ends. ends.name;
   }
 
   -- the desk makes a change that who has a name asks for, with this version, and the record of just that change is kept; or, where it is carried, with these edits, and the record of just these is kept

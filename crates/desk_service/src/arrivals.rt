@@ -133,14 +133,14 @@ fn offer_first<R: Wait + Clock>(
     let Some(guest) = lobby.take_first() else {
         return Arrival::Waiting;
     };
-    let (stream, who) = guest.into_parts();
+    let Guest { stream, since } = guest;
     match arrivals.to_edit.send_timeout(rt, ToEdit(stream), waiting) {
         Ok(()) => Arrival::Taken,
         Err(SendTimeoutError::Disconnected(_)) => Arrival::NoSessions,
         Err(
             SendTimeoutError::Timeout(ToEdit(stream))
             | SendTimeoutError::OutOfMemory(ToEdit(stream)),
-        ) => wait_on(rt, lobby, who.with_stream(stream), arrivals),
+        ) => wait_on(rt, lobby, Guest { stream, since }, arrivals),
     }
 }
 

@@ -1,10 +1,8 @@
 //! Who is connected: the names of the sessions that are.
 ghost use Rattle.std.specs.Prelude.{◌≡◌, ◌++◌, All, IfOk, OnOk, None, Some, length, option_map, set};
 ghost use Rattle.desk_service.specs.Company.{listed_at, listed_from, rights_at, seated};
-ghost use Rattle.journal.specs.Names.{session_name};
 
 use cards::DeckName;
-use journal::session_name;
 use session_line::{Connected, Rights};
 use std::alloc::{AllocError, Global};
 use std::marker::Model;
@@ -85,14 +83,7 @@ impl Company {
         Ok(Company { editors, seats })
     }
 
-    /// The session of this number is connected, and has given no name.
-    pub(crate) fn enter(&mut self, number: usize)
-        ensures { self.new ≡ record self.old { seats = set self.old.seats number (Some (session_name number)) } }
-    {
-        self.note(number, session_name(number as u64));
-    }
-
-    /// The session of this number has given this name.
+    /// The session of this number is connected, and has this name.
     pub(crate) fn note(&mut self, number: usize, name: DeckName)
         ensures { self.new ≡ record self.old { seats = set self.old.seats number (Some name) } }
     {

@@ -34,32 +34,6 @@ fn close_unwritten(stream: &TcpStream, ending: Ending) {
     }
 }
 
-/// Serves a connection to its end, whose client may be idle so long, or take nothing of a reply for half a
-/// minute at most. Where there is no memory for its buffers it is closed at once.
-fn serve_connection<R: Clock, C: Calls, S: Shelf>(
-    rt: &R,
-    alloc: Global,
-    keys: RandomState,
-    stream: &TcpStream,
-    idle: Duration,
-    rights: Rights,
-    desk: &mut C,
-    shelf: &mut S,
-)
-    ensures { ServesConnection rights C.relations S.relations desk.old shelf.old desk.new shelf.new }
-{
-    let _ = stream.set_nodelay(true);
-    let Ok(reader) = BufReader::new(alloc, PatientReader::new(rt, stream, idle)) else {
-        return;
-    };
-    let Ok(writer) = BufWriter::new(alloc, PatientWriter::new(stream, idle)) else {
-        return;
-    };
-    let (mut input, mut output) = (Counted::new(reader), Counted::new(writer));
-    let ending = serve_session(alloc, keys, rights, &mut input, &mut output, desk, shelf);
-    close_unwritten(stream, ending);
-}
-
 /// How a session serves connections.
 #[derive(Clone, Copy)]
 pub(crate) struct Serving<'a> {
@@ -76,8 +50,9 @@ pub(crate) struct Serving<'a> {
     pub(crate) end: &'a ServiceEnd,
 }
 
-/// Serves a connection that came; where the end of the service is asked for it is closed at once.
-fn serve_arrival<R: Wait + Clock, C: Calls, S: Shelf>(
+/// Serves a connection to its end, whose client may take nothing of a reply for half a minute at most. Where
+/// there is no memory for its buffers it is closed at once.
+fn serve_connection<R: Clock, C: Calls, S: Shelf>(
     rt: &R,
     alloc: Global,
     stream: &TcpStream,
@@ -89,14 +64,36 @@ fn serve_arrival<R: Wait + Clock, C: Calls, S: Shelf>(
 {
     let Serving {
         keys,
-        session,
         rights,
         idle,
-        end,
         ..
     } = serving;
+    let _ = stream.set_nodelay(true);
+    let Ok(reader) = BufReader::new(alloc, PatientReader::new(rt, stream, idle)) else {
+        return;
+    };
+    let Ok(writer) = BufWriter::new(alloc, PatientWriter::new(stream, idle)) else {
+        return;
+    };
+    let (mut input, mut output) = (Counted::new(reader), Counted::new(writer));
+    let ending = serve_session(alloc, keys, rights, &mut input, &mut output, desk, shelf);
+    close_unwritten(stream, ending);
+}
+
+/// Serves a connection that came; where the end of the service is asked for it is closed at once.
+fn serve_arrival<R: Wait + Clock, C: Calls, S: Shelf>(
+    rt: &R,
+    alloc: Global,
+    stream: &TcpStream,
+    serving: Serving<'_>,
+    desk: &mut C,
+    shelf: &mut S,
+)
+    ensures { ServesConnection serving.entry.rights C.relations S.relations desk.old shelf.old desk.new shelf.new }
+{
+    let Serving { session, end, .. } = serving;
     if end.enter(rt, session, stream) {
-        serve_connection(rt, alloc, keys, stream, idle, rights, desk, shelf);
+        serve_connection(rt, alloc, stream, serving, desk, shelf);
         end.leave(rt, session);
     }
 }

@@ -15,7 +15,7 @@ use crate::service_end::ServiceEnd;
 use std::alloc::Global;
 use std::fs::Permissions;
 use std::io::{ErrorKind, Read, Write};
-use std::net::{Net, SocketAddr, TcpStream};
+use std::net::Net;
 use std::os::unix::fs::PermissionsExt;
 use std::os::unix::net::{UnixListener, UnixStream};
 use std::rt::Files;
@@ -40,9 +40,6 @@ const PATIENCE: u64 = 1_000;
 
 /// How long the control connection is not looked at while somebody there has said nothing yet, in milliseconds.
 const LOOK: u64 = 20;
-
-/// How long waking the thread that receives clients may take, in milliseconds.
-const WAKING: u64 = 200;
 
 /// The control connection of a service.
 #[derive(Drop)]
@@ -127,25 +124,8 @@ impl Control {
         })
     }
 
-    /// Waits until somebody says `STOP`, or the service ends, and then until the replies that were under
-    /// way are out, or a moment is over. The connection that said so stays open until the service is over.
-    pub(crate) fn hear<R: Wait + Clock + Net>(
-        &self,
-        rt: &R,
-        address: SocketAddr,
-        end: &ServiceEnd,
-    ) -> Option<UnixStream> {
-        let stream = self.asked_by(rt, end)?;
-        end.ask(rt);
-        let _ = TcpStream::connect_timeout(rt, &address, Duration::from_millis(WAKING));
-        finish(rt, end);
-        let _ = stream.set_nonblocking(false);
-        tell(&stream, b"OK\n");
-        Some(stream)
-    }
-
     /// Waits until somebody says `STOP`, or the service ends. Who says nothing keeps nobody waiting.
-    fn asked_by<R: Wait + Clock>(&self, rt: &R, end: &ServiceEnd) -> Option<UnixStream> {
+    pub(crate) fn asked_by<R: Wait + Clock>(&self, rt: &R, end: &ServiceEnd) -> Option<UnixStream> {
         let mut silent = Lobby::new(self.alloc);
         for _ in rt.forever() {
             let_operator_in(rt, &self.listener, &mut silent);
@@ -166,14 +146,13 @@ impl Control {
     }
 }
 
-/// Waits at the control connection, if there is one.
-pub(crate) fn hear<R: Wait + Clock + Net>(
-    rt: &R,
-    control: Option<&Control>,
-    address: SocketAddr,
-    end: &ServiceEnd,
-) -> Option<UnixStream> {
-    control?.hear(rt, address, end)
+/// Answers who said `STOP`, once the replies that were under way are out, or a moment is over. The connection
+/// stays open until the service is over.
+pub(crate) fn answer<R: Wait + Clock>(rt: &R, stream: UnixStream, end: &ServiceEnd) {
+    finish(rt, end);
+    let _ = stream.set_nonblocking(false);
+    tell(&stream, b"OK\n");
+    end.keep_open(rt, stream);
 }
 
 /// Ends the service of a folder, and waits until it is over: whether there was one that took it.

@@ -14,7 +14,7 @@ ghost use Rattle.journal.specs.JournalFiles.{IsKeptAs};
 ghost use Rattle.desk_service.specs.SessionEnds.{IsMadeUp, news_of, queue_behind};
 
 use deck_listing::SharedText;
-use journal::{Batch, Draft, JournalFile, KeptBatch, Queue, RecordsFile};
+use journal::{Draft, JournalFile, KeptBatch, Queue, RecordsFile};
 use std::alloc::{AllocError, Global};
 use std::marker::Model;
 use std::sync::{Condvar, Mutex, MutexGuard, Wait};
@@ -148,11 +148,6 @@ impl<F: RecordsFile + Drop> Journal<F> {
         })
     }
 
-    /// Appends what may go out: what is kept then, or nothing where it is not.
-    fn append<R: Wait>(&self, rt: &R, batch: Batch) -> Option<KeptBatch<F>> {
-        self.file.lock(rt).append(batch)
-    }
-
     /// Writes what may go out of the queue, wakes those who wait, and then what is news of the journal: nobody
     /// waits for standard error but this one.
     fn write<'a, R: Wait + Eprint>(
@@ -164,7 +159,7 @@ impl<F: RecordsFile + Drop> Journal<F> {
         let batch = shared.queue.batch(self.alloc);
         drop(shared);
         let kept = match batch {
-            Ok(batch) => self.append(rt, batch),
+            Ok(batch) => self.file.lock(rt).append(batch),
             Err(_) => None,
         };
         let mut shared = self.shared.lock(rt);

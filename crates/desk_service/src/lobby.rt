@@ -11,7 +11,7 @@ const MOST_GUESTS: usize = 64;
 #[derive(Drop)]
 pub(crate) struct Guest<S> {
     pub(crate) stream: S,
-    since: Option<Instant>,
+    pub(crate) since: Option<Instant>,
 }
 
 impl<S> Guest<S> {
@@ -31,25 +31,6 @@ impl<S> Guest<S> {
         match since.elapsed(rt) {
             Ok(waited) => waited >= most,
             Err(_) => true,
-        }
-    }
-
-    /// The connection, and since when it waits.
-    pub(crate) fn into_parts(self) -> (S, Since) {
-        (self.stream, Since(self.since))
-    }
-}
-
-/// Since when a connection waits.
-#[derive(Clone, Copy)]
-pub(crate) struct Since(Option<Instant>);
-
-impl Since {
-    /// A connection that waits since then.
-    pub(crate) fn with_stream<S>(self, stream: S) -> Guest<S> {
-        Guest {
-            stream,
-            since: self.0,
         }
     }
 }

@@ -216,7 +216,7 @@ fn begin_anew<R: Files<File = File> + Clock>(
 where
     R::File: AsFd,
 {
-    let text = compacted_text(alloc, &Moment::now(rt), begun, desk)?;
+    let text = compacted_text(alloc, &Moment::now(rt), begun, desk.decks())?;
     write_anew(rt, alloc, path, text.as_slice(), lock)?;
     let Records { desk, length, .. } = read_records(rt, alloc, keys, path)?;
     Ok(Found {
@@ -365,22 +365,6 @@ where
     })
 }
 
-/// The desk of a service that keeps no journal.
-fn desk_without<R: Files>(
-    rt: &R,
-    alloc: Global,
-    keys: RandomState,
-    settings: &Settings<'_>,
-    seen: &Seen,
-) -> Result<Desk, ServeFault>
-where
-    R::File: AsFd,
-{
-    let desk = Desk::behind(alloc, keys, seen.begun(false, 0));
-    seen.take(rt, alloc, settings, desk.version(), None)?;
-    Ok(desk)
-}
-
 /// What a service of these settings begins with in a folder that has seen this, where so many threads change
 /// decks: the folder has kept the versions that it may give out, and the journal, if there is one, is taken and
 /// has a place for each of them.
@@ -398,10 +382,14 @@ where
     ensures places { IfOk result (λ opened. IfSome opened.journal (λ journal. journal ≡ threads)) }
 {
     match journal_path(alloc, settings)? {
-        None => Ok(Opened {
-            desk: desk_without(rt, alloc, keys, settings, seen)?,
-            journal: None,
-        }),
+        None => {
+            let begun = seen.begun(false, 0);
+            seen.take(rt, alloc, settings, begun, None)?;
+            Ok(Opened {
+                desk: Desk::behind(alloc, keys, begun),
+                journal: None,
+            })
+        }
         Some(path) => open_at(
             rt,
             alloc,

@@ -19,14 +19,9 @@ const FILES_EACH: usize = 3;
 /// How many more it has to be able to open.
 const FILES_MORE: usize = 16;
 
-/// The path of a folder; no text is the one that the process runs in.
-fn folder_path(folder: &str) -> &str {
-    if folder.is_empty() { "." } else { folder }
-}
-
-/// The path of a file of a folder.
+/// The path of a file of a folder; no text is the one that the process runs in.
 pub(crate) fn path_in(alloc: Global, folder: &str, file: &str) -> Result<String, AllocError> {
-    let folder = folder_path(folder);
+    let folder = if folder.is_empty() { "." } else { folder };
     format!(in alloc; "{folder}/{file}")
 }
 
@@ -157,18 +152,12 @@ pub(crate) fn take_journal<R: Files<File = File>>(
     Ok(lock)
 }
 
-/// How many files have to be opened to serve so many connections at once.
-fn files_for(connections: usize) -> usize {
-    connections
-        .saturating_mul(FILES_EACH)
-        .saturating_add(FILES_MORE)
-}
-
 /// Whether the process can open as many files as it takes to serve so many connections at once: this one is
 /// opened as often, and closed again. `FewFiles` where it can't.
 pub(crate) fn try_files(alloc: Global, file: &File, connections: usize) -> Result<(), ServeFault> {
     let mut opened = Vec::new(alloc);
-    for _ in 0..files_for(connections) {
+    let wanted = connections.saturating_mul(FILES_EACH);
+    for _ in 0..wanted.saturating_add(FILES_MORE) {
         match file.try_clone() {
             Ok(same) => opened.push(same)?,
             Err(_) => return Err(ServeFault::FewFiles),

@@ -1,10 +1,10 @@
 //! The service: its threads start, and end.
-ghost use Rattle.std.specs.Prelude.{◌≡◌, ◌+◌, ◌≤◌, IfOk, IfSome};
+ghost use Rattle.std.specs.Prelude.{◌≡◌, ◌+◌, ◌≤◌, IfSome};
 ghost use Rattle.desk_service.specs.Seating.{page_threads};
 ghost use Rattle.desk_service.specs.Services.{AreInRange, IsLocal};
 
 use crate::arrivals::{Arrivals, receive_clients};
-use crate::control::{Control, hear, try_path};
+use crate::control::{Control, answer, try_path};
 use crate::faults::ServeFault;
 use crate::lobby::Lobby;
 use crate::opening::{Opened, open};
@@ -23,8 +23,6 @@ use std::fs::File;
 use std::hash::RandomState;
 use std::io::ErrorKind;
 use std::net::{IpAddr, Ipv4Addr, Net, SocketAddr, TcpListener, TcpStream};
-use std::os::fd::AsFd;
-use std::os::unix::net::UnixStream;
 use std::random::RandomSource;
 use std::rt::Files;
 use std::sync::{Mutex, Wait};
@@ -33,7 +31,7 @@ use std::thread::{JoinHandle, Scope, Threads};
 use std::time::{Clock, Duration};
 use turn_office::Office;
 
-/// How long waking a thread of the page may take, in milliseconds.
+/// How long waking a thread that waits at a port may take, in milliseconds.
 const WAKING: u64 = 200;
 
 /// The address of a port on this machine, which no other reaches.
@@ -51,29 +49,23 @@ fn port_of(listener: &TcpListener, port: u16) -> u16 {
     }
 }
 
-/// Reports on standard error that the service listens: where, for which folder, and with how many
-/// workers and sessions.
-fn announce<R: Eprint>(rt: &R, address: SocketAddr, settings: &Settings<'_>) {
+/// Reports on standard error that the service listens: where, for which folder, with how many workers and
+/// sessions; how many further connections may ask, and where the page is, if there is one.
+fn announce<R: Eprint>(rt: &R, port: u16, settings: &Settings<'_>, page: Option<u16>) {
+    let address = local_address(port);
     let Settings {
         root,
         workers,
         sessions,
+        readers,
         ..
     } = *settings;
     let _ = eprintln!(rt;
         "compass: listening on {address}, folder {root}, workers {workers}, sessions {sessions}"
     );
-}
-
-/// Reports on standard error how many further connections may ask, if any may.
-fn announce_readers<R: Eprint>(rt: &R, readers: usize) {
     if readers > 0 {
         let _ = eprintln!(rt; "compass: up to {readers} connections more may read");
     }
-}
-
-/// Reports on standard error where the page is, if there is one.
-fn announce_page<R: Eprint>(rt: &R, page: Option<u16>) {
     if let Some(port) = page {
         let _ = eprintln!(rt; "compass: the page is at http://127.0.0.1:{port}/");
     }
@@ -104,9 +96,7 @@ struct Receiving<'a, R> {
 /// It reports that the service listens, and receives clients to the end of the service.
 impl<R: Wait + Clock + Eprint + Sync> Serve for Receiving<'_, R> {
     fn serve(self) {
-        announce(self.rt, local_address(self.port), self.settings);
-        announce_readers(self.rt, self.settings.readers);
-        announce_page(self.rt, self.page);
+        announce(self.rt, self.port, self.settings, self.page);
         let most = most_clients(self.settings);
         receive_clients(
             self.rt,
@@ -119,12 +109,8 @@ impl<R: Wait + Clock + Eprint + Sync> Serve for Receiving<'_, R> {
     }
 }
 
-/// What hears of the end of a service, in a thread of its own.
-trait Hear: Send + Copy {
-    /// Waits until somebody asks for the end, or the service ends by itself. What it gives stays open until
-    /// the service is over.
-    fn hear(self) -> Option<UnixStream>;
-
+/// What hears of the end of a service.
+trait Hear: Serve + Copy {
     /// The service ends by itself: nobody waits any more.
     fn close(self);
 }
@@ -154,10 +140,31 @@ fn wake<R: Net>(rt: &R, port: u16, threads: usize) {
     }
 }
 
-/// Wakes the threads of the page, if there is one.
-fn wake_pages<R: Net>(rt: &R, page: Option<u16>) {
-    if let Some(port) = page {
-        wake(rt, port, PAGE_THREADS);
+impl<R: Wait + Net> Hearing<'_, R> {
+    /// Asks for the end, and wakes who waits at the ports of the service.
+    fn ask(self) {
+        self.end.ask(self.rt);
+        wake(self.rt, self.port, 1);
+        if let Some(port) = self.page {
+            wake(self.rt, port, PAGE_THREADS);
+        }
+    }
+}
+
+/// It waits until somebody says `STOP`, or the service ends by itself.
+impl<R: Wait + Clock + Files + Net + Sync> Serve for Hearing<'_, R>
+where
+    R::Listener: Send,
+    R::Stream: Send,
+{
+    fn serve(self) {
+        let Some(control) = self.control else {
+            return;
+        };
+        if let Some(stream) = control.asked_by(self.rt, self.end) {
+            self.ask();
+            answer(self.rt, stream, self.end);
+        }
     }
 }
 
@@ -166,16 +173,8 @@ where
     R::Listener: Send,
     R::Stream: Send,
 {
-    fn hear(self) -> Option<UnixStream> {
-        let asked = hear(self.rt, self.control, local_address(self.port), self.end);
-        wake_pages(self.rt, self.page);
-        asked
-    }
-
     fn close(self) {
-        self.end.ask(self.rt);
-        wake(self.rt, self.port, 1);
-        wake_pages(self.rt, self.page);
+        self.ask();
         if let Some(control) = self.control {
             control.close(self.rt);
         }
@@ -202,14 +201,6 @@ fn start_all<'s, E, P: Serve + 's>(
     Ok(())
 }
 
-/// Hears of the end in a thread of its own; want of memory where none can be made.
-fn start_hearing<'s, E, H: Hear + 's>(
-    scope: &Scope<'s, E>,
-    hearing: H,
-) -> Result<JoinHandle<Option<UnixStream>>, AllocError> {
-    Ok(scope.spawn(move || hearing.hear())?)
-}
-
 /// Starts the threads of a service: one for each place, and one that hears of the end.
 fn start_threads<'s, E, W, S, P, C, H>(
     scope: &Scope<'s, E>,
@@ -219,7 +210,7 @@ fn start_threads<'s, E, W, S, P, C, H>(
     pages: Vec<P>,
     receiving: C,
     hearing: H,
-) -> Result<(Vec<JoinHandle<()>>, JoinHandle<Option<UnixStream>>), AllocError>
+) -> Result<(Vec<JoinHandle<()>>, JoinHandle<()>), AllocError>
 where
     W: Serve + 's,
     S: Serve + 's,
@@ -232,7 +223,7 @@ where
     start_all(scope, sessions, &mut threads)?;
     start_all(scope, pages, &mut threads)?;
     threads.push(start(scope, receiving)?)?;
-    Ok((threads, start_hearing(scope, hearing)?))
+    Ok((threads, start(scope, hearing)?))
 }
 
 /// Runs each place in a thread of its own, and returns when all have ended. Where a thread can't be made,
@@ -258,7 +249,7 @@ where
         thread::scope_env(),
         rt,
         move |scope| -> Result<(), AllocError> {
-            let Ok((threads, stopped)) = start_threads(
+            let Ok((threads, heard)) = start_threads(
                 scope, alloc, workers, sessions, pages, receiving, hearing,
             ) else {
                 hearing.close();
@@ -268,18 +259,10 @@ where
                 thread.join(rt);
             }
             hearing.close();
-            drop(stopped.join(rt));
+            heard.join(rt);
             Ok(())
         },
     )
-}
-
-/// The port of a page, if there is one.
-fn page_port(door: Option<Entrance<'_>>) -> Option<u16> {
-    match door {
-        Some(door) => Some(door.port),
-        None => None,
-    }
 }
 
 /// How many threads of a service change decks: those of its sessions and readers, and of the page, if there is a
@@ -338,7 +321,11 @@ where
         rt, alloc, keys, &office, seats, settings, door, &channels, &known, end, journal,
     )?;
     let arrivals = channels.into_arrivals();
-    let (port, page) = (port_of(listener, settings.port), page_port(door));
+    let port = port_of(listener, settings.port);
+    let page = match door {
+        Some(door) => Some(door.port),
+        None => None,
+    };
     let hearing = Hearing {
         rt,
         control,
@@ -401,24 +388,6 @@ where
     )
 }
 
-/// What a service begins with in its folder, which has kept the versions that it may give out, where so many
-/// threads change decks.
-fn open_in_folder<R: Files<File = File> + Eprint + Clock>(
-    rt: &R,
-    alloc: Global,
-    keys: RandomState,
-    settings: &Settings<'_>,
-    threads: usize,
-    lock: &mut JournalLock,
-) -> Result<Opened<SystemFile<R::File>>, ServeFault>
-where
-    R::File: AsFd,
-    ensures places { IfOk result (λ opened. IfSome opened.journal (λ journal. journal ≡ threads)) }
-{
-    let seen = Seen::read(rt, alloc, settings.root)?;
-    open(rt, alloc, keys, settings, threads, &seen, lock)
-}
-
 /// The files that are known in a folder, for a desk that goes on behind a version.
 fn known_in<R>(
     rt: &R,
@@ -465,7 +434,8 @@ where
     requires { AreInRange settings.now }
 {
     let threads = changing_threads(settings, door);
-    let opened = open_in_folder(rt, alloc, keys, settings, threads, lock)?;
+    let seen = Seen::read(rt, alloc, settings.root)?;
+    let opened = open(rt, alloc, keys, settings, threads, &seen, lock)?;
     let control = Control::open(rt, alloc, settings.root);
     let known = known_in(rt, alloc, keys, settings.root, opened.desk.version())?;
     serve_opened(

@@ -7,15 +7,19 @@ ghost use Rattle.desk_service.specs.Company.{AreListed};
 use crate::company::Company;
 use crate::publications::Publications;
 use cards::DeckName;
+use journal::session_name;
 use session_line::Connected;
 use std::alloc::{AllocError, Global};
 use std::net::{Shutdown, TcpStream};
+use std::os::unix::net::UnixStream;
 use std::sync::{Mutex, Wait};
 
 /// What the threads of a service know of its end.
 #[derive(Drop)]
 struct Known {
     is_asked: bool,
+    /// The connection of who asked for it, which stays open until the service is over.
+    asked_by: Option<UnixStream>,
     /// The connection of each session, where it serves one.
     open: Vec<Option<TcpStream>>,
     /// The names of those that are connected; the page's threads are none.
@@ -53,6 +57,7 @@ impl ServiceEnd {
         Ok(ServiceEnd {
             known: Mutex::new(Known {
                 is_asked: false,
+                asked_by: None,
                 open,
                 company: Company::new(alloc, sessions, editors)?,
             }),
@@ -80,7 +85,7 @@ impl ServiceEnd {
         match (stream.try_clone(), known.open.get_mut(session)) {
             (Ok(same), Some(place)) => {
                 *place = Some(same);
-                known.company.enter(session);
+                known.company.note(session, session_name(session as u64));
                 true
             }
             _ => false,
@@ -122,6 +127,11 @@ impl ServiceEnd {
         shut(known.open.as_slice(), Shutdown::Read);
         drop(known);
         self.publications.end(rt);
+    }
+
+    /// Keeps the connection of who asked for it open until the service is over.
+    pub(crate) fn keep_open<R: Wait>(&self, rt: &R, stream: UnixStream) {
+        self.known.lock(rt).asked_by = Some(stream);
     }
 
     /// Whether no connection is open any more.

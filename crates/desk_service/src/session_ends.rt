@@ -4,6 +4,7 @@ ghost use Rattle.std.specs.Prelude.{◌≡◌, ◌<◌, is_some, IfOk, IfSome, N
 ghost use Rattle.journal.specs.Names.{session_name};
 ghost use Rattle.desk_service.specs.Company.{AreListed};
 
+use crate::journals::Journal;
 use crate::service_end::ServiceEnd;
 use cards::DeckName;
 use crossbeam_channel::Sender;
@@ -11,13 +12,12 @@ use deck_workers::Bell;
 use desk_core::{Change, Refusal};
 use journal::{Draft, Drafted, RecordsFile, Stamp, draft_change, draft_nothing, session_name};
 use kept_desk::{Ends, Woken};
+use moments::Moment;
 use session_line::Connected;
 use std::alloc::{AllocError, Global};
 use std::marker::Model;
 use std::sync::Wait;
 use std::time::Clock;
-use crate::journals::Journal;
-use moments::Moment;
 
 /// What a session has of its service beside the journal.
 #[derive(Drop)]
@@ -85,24 +85,9 @@ impl<'a, R, F: RecordsFile> SessionEnds<'a, R, F> {
     pub(crate) fn among(self, others: Others<'a>) -> SessionEnds<'a, R, F>
         ensures { result ≡ self.entry }
     {
-        let SessionEnds {
-            rt,
-            alloc,
-            journal,
-            session,
-            missed,
-            name,
-            ..
-        } = self;
-        SessionEnds {
-            rt,
-            alloc,
-            journal,
-            others: Some(others),
-            session,
-            missed,
-            name,
-        }
+        let mut ends = self;
+        ends.others = Some(others);
+        ends
     }
 }
 

@@ -46,11 +46,9 @@ impl<F: OpenFile> SystemFile<F> {
 impl<F: Drop> SystemFile<F> {
     /// The file, whose notes go there from now on.
     pub(crate) fn noting(self, notes: Option<Notes<F>>) -> SystemFile<F> {
-        SystemFile {
-            file: self.file,
-            most: self.most,
-            notes,
-        }
+        let mut file = self;
+        file.notes = notes;
+        file
     }
 }
 

@@ -57,22 +57,6 @@ fn holds_noted(noted: Option<Mark>, front: &Mark) -> bool
     }
 }
 
-/// Whether a journal is the latest of its folder, by whether its name is noted there, and by the mark of its
-/// first bytes.
-fn is_latest(is_named: bool, noted: Option<Mark>, front: &Mark) -> bool
-    ensures { result ≡ is_latest is_named noted front.now }
-{
-    is_named && holds_noted(noted, front)
-}
-
-/// Behind which version a service goes on whose journal ends with this one, where all that were given out
-/// are below a bound, and whether its journal is the latest of the folder.
-fn begun_behind(last: u64, bound: u64, is_latest: bool) -> u64
-    ensures { result ≡ begun_behind last bound is_latest }
-{
-    if is_latest { last } else { last.max(bound) }
-}
-
 /// Below which version all of those are that a service gives out which goes on behind one.
 fn next_bound(begun: u64) -> u64
     ensures { result ≡ next_bound begun }
@@ -86,20 +70,6 @@ fn is_far(bound: u64, begun: u64) -> bool
     ensures { result ≡ is_far bound begun }
 {
     bound >= begun.saturating_add(BLOCK / 2)
-}
-
-/// The line of a service that goes on behind a version, with a journal of this name, where all versions that
-/// were given out are below a bound.
-fn versions_line(alloc: Global, bound: u64, name: &str, begun: u64) -> Result<String, AllocError>
-    ensures { IfOk result (λ line. string_bytes line ≡ versions_line bound name.now begun) }
-{
-    let bound = bound.max(next_bound(begun));
-    format!(in alloc; "{bound} {name}\n")
-}
-
-/// The path of the file of a folder's versions.
-fn versions_path(alloc: Global, folder: &str) -> Result<String, AllocError> {
-    path_in(alloc, folder, VERSIONS)
 }
 
 /// A text of the system, in memory.
@@ -225,7 +195,7 @@ impl Seen {
 
     /// What a folder has seen: nothing where it says nothing yet.
     pub(crate) fn read<R: Files>(rt: &R, alloc: Global, folder: &str) -> Result<Seen, ServeFault> {
-        let path = versions_path(alloc, folder)?;
+        let path = path_in(alloc, folder, VERSIONS)?;
         seen_by(alloc, text_at(rt, alloc, path.as_str()))
     }
 
@@ -251,7 +221,7 @@ impl Seen {
     pub(crate) fn is_latest(&self, journal: Journaling<'_>, front: &Mark) -> bool
         ensures { result ≡ is_latest (is_of self.now journal.entry) self.now.noted front.now }
     {
-        is_latest(self.is_of(journal), self.noted, front)
+        self.is_of(journal) && holds_noted(self.noted, front)
     }
 
     /// Behind which version a service goes on whose journal ends with this version, and is the latest of the
@@ -259,14 +229,20 @@ impl Seen {
     pub(crate) fn begun(&self, is_latest: bool, last: u64) -> u64
         ensures { result ≡ begun_behind last self.now.bound is_latest }
     {
-        begun_behind(last, self.bound, is_latest)
+        if is_latest {
+            last
+        } else {
+            last.max(self.bound)
+        }
     }
 
     /// The line of a service that goes on behind a version.
     fn line(&self, alloc: Global, journal: Journaling<'_>, begun: u64) -> Result<String, AllocError>
         ensures { IfOk result (λ line. string_bytes line ≡ versions_line self.now.bound (journal_name journal.entry) begun) }
     {
-        versions_line(alloc, self.bound, journal.name(), begun)
+        let bound = self.bound.max(next_bound(begun));
+        let name = journal.name();
+        format!(in alloc; "{bound} {name}\n")
     }
 
     /// Whether what the folder says will do for a service of this journal that goes on behind a version.
@@ -293,7 +269,7 @@ impl Seen {
         if !self.is_kept {
             return Ok(None);
         }
-        let path = versions_path(alloc, settings.root)?;
+        let path = path_in(alloc, settings.root, VERSIONS)?;
         let line = self.line(alloc, settings.journal, begun)?;
         let Some(mark) = mark else {
             write_versions(rt, alloc, path.as_str(), line.as_bytes())?;

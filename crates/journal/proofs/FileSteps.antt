@@ -1,6 +1,6 @@
 -- Steps of the file of a journal: what it has kept goes on.
-use Rattle.std.proofs.Common.{ℕ, ◌≡◌, ◌+◌, ◌≤◌, ◌<◌, List, [], ◌∷◌, ◌++◌, length, Bool, true, false, refl, sym, ap, subst, ◌∙◌, arith, append_assoc, append-nil, length-append}
-use Rattle.journal.{specs.Queues.{InOrder, texts_from}, specs.Records.text_with_version, specs.declared.marks.Mark.Mark, specs.Marks.mark_behind, proofs.MarkSteps.{mark-none, mark-more}, specs.JournalFiles.{Append, Sync, CutTo, Step, Note, HasKept, at_opening, cut_back, noted, not_noted, not_synced, not_written, IsRun, JournalFile, TakesStep, TakesSome, CutsLast, IsCutBack, WritesAndNotes, told_to_note, sync_failed, append_failed, HasRecords, AreKept, AreKeptAs, IsKept, IsKeptAs}}
+use Rattle.std.proofs.Common.{ℕ, ◌≡◌, ◌+◌, List, [], ◌∷◌, ◌++◌, length, Bool, true, false, refl, sym, ap, subst, ◌∙◌, arith, append_assoc, append-nil, length-append}
+use Rattle.journal.{specs.Queues.{InOrder, texts_from}, specs.Records.text_with_version, specs.declared.marks.Mark.Mark, specs.Marks.mark_behind, proofs.MarkSteps.{mark-none, mark-more}, specs.JournalFiles.{Append, Sync, CutTo, Step, Note, HasKept, at_opening, cut_back, noted, not_noted, not_synced, not_written, IsRun, JournalFile, TakesStep, TakesSome, CutsLast, IsCutBack, WritesAndNotes, told_to_note, sync_failed, append_failed, HasRecords, AreKeptAs, IsKeptAs}}
 
 -- ---- runs of records
 
@@ -109,17 +109,6 @@ module _ {F : Type 0} (has_done : F → List Step → Type 0) where
   none-kept-as journal has =
       record { journal = journal; records = has; before = has.drafts; drafts_are = sym (append-nil has.drafts); first_is = refl; next_is = refl; from_is = has.run.next_is }
 
-  -- they end with the last of all
-  pub kept-to : (first next from : ℕ) (drafts : List (List ℕ)) → AreKeptAs has_done first next from drafts → next ≡ from + length drafts
-  kept-to first next from drafts are =
-      let both : length (are.before ++ drafts) ≡ length are.before + length drafts = length-append are.before drafts in
-      let all : length are.records.drafts ≡ length are.before + length drafts = ap length are.drafts_are ∙ both in
-      let a : from ≡ first + length are.before = are.from_is in
-      let b : are.journal.first ≡ first = are.first_is in
-      let c : are.journal.next ≡ next = are.next_is in
-      let d : are.journal.next ≡ are.journal.first + length are.records.drafts = are.records.run.next_is in
-      omega (arith, a, b, c, d, all)
-
   -- one of those that are kept
   pub is-kept-as : (first next from : ℕ) (drafts fewer behind : List (List ℕ)) (draft : List ℕ) → AreKeptAs has_done first next from drafts → drafts ≡ fewer ++ draft ∷ behind → IsKeptAs has_done (from + length fewer) draft
   is-kept-as first next from drafts fewer behind draft are is =
@@ -175,13 +164,6 @@ module _ {F : Type 0} (has_done : F → List Step → Type 0) where
         has_is = has.has_is;
       }
 
-  -- what it has kept
-  pub are-kept : (journal : JournalFile F) → HasRecords has_done journal → AreKept has_done journal.first journal.next
-  are-kept journal has = record { journal = journal; records = has; first_is = refl; next_is = refl }
-
-  pub is-kept : (first next version : ℕ) → AreKept has_done first next → first ≤ version → version < next → IsKept has_done version
-  is-kept first next version are from below = record { first = first; next = next; records = are; from = from; below = below }
-
   -- the last of those that are left, where some of the last have gone
   pub kept-last : (first next from version : ℕ) (drafts left fewer gone : List (List ℕ)) (draft : List ℕ) → AreKeptAs has_done first next from drafts → drafts ≡ left ++ gone → left ≡ fewer ++ draft ∷ [] →
       version ≡ from + length fewer → IsKeptAs has_done version draft
@@ -190,12 +172,6 @@ module _ {F : Type 0} (has_done : F → List Step → Type 0) where
       (is-kept-as first next from drafts fewer gone draft are (one-gone drafts left fewer gone draft is last))
 
   -- ---- what a text leaves that is not kept
-
-  pub takes-none : (file : F) → TakesSome has_done file file
-  takes-none file = record { steps = []; taken = λ before had. had }
-
-  pub takes-step : (old new : F) (step : Step) → TakesStep has_done old step new → TakesSome has_done old new
-  takes-step old new step one = record { steps = step ∷ []; taken = one }
 
   pub takes-writing : (bytes : List ℕ) (mark : Mark) (done : Bool) (old new : F) → WritesAndNotes has_done bytes mark done old new → TakesSome has_done old new
   takes-writing bytes mark done old new (told_to_note steps) = record { steps = (Note mark, done) ∷ (Sync, true) ∷ (Append bytes, true) ∷ []; taken = steps }
@@ -211,9 +187,6 @@ module _ {F : Type 0} (has_done : F → List Step → Type 0) where
   -- a cut is the last step
   pub cuts-behind : (old middle new : F) (kept : ℕ) (done : Bool) → TakesSome has_done old middle → TakesStep has_done middle (CutTo kept, done) new → CutsLast has_done kept done old new
   cuts-behind old middle new kept done some cut = record { steps = some.steps; taken = λ before had. cut (some.steps ++ before) (some.taken before had) }
-
-  pub cuts-first : (old new : F) (kept : ℕ) (done : Bool) → TakesStep has_done old (CutTo kept, done) new → CutsLast has_done kept done old new
-  cuts-first old new kept done cut = cuts-behind old old new kept done (takes-none old) cut
 
   -- nothing but a cut
   pub cut-back-first : (old new : JournalFile F) (done : Bool) → new ≡ record old { file = new.file; clean = done } → CutsLast has_done old.has.length done old.file new.file → IsCutBack has_done old new

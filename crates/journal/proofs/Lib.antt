@@ -1,6 +1,5 @@
 pub mod JournalSteps
 pub mod ReadingSteps
-pub mod WritingSteps
 pub mod LineChains
 pub mod PlainTexts
 pub mod LineSizes

@@ -1,6 +1,6 @@
 -- Steps of reading the first bytes of a journal: their mark goes on.
-use Rattle.std.{proofs.Common.{ℕ, ◌≡◌, ◌+◌, ◌-◌, ◌≤◌, List, [], ◌++◌, length, Option, refl, sym, ap, ◌∙◌, arith, length-append}, proofs.lemmas.Grind.fold-append, proofs.KnownBytes.{Consumes-nil, Consumes-trans}, specs.Io.KnownBytes.Consumes}
-use Rattle.journal.specs.{declared.marks.Mark.Mark, Marks.{first_mark, mark_behind, mark_of, IsRead}, CheckSums.{sum_over, sum_after}}
+use Rattle.std.{proofs.Common.{ℕ, ◌≡◌, ◌+◌, ◌-◌, ◌≤◌, List, [], ◌++◌, length, Option, sym, ap, ◌∙◌, arith, length-append}, proofs.lemmas.Grind.fold-append, proofs.KnownBytes.Consumes-trans, specs.Io.KnownBytes.Consumes}
+use Rattle.journal.specs.{declared.marks.Mark.Mark, Marks.{first_mark, mark_behind, IsRead}, CheckSums.{sum_over, sum_after}}
 
 pub mark-none : (mark : Mark) → mark ≡ mark_behind mark []
 mark-none mark = let same : mark.length ≡ mark.length + 0 = omega arith in ap (λ (n : ℕ). record mark { length = n }) same
@@ -12,9 +12,6 @@ mark-more mark text more =
     let sums : sum_over (sum_over mark.sum text) more ≡ sum_over mark.sum (text ++ more) = sym (fold-append sum_after mark.sum text more) in
     ap (λ (n : ℕ). record mark { length = n; sum = sum_over (sum_over mark.sum text) more }) size
     ∙ ap (λ (n : ℕ). record mark { length = mark.length + length (text ++ more); sum = n }) sums
-
-pub read-none : (old : Option (List ℕ)) (most : ℕ) → IsRead old old most first_mark
-read-none old most = record { taken = []; consumed = Consumes-nil old; mark_is = refl; most_is = omega arith }
 
 pub read-more : (old middle new : Option (List ℕ)) (most : ℕ) (mark next : Mark) (bytes : List ℕ) → IsRead old middle most mark → Consumes middle new bytes → length bytes ≤ most - mark.length → next ≡ mark_behind mark bytes → IsRead old new most next
 read-more old middle new most mark next bytes read consumed room is =

@@ -1,23 +1,11 @@
 -- The steps of reading a record: the lines so far leave the journal of what is left.
-use Rattle.std.{proofs.Common.{ℕ, ◌≡◌, ◌+◌, ◌-◌, ◌^◌, ◌<◌, ◌≤◌, List, [], ◌∷◌, ◌++◌, Option, None, Some, length, refl, sym, ap, subst, ◌∙◌, arith, append_assoc, length-append}, specs.Io.KnownBytes.Consumes, proofs.KnownBytes.{Consumes-nil, Consumes-trans}}
+use Rattle.std.{proofs.Common.{ℕ, ◌≡◌, ◌+◌, ◌-◌, ◌^◌, ◌<◌, ◌≤◌, List, [], ◌∷◌, ◌++◌, Option, None, Some, length, sym, ap, subst, ◌∙◌, arith, append_assoc, length-append}, specs.Io.KnownBytes.Consumes, proofs.KnownBytes.Consumes-trans}
 use Rattle.text_ports.{specs.Lines.{line_feed, ReadsWholeLine}, proofs.LineLaws.pieces_of}
 use Rattle.text_ports.specs.declared.lines.LineIs.TheVariants as is
-use Rattle.journal.{specs.declared.beginning.Open.Open, specs.declared.records.Record.Record, specs.declared.places.Place.Place, specs.declared.places.Ending.Ending, specs.declared.places.Ending.TheVariants.{Whole, Cut, Faulty}, specs.declared.reading.Next.TheVariants.{Found, Ended}, specs.declared.steps.Step.Step, specs.Places.{advanced, behind_record}, specs.Steps.line_step, specs.Journals.{ends, cut_at, faulty_at, journal_from}, specs.Reading.{ReadsNext, EndsIn, EndsWrong, GivesTooMuch, nothing, something}, proofs.JournalSteps.{stepped, journal-line, journal-nothing, journal-open, journal-cut, journal-long, wrong-something, wrong-nothing}}
+use Rattle.journal.{specs.declared.beginning.Open.Open, specs.declared.records.Record.Record, specs.declared.places.Place.Place, specs.declared.places.Ending.Ending, specs.declared.places.Ending.TheVariants.{Whole, Cut, Faulty}, specs.declared.reading.Next.TheVariants.{Found, Ended}, specs.declared.steps.Step.Step, specs.Places.{advanced, behind_record}, specs.Steps.line_step, specs.Journals.{ends, cut_at, faulty_at, journal_from}, specs.Reading.{ReadsNext, EndsIn, EndsWrong, GivesTooMuch, nothing, something}, proofs.JournalSteps.{stepped, journal-line, journal-cut, journal-long, wrong-something, wrong-nothing}}
 use Rattle.journal.specs.declared.steps.Step.TheVariants as step
 
 -- how the journal ends where no line is left, or it is too long
-pub EndsIn-whole : (old new : Option (List ℕ)) (current : Option Open) (place : Place) (line : List ℕ) → current ≡ None → ReadsWholeLine old new is.End line → EndsIn old new current place Whole
-EndsIn-whole old new current place line none read =
-    let P : Option Open → Type 0 = λ (o : Option Open). EndsIn old new o place Whole in
-    subst P (sym none) (record { taken = read.0; consumed = read.1; told = (ap (journal_from None place) read.2.0 ∙ journal-nothing place, read.3) })
-
-pub EndsIn-open : (old new : Option (List ℕ)) (current : Option Open) (place : Place) (ending : Ending) (line : List ℕ) → (current ≡ None → ⊥) → ending ≡ cut_at place → ReadsWholeLine old new is.End line →
-    EndsIn old new current place ending
-EndsIn-open old new None place ending line some e read = absurd (some refl)
-EndsIn-open old new (Some current) place ending line some e read =
-    let P : Ending → Type 0 = λ (x : Ending). EndsIn old new (Some current) place x in
-    subst P (sym e) (record { taken = read.0; consumed = read.1; told = (ap (journal_from (Some current) place) read.2.0 ∙ journal-open current place, read.3) })
-
 pub EndsIn-cut : (old new : Option (List ℕ)) (current : Option Open) (place : Place) (ending : Ending) (line : List ℕ) → ending ≡ cut_at place → ReadsWholeLine old new is.Cut line → EndsIn old new current place ending
 EndsIn-cut old new current place ending line e read =
     let P : Ending → Type 0 = λ (x : Ending). EndsIn old new current place x in
@@ -41,21 +29,12 @@ EndsWrong-cut old new place ending line e read = something read.0 read.1 read.2.
 pub EndsWrong-long : (old new : Option (List ℕ)) (place : Place) (ending : Ending) (line : List ℕ) → ending ≡ faulty_at place → ReadsWholeLine old new is.TooLong line → EndsWrong old new place ending
 EndsWrong-long old new place ending line e read = let n = read.2.0 in something read.0 read.1 (omega (arith, n)) e
 
-pub EndsWrong-end : (old new : Option (List ℕ)) (place : Place) (ending : Ending) (line : List ℕ) → ending ≡ cut_at place → ReadsWholeLine old new is.End line → EndsWrong old new place ending
-EndsWrong-end old new place ending line e read =
-    let P : List ℕ → Type 0 = λ l. Consumes old new l in
-    nothing (subst P read.2.0 read.1) read.3 e
-
 -- the lines so far, of a byte each at least, leave the journal of what is left
 pub record IsWithin (old new : Option (List ℕ)) (first : Place) (current : Option Open) (place : Place) (lines : ℕ) : Type 0 where
   pub taken : List ℕ
   pub consumed : Consumes old new taken
   pub many : lines ≤ length taken
   pub goes : (rest : List ℕ) → journal_from None first (taken ++ rest) ≡ journal_from current place rest
-
--- no line yet
-pub IsWithin-none : (old : Option (List ℕ)) (place : Place) → IsWithin old old place None place 0
-IsWithin-none old place = record { taken = []; consumed = Consumes-nil old; many = omega arith; goes = λ rest. refl }
 
 -- one line more, and the step that it makes
 pub record HasStepped (old new : Option (List ℕ)) (first place : Place) (step : Step) (count lines : ℕ) : Type 0 where

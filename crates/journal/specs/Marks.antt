@@ -1,5 +1,5 @@
 -- How far a journal is kept (ours): so many bytes, and the check sum of them.
-use Rattle.std.specs.{Prelude.{ℕ, ◌≡◌, ◌+◌, ◌==◌, ◌≤◌, ◌⊎◌, Bool, true, false, ◌&&◌, List, ◌++◌, length, Option, Some, None, nat_lt, nat_le, if◌then◌else◌}, Io.KnownBytes.{Consumes, IsAtEnd}}
+use Rattle.std.specs.{Prelude.{ℕ, ◌≡◌, ◌+◌, ◌==◌, ◌≤◌, ◌⊎◌, Bool, false, ◌&&◌, List, length, Option, Some, None, nat_lt, nat_le, if◌then◌else◌}, Io.KnownBytes.{Consumes, IsAtEnd}}
 use Rattle.journal.specs.{declared.marks.Mark.Mark, declared.places.Ending.Ending, declared.places.Ending.TheVariants.{Whole, Cut, Faulty}, CheckSums.{first_sum, sum_over}}
 
 -- the mark of no bytes

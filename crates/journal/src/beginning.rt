@@ -10,9 +10,12 @@ use crate::records::{Entry, Record};
 use cards::{DeckName, Edit};
 use definitions::is_same_text;
 use desk_core::{Change, Edits, Listed, NewDeck};
-use session_commands::{Command, Refusal, Seen, behind_blank, behind_word, first_number, first_word, from_blank, read_command, to_blank};
-use std::alloc::Global;
 use moments::Moment;
+use session_commands::{
+    Command, Refusal, Seen, behind_blank, behind_word, first_number, first_word, from_blank,
+    read_command, to_blank,
+};
+use std::alloc::Global;
 
 /// What a record shows by its first line alone, and how many lines of edits or cards it announces.
 #[derive(Drop)]
@@ -142,10 +145,7 @@ fn begun_of(alloc: Global, text: &[u8]) -> Option<Begun>
 fn moment_in(rest: &[u8]) -> Option<Moment>
     ensures { result ≡ option_and_then moment_of (first_word rest.now) }
 {
-    match first_word(rest) {
-        Some(word) => Moment::read(word),
-        None => None,
-    }
+    Moment::read(first_word(rest)?)
 }
 
 /// The name behind the blank that begins a rest.

@@ -1,16 +1,16 @@
 //! A journal that begins with the decks of a desk.
 ghost use Rattle.std.specs.Prelude.{◌≡◌, ◌++◌, IfOk, OnOk, map};
-ghost use Rattle.desk_core.specs.Desks.{deck_of, decks_of};
+ghost use Rattle.desk_core.specs.Desks.{deck_of};
 ghost use Rattle.journal.specs.Compacting.{added_record, added_records, compacted};
 ghost use Rattle.journal.specs.Records.{text_of_record, text_of_records};
 
 use crate::names::session_name;
 use crate::records::{Entry, Record};
 use crate::writing::record_text;
-use desk_core::{Change, Desk, StoredDeck};
+use desk_core::{Change, StoredDeck};
+use moments::Moment;
 use std::alloc::{AllocError, Global};
 use text_ports::Text;
-use moments::Moment;
 
 /// Appends the record of a deck.
 fn push_added(
@@ -31,9 +31,9 @@ fn push_added(
     text.append(record_text(alloc, &record)?)
 }
 
-/// The text of a journal that begins behind a version with these decks, each added by a change of its
+/// The text of a journal that begins behind a version with the decks of a desk, each added by a change of its
 /// own.
-fn text_of_decks(
+pub fn compacted_text(
     alloc: Global,
     moment: &Moment,
     begun: u64,
@@ -56,16 +56,4 @@ fn text_of_decks(
         push_added(alloc, &mut text, moment, version, deck)?;
     }
     Ok(text)
-}
-
-/// The text of a journal that begins with the decks of a desk, behind a version.
-pub fn compacted_text(
-    alloc: Global,
-    moment: &Moment,
-    begun: u64,
-    desk: &Desk,
-) -> Result<Text, AllocError>
-    ensures { IfOk result (λ text. text ≡ text_of_records (compacted moment.now begun (decks_of desk.now))) }
-{
-    text_of_decks(alloc, moment, begun, desk.decks())
 }

@@ -7,11 +7,11 @@ use crate::writing::text_behind_version;
 use cards::{DeckName, Edit};
 use deck_listing::SharedText;
 use desk_core::{Change, Edits, Listed};
+use moments::Moment;
 use session_commands::Seen;
 use std::alloc::{AllocError, Global};
 use std::marker::Model;
 use text_ports::Text;
-use moments::Moment;
 
 /// When a change is asked for, and the name of the session that asks.
 #[derive(Drop)]

@@ -40,7 +40,7 @@ impl<F: RecordsFile> KeptRecords<F> {
     }
 
     /// The same once more.
-    fn again(&self) -> KeptRecords<F>
+    pub(crate) fn again(&self) -> KeptRecords<F>
         ensures { result ≡ self.now }
     {
         KeptRecords::new(self.first, self.next)
@@ -91,13 +91,6 @@ impl<F: RecordsFile> KeptBatch<F> {
             from,
             drafts,
         }
-    }
-
-    /// All records that the file has kept.
-    pub(crate) fn records(&self) -> KeptRecords<F>
-        ensures { result ≡ record { first = self.now.first; next = self.now.next } }
-    {
-        self.records.again()
     }
 }
 

@@ -266,7 +266,7 @@ impl<F: RecordsFile> Queue<F> {
     pub fn settle(&mut self, kept: KeptBatch<F>)
         ensures { self.new ≡ record self.old { first = kept.first; next = kept.next; shown = all_shown self.old.places kept.from kept.drafts self.old.shown } }
     {
-        self.kept = kept.records();
+        self.kept = kept.records.again();
         show_all(&mut self.shown, self.places.as_slice(), kept);
     }
 

@@ -9,10 +9,10 @@ use crate::records::{Entry, Record};
 use cards::{Card, DeckName, Edit};
 use desk_core::{Change, Edits};
 use itoa::Buffer;
+use moments::Moment;
 use session_commands::Seen;
 use std::alloc::{AllocError, Global};
 use text_ports::Text;
-use moments::Moment;
 
 /// Appends a blank and a word.
 fn push_word(text: &mut Text, word: &[u8]) -> Result<(), AllocError>

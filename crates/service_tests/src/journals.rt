@@ -6,12 +6,15 @@
 
 use desk_core::{Call, Question};
 use desk_tests::push_asked;
-use journal::{Ending, JournalFault, Next, Place, Record, ReplayFault, Replayed, compacted_text, next_record, record_text, replay};
+use journal::{
+    Ending, JournalFault, Next, Place, Record, ReplayFault, Replayed, compacted_text, next_record,
+    record_text, replay,
+};
+use moments::Moment;
 use std::alloc::{AllocError, Global};
 use std::io::Read;
 use test_parts::{Answer, FaultyReader, fixed_keys, name_of, number};
 use text_ports::{Counted, Text};
-use moments::Moment;
 
 /// Makes a step of this word, if it is one of journals, and answers whether it is.
 pub fn make(file: &mut Vec<u8>, word: &str, rest: &str, answer: &mut Answer) -> bool {
@@ -109,7 +112,7 @@ fn push_replayed(answer: &mut Answer, file: &[u8], last: u64) {
 fn compacted(alloc: Global, file: &[u8]) -> Result<Text, AllocError> {
     match replayed(alloc, file, 9) {
         Ok(replayed) => {
-            let text = compacted_text(alloc, &Moment::of_seconds(0), 3, &replayed.desk);
+            let text = compacted_text(alloc, &Moment::of_seconds(0), 3, replayed.desk.decks());
             replayed.desk.free();
             text
         }

@@ -7,8 +7,11 @@
 use cards::Edit;
 use desk_core::{Change, Desk, Edits, NewDeck, Refusal, Reply};
 use desk_service::{Journal, SessionEnds, SystemFile};
-use journal::{Batch, Drafted, Ending, JournalFile, Mark, Queue, RecordsFile, Stamp, draft_change, replay};
+use journal::{
+    Batch, Drafted, Ending, JournalFile, Mark, Queue, RecordsFile, Stamp, draft_change, replay,
+};
 use kept_desk::Door;
+use moments::Moment;
 use session_commands::Seen;
 use session_line::Calls;
 use std::alloc::{AllocError, AllocGlobal, Global};
@@ -19,7 +22,6 @@ use std::sync::{Mutex, Wait};
 use std::time::Clock;
 use test_parts::{Answer, FaultyReader, card_of, fixed_keys, name_of, number};
 use text_ports::Counted;
-use moments::Moment;
 
 /// Makes a step of this word, if it is one of what is kept, and answers whether it is.
 pub fn make<R: AllocGlobal + Wait + Clock + Eprint>(

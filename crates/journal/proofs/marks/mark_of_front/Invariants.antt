@@ -1,4 +1,3 @@
-use Rattle.std.proofs.Common.{◌≡◌}
 use Rattle.journal.specs.Marks.{IsRead}
 use Rattle.journal.proofs.marks.mark_of_front.Given as goal
 

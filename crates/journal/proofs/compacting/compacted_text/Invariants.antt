@@ -1,7 +1,7 @@
 use Rattle.std.proofs.Common.{◌≡◌, ◌++◌, drop, map}
 use Rattle.desk_core.specs.Desks.{deck_of}
 use Rattle.journal.specs.{Records.text_of_records, Compacting.{added_records, compacted}}
-use Rattle.journal.proofs.compacting.text_of_decks.Given as goal
+use Rattle.journal.proofs.compacting.compacted_text.Given as goal
 
 -- the text, and the records of the decks that are left, are the whole; the version is that of the last one
 abbrev pub invariant-loop-deck : goal.invariant-loop-deck
