@@ -11,7 +11,7 @@ use crate::run_faults::{RunFault, tell_clash, tell_no_file, tell_run};
 use crate::standard_output::standard_output;
 use crate::symbols::symbol_tables;
 use crate::tab_places::FileColumns;
-use crate::words::{plain_word, valued_word};
+use crate::words::{Word, valued_word, with_words};
 use asm_main::{
     AsmFault, Built, Chained, Chosen, Filter, Remembering, Tally, asm_build, asm_build_with,
     asm_run, write_chosen,
@@ -55,6 +55,94 @@ const IMAGE: Chosen = Chosen {
 /// How listings may be laid out.
 const LAYOUTS: [&str; 2] = ["usual", "manual"];
 
+/// The words of the filter in front of files, which a journal has none of, and of a journal in place of files.
+const INPUT_WORDS: [Word; 4] = [
+    Word {
+        name: "fold-case",
+        value: None,
+        help: "Takes small letters of files as capitals",
+        without: &["journal", "version"],
+    },
+    Word {
+        name: "tabs",
+        value: None,
+        help: "Takes a tab as blanks up to column 11, 18, 30, and then the next eighth",
+        without: &["journal", "version"],
+    },
+    Word {
+        name: "last-line",
+        value: None,
+        help: "Takes a last line that no line feed ends",
+        without: &["journal", "version"],
+    },
+    Word {
+        name: "journal",
+        value: Some("FILE"),
+        help: "The journal of a service, whose decks are taken in place of files",
+        without: &["FILE"],
+    },
+];
+
+/// The words of where the listings and the link map go.
+const TEXT_WORDS: [Word; 2] = [
+    Word {
+        name: "listing",
+        value: Some("FILE"),
+        help: "Where the listings go",
+        without: &[],
+    },
+    Word {
+        name: "map",
+        value: Some("FILE"),
+        help: "Where the link map goes",
+        without: &[],
+    },
+];
+
+/// The word of where the packed image goes.
+const BINARY_WORDS: [Word; 1] = [Word {
+    name: "binary",
+    value: Some("FILE"),
+    help: "Where the words of the image go, packed; FILE.sections gets where they stand",
+    without: &[],
+}];
+
+/// The words of tables of symbols, and of what is reported of flagged statements.
+const MESSAGE_WORDS: [Word; 5] = [
+    Word {
+        name: "symbols",
+        value: None,
+        help: "Puts a table of the symbols of each deck after the listings",
+        without: &[],
+    },
+    Word {
+        name: "quiet",
+        value: None,
+        help: "Tells no flagged statements and no LINK lines of files on standard error",
+        without: &[],
+    },
+    Word {
+        name: "check",
+        value: None,
+        help: "Writes nothing; shows what is flagged, and how much in a last line",
+        without: &[
+            "quiet", "journal", "symbols", "listing", "map", "image", "binary", "layout",
+        ],
+    },
+    Word {
+        name: "explain",
+        value: None,
+        help: "Shows the card below each message, and where on it the fault is",
+        without: &[],
+    },
+    Word {
+        name: "name",
+        value: Some("FILE"),
+        help: "What standard input is called in messages",
+        without: &["journal"],
+    },
+];
+
 /// What stands below the help.
 const EXAMPLE: &str = "What has no file of its own goes to standard output.
 
@@ -91,30 +179,17 @@ struct Named<'w, 'a> {
     name: Option<&'a str>,
 }
 
-/// The command with the words of the files that are read, and of the filter in front of them.
-fn with_files<'a>(alloc: Global, command: Command<'a>) -> Result<Command<'a>, AllocError> {
-    let files = Arg::new(alloc, "FILE")
+/// The word of the files that are read.
+fn files_word<'a>(alloc: Global) -> Arg<'a> {
+    Arg::new(alloc, "FILE")
         .value_name("FILE")
         .help("Files of cards, one after the other as one input; - or none is standard input")
         .num_args(0..)
-        .action(ArgAction::Append);
-    let letters = "Takes small letters of files as capitals";
-    let tabs = "Takes a tab as blanks up to column 11, 18, 30, and then the next eighth";
-    let last_line = "Takes a last line that no line feed ends";
-    let command = command.arg(files)?;
-    let command = with_filter(alloc, command, "fold-case", letters)?;
-    let command = with_filter(alloc, command, "tabs", tabs)?;
-    with_filter(alloc, command, "last-line", last_line)
+        .action(ArgAction::Append)
 }
 
-/// The word of a journal in place of files.
-fn journal_word<'a>(alloc: Global) -> Result<Arg<'a>, AllocError> {
-    let help = "The journal of a service, whose decks are taken in place of files";
-    valued_word(alloc, "journal", "FILE", help).conflicts_with("FILE")
-}
-
-/// The word of a version of its decks. It refuses files by itself: where files refuse a journal, `clap` asks
-/// for none.
+/// The word of a version of the decks of a journal. It refuses files by itself: where files refuse a journal,
+/// `clap` asks for none.
 fn version_word<'a>(alloc: Global) -> Result<Arg<'a>, AllocError> {
     let help = "The version of the decks; the last one unless said";
     valued_word(alloc, "version", "V", help)
@@ -123,31 +198,9 @@ fn version_word<'a>(alloc: Global) -> Result<Arg<'a>, AllocError> {
         .conflicts_with("FILE")
 }
 
-/// The command with the words of a journal in place of files.
-fn with_journal<'a>(alloc: Global, command: Command<'a>) -> Result<Command<'a>, AllocError> {
-    command.arg(journal_word(alloc)?)?.arg(version_word(alloc)?)
-}
-
-/// The command with the words of what is reported of flagged statements.
-fn with_messages<'a>(alloc: Global, command: Command<'a>) -> Result<Command<'a>, AllocError> {
-    let quiet = "Tells no flagged statements and no LINK lines of files on standard error";
-    let check = "Writes nothing; shows what is flagged, and how much in a last line";
-    let explain = "Shows the card below each message, and where on it the fault is";
-    let name = "What standard input is called in messages";
-    let check = plain_word(alloc, "check", check)
-        .conflicts_with("quiet")?
-        .conflicts_with("journal")?
-        .conflicts_with("symbols")?
-        .conflicts_with("listing")?
-        .conflicts_with("map")?
-        .conflicts_with("image")?
-        .conflicts_with("binary")?
-        .conflicts_with("layout")?;
-    command
-        .arg(plain_word(alloc, "quiet", quiet))?
-        .arg(check)?
-        .arg(plain_word(alloc, "explain", explain))?
-        .arg(valued_word(alloc, "name", "FILE", name).conflicts_with("journal")?)
+/// The word of the file of the image.
+fn image_word<'a>(alloc: Global) -> Arg<'a> {
+    valued_word(alloc, "image", "FILE", "Where the octal image goes").short('o')
 }
 
 /// The word of how listings are laid out.
@@ -156,41 +209,19 @@ fn layout_word<'a>(alloc: Global) -> Arg<'a> {
     valued_word(alloc, "layout", "L", help).value_parser(LAYOUTS.as_slice())
 }
 
-/// The command with the words of where the output goes.
-fn with_outputs<'a>(alloc: Global, command: Command<'a>) -> Result<Command<'a>, AllocError> {
-    let symbols = "Puts a table of the symbols of each deck after the listings";
-    let binary = "Where the words of the image go, packed; FILE.sections gets where they stand";
-    command
-        .arg(valued_word(alloc, "listing", "FILE", "Where the listings go"))?
-        .arg(valued_word(alloc, "map", "FILE", "Where the link map goes"))?
-        .arg(valued_word(alloc, "image", "FILE", "Where the octal image goes").short('o'))?
-        .arg(valued_word(alloc, "binary", "FILE", binary))?
-        .arg(layout_word(alloc))?
-        .arg(plain_word(alloc, "symbols", symbols))
-}
-
 /// The words of `compass asm`.
 pub fn asm_words<'a>(alloc: Global) -> Result<Command<'a>, AllocError> {
     let command = Command::new(alloc, "asm")
         .about("Assembles decks of cards: listing, link map and octal image")
-        .after_help(EXAMPLE);
-    let command = with_files(alloc, command)?;
-    let command = with_journal(alloc, command)?;
-    let command = with_outputs(alloc, command)?;
-    with_messages(alloc, command)
-}
-
-/// The command with the word of a part of the filter in front of files; a journal has none.
-fn with_filter<'a>(
-    alloc: Global,
-    command: Command<'a>,
-    name: &'a str,
-    help: &'a str,
-) -> Result<Command<'a>, AllocError> {
-    let word = plain_word(alloc, name, help)
-        .conflicts_with("journal")?
-        .conflicts_with("version")?;
-    command.arg(word)
+        .after_help(EXAMPLE)
+        .arg(files_word(alloc))?;
+    let command = with_words(alloc, command, INPUT_WORDS.as_slice())?;
+    let version = version_word(alloc)?;
+    let command = with_words(alloc, command.arg(version)?, TEXT_WORDS.as_slice())?;
+    let command = command.arg(image_word(alloc))?;
+    let command = with_words(alloc, command, BINARY_WORDS.as_slice())?;
+    let command = command.arg(layout_word(alloc))?;
+    with_words(alloc, command, MESSAGE_WORDS.as_slice())
 }
 
 /// The filter that the words ask for, if they do.
