@@ -16,5 +16,6 @@ pub mod Rounds
 pub mod Runs
 pub mod Jobs
 pub mod Progress
+pub mod PublishedTexts
 -- What no promise leads to.
 pub mod Joins

@@ -1,7 +1,7 @@
 //! The desk: decks that several people edit, jobs for those who assemble and link them, and the
 //! publication that everybody sees. Its definitions, the laws that hold over each run, and the code
-//! that makes each step. Nothing here assembles, reads or writes, and nothing is linked but a desk's own decks,
-//! where it publishes them by itself.
+//! that makes each step. Nothing here assembles or reads; nothing is linked but a desk's own decks, where it
+//! publishes them by itself, and nothing is written but what a publication shows (`PublishedTexts`).
 //!
 //! `specs/Lib.antt` has what a desk may answer: `Changes` the decks that accepted changes leave,
 //! `Past` what is kept of them, `Answers`, `Changing`, `Reading`, `Earlier`, `Carrying`, `Undoing`,
@@ -25,6 +25,7 @@ mod held;
 mod jobs;
 mod listed;
 mod new_deck;
+mod published_texts;
 mod replies;
 mod shared_publication;
 mod told_cards;
@@ -68,6 +69,9 @@ pub use leases::Lease;
 pub use listed::Listed;
 pub use new_deck::NewDeck;
 pub use past::KeptEdit;
+pub use published_texts::{
+    DeckText, PublishedText, line_count, shown_lines, shown_part, write_shown,
+};
 pub use replies::{Refusal, Reply, Row, State};
 pub use shared_publication::{PublicationBefore, SharedPublication};
 pub use stored_deck::StoredDeck;

@@ -7,7 +7,8 @@ use Rattle.session_line.specs.declared.told_decks.DeckOutcome.TheVariants as out
 use Rattle.session_line.specs.declared.replies.Reply.TheVariants as reply
 use Rattle.desk_core.specs.declared.replies.State.TheVariants.{Behind, Ready}
 use Rattle.session_commands.specs.UnknownWords.{told_word}
-use Rattle.session_line.specs.{PublishedTexts.line_count, Replies.{text_of_reply, marked_text, status_text, told_deck_text, published_text, counted_text, numbers_text}, FileLines.file_line, declared.rights.Rights.TheVariants.{Edits, Reads}, Greetings.{connected_text, service_text}, Views.numbers_from}
+use Rattle.desk_core.specs.PublishedTexts.{line_count}
+use Rattle.session_line.specs.{Replies.{text_of_reply, marked_text, status_text, told_deck_text, published_text, counted_text, numbers_text}, FileLines.file_line, declared.rights.Rights.TheVariants.{Edits, Reads}, Greetings.{connected_text, service_text}, Views.numbers_from}
 
 -- a version; names with their numbers
 pub done : text_of_reply (reply.Done 12) ≡ codes "OK 12\n"

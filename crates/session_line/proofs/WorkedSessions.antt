@@ -12,8 +12,9 @@ use Rattle.desk_core.specs.declared.replies.Refusal.TheVariants as desk
 use Rattle.deck_files.specs.declared.deck_shelf.SaveOver.TheVariants.{Known}
 use Rattle.session_commands.specs.{declared.words.Seen.TheVariants.{Exactly, Since}, declared.refusals.Refusal.TheVariants.{BadCommand, UnknownCommand, BadName, BadCard, BadLine, FileExists, NameTaken, ReadOnly}, UnknownWords.told_word, Commands.command_of, declared.views.ErrorsView.TheVariants.{Every, Of}, declared.views.CardsView.TheVariants.{All, From, With}}
 use Rattle.definitions.specs.{Cards.Card, DeckInput.Deck}
-use Rattle.session_line.specs.declared.published_texts.DeckText.TheVariants as part
-use Rattle.session_line.specs.{declared.published_texts.PublishedText.TheVariants.{Image, Listing, Map}, declared.tasks.Task.TheVariants.{Make, Ask, AwaitVersion, ShowCards, ShowCardsAt, ShowText, ShowPart, ShowErrors, ShowWords, LoadDeck, LoadAll, ReloadDeck, SaveDeck, SaveAll, ShowFiles, ShowFileStatus, Greet, ShowHelp, Leave, Refuse}, Tasks.{lines_due, task_of}, Answers.{told_of_call, told_of_wait, told_of_greeting, told_of_cards, told_of_cards_at, told_of_publication, told_of_part, told_of_errors, told_text}, FileStatus.marked, ToldDecks.told_deck, DeckCuts.decks_in, Greetings.met, Rights.allowed, declared.rights.Rights.TheVariants.{Edits, Reads}}
+use Rattle.desk_core.specs.declared.published_texts.DeckText.TheVariants as part
+use Rattle.desk_core.specs.declared.published_texts.PublishedText.TheVariants.{Image, Listing, Map}
+use Rattle.session_line.specs.{declared.tasks.Task.TheVariants.{Make, Ask, AwaitVersion, ShowCards, ShowCardsAt, ShowText, ShowPart, ShowErrors, ShowWords, LoadDeck, LoadAll, ReloadDeck, SaveDeck, SaveAll, ShowFiles, ShowFileStatus, Greet, ShowHelp, Leave, Refuse}, Tasks.{lines_due, task_of}, Answers.{told_of_call, told_of_wait, told_of_greeting, told_of_cards, told_of_cards_at, told_of_publication, told_of_part, told_of_errors, told_text}, FileStatus.marked, ToldDecks.told_deck, DeckCuts.decks_in, Greetings.met, Rights.allowed, declared.rights.Rights.TheVariants.{Edits, Reads}}
 use Rattle.session_line.specs.declared.answers.Told.TheVariants as told
 
 -- which call of the desk a line is

@@ -2,11 +2,11 @@
 use Rattle.std.specs.Prelude.{ℕ, ◌≡◌, ◌+◌, ◌≤◌, ◌⊎◌, ⊤, IsTrue, Bool, true, false, nat_le, List, [], ◌++◌, Option, Some, None, Result, Ok, Err, length, codes, if◌then◌else◌}
 use Rattle.definitions.specs.{Cards.Card, DeckInput.Deck}
 use Rattle.deck_linker.specs.Publishing.{map_of}
-use Rattle.desk_core.specs.{Desks.Publication, declared.replies.Reply.Reply, declared.replies.Row.Row, declared.replies.Reply.TheVariants.{Changed, Carried, Unkept, CardsAre, ChangesAre, CardsBefore, StatusIs, Refused}}
+use Rattle.desk_core.specs.{Desks.Publication, PublishedTexts.{line_count, shown_part, shown_text}, declared.published_texts.DeckText.DeckText, declared.published_texts.PublishedText.PublishedText, declared.replies.Reply.Reply, declared.replies.Row.Row, declared.replies.Reply.TheVariants.{Changed, Carried, Unkept, CardsAre, ChangesAre, CardsBefore, StatusIs, Refused}}
 use Rattle.deck_files.specs.{DeckFiles.file_of, FileRows.most_files}
 use Rattle.session_commands.specs.{declared.refusals.Refusal.Refusal, Refusals.refusal_text, declared.views.CardsView.CardsView, declared.views.CardsView.TheVariants.{All, From, With}, declared.views.ErrorsView.ErrorsView}
 use Rattle.session_commands.specs.declared.refusals.Refusal.TheVariants as refusal
-use Rattle.session_line.specs.{Replies.{line_of, ok_text, unkept_text, counted_text, published_text, rows_text, marks_text, told_decks_text, sessions_text, numbers_text, text_of_lines}, FileLines.files_text, Reasons.desk_reason, Replied.{shown_in, status_in}, declared.replied.Status.Status, Greetings.service_text, Help.help_text, declared.greetings.Connected.Connected, declared.greetings.Greeting.Greeting, Views.{cards_from, numbers_of}, ChangeLines.change_lines, Errors.{error_lines, shows_any}, PublishedTexts.{line_count, shown_part, shown_text}, declared.published_texts.DeckText.DeckText, declared.published_texts.PublishedText.PublishedText, declared.answers.Told.Told, declared.answers.Answer.Answer}
+use Rattle.session_line.specs.{Replies.{line_of, ok_text, unkept_text, counted_text, published_text, rows_text, marks_text, told_decks_text, sessions_text, numbers_text, text_of_lines}, FileLines.files_text, Reasons.desk_reason, Replied.{shown_in, status_in}, declared.replied.Status.Status, Greetings.service_text, Help.help_text, declared.greetings.Connected.Connected, declared.greetings.Greeting.Greeting, Views.{cards_from, numbers_of}, ChangeLines.change_lines, Errors.{error_lines, shows_any}, declared.answers.Told.Told, declared.answers.Answer.Answer}
 use Rattle.cards.specs.{declared.edits.Edit.Edit, Edits.{first_fault, edited_by}}
 use Rattle.session_line.specs.declared.answers.Told.TheVariants as told
 

@@ -1,5 +1,4 @@
 pub mod Views
-pub mod PublishedTexts
 pub mod Errors
 pub mod ChangeLines
 pub mod FileLines

@@ -2,9 +2,9 @@
 use Rattle.std.specs.Prelude.{ℕ, ◌+◌, ◌≤◌, ⊤, Bool, true, false, List, [], ◌∷◌, ◌++◌, Option, Some, None, length, flat_map, codes, decimal, nat_lt, if◌then◌else◌}
 use Rattle.definitions.specs.Characters.{line_feed}
 use Rattle.deck_files.specs.{DeckFiles.file_of, FileRows.most_files}
-use Rattle.session_line.specs.{PublishedTexts.{line_count, shown_text}, FileLines.files_text, Greetings.{service_text, connected_text}, declared.greetings.Connected.Connected, declared.marked_rows.MarkedRow.MarkedRow, declared.told_decks.ToldDeck.ToldDeck, declared.told_decks.DeckOutcome.DeckOutcome, declared.told_decks.DeckOutcome.TheVariants.{Done, Unkept, Refused}, Errors.error_lines, Views.numbers_of, ChangeLines.change_lines, declared.replies.Reply.Reply}
+use Rattle.session_line.specs.{FileLines.files_text, Greetings.{service_text, connected_text}, declared.greetings.Connected.Connected, declared.marked_rows.MarkedRow.MarkedRow, declared.told_decks.ToldDeck.ToldDeck, declared.told_decks.DeckOutcome.DeckOutcome, declared.told_decks.DeckOutcome.TheVariants.{Done, Unkept, Refused}, Errors.error_lines, Views.numbers_of, ChangeLines.change_lines, declared.replies.Reply.Reply}
 use Rattle.session_commands.specs.Refusals.{refusal_text}
-use Rattle.desk_core.specs.declared.replies.{Row.Row, State.State, State.TheVariants.{Out, Behind, Ready}}
+use Rattle.desk_core.specs.{PublishedTexts.{line_count, shown_text}, declared.replies.{Row.Row, State.State, State.TheVariants.{Out, Behind, Ready}}}
 use Rattle.session_line.specs.declared.replies.Reply.TheVariants as reply
 
 -- a text and its line feed

@@ -2,11 +2,11 @@
 use Rattle.std.specs.Prelude.{ℕ, ◌+◌, Bool, true, false, List, [], ◌∷◌, Result, Ok, Err}
 use Rattle.definitions.specs.Cards.{Card}
 use Rattle.cards.specs.declared.edits.Edit.{Edit}
-use Rattle.desk_core.specs.declared.calls.{Edits.Edits, Change.TheVariants.{AddDeck, PutDeck, DropDeck, EditDeck, Undo}, Edits.TheVariants.{One, Batch}, Question.TheVariants.{Changes, Status}}
+use Rattle.desk_core.specs.declared.{published_texts.PublishedText.TheVariants.{Image, Listing, Map}, calls.{Edits.Edits, Change.TheVariants.{AddDeck, PutDeck, DropDeck, EditDeck, Undo}, Edits.TheVariants.{One, Batch}, Question.TheVariants.{Changes, Status}}}
 use Rattle.session_commands.specs.{declared.words.Seen.Seen, declared.commands.Command.Command, declared.refusals.Refusal.Refusal, Edits.{edit_in_batch, card_in_put}, Commands.command_of}
 use Rattle.session_commands.specs.declared.commands.Command.TheVariants as command
-use Rattle.session_line.specs.declared.published_texts.DeckText.TheVariants as part
-use Rattle.session_line.specs.declared.{published_texts.PublishedText.TheVariants.{Image, Listing, Map}, tasks.Task.Task, tasks.Task.TheVariants.{Make, Ask, AwaitVersion, ShowCards, ShowCardsAt, ShowText, ShowPart, ShowErrors, ShowWords, ShowNames, ShowSymbols, LoadDeck, LoadAll, ReloadDeck, SaveDeck, SaveAll, ShowFiles, ShowFileStatus, Greet, ShowHelp, Leave, Refuse}}
+use Rattle.desk_core.specs.declared.published_texts.DeckText.TheVariants as part
+use Rattle.session_line.specs.declared.{tasks.Task.Task, tasks.Task.TheVariants.{Make, Ask, AwaitVersion, ShowCards, ShowCardsAt, ShowText, ShowPart, ShowErrors, ShowWords, ShowNames, ShowSymbols, LoadDeck, LoadAll, ReloadDeck, SaveDeck, SaveAll, ShowFiles, ShowFileStatus, Greet, ShowHelp, Leave, Refuse}}
 
 -- how many lines belong to a command behind its first
 abbrev pub lines_behind : Command → ℕ

@@ -6,14 +6,13 @@ ghost use Rattle.desk_core.specs.declared.replies.Reply.TheVariants.{CardsAre};
 ghost use Rattle.session_line.specs.Answers.{foreign, told_of_call, told_of_wait, told_of_greeting, told_of_help, told_of_sessions, told_of_cards, told_of_backs, told_of_part, told_of_errors, told_of_publication, part_text, errors_text, status_text, view_text, told_text, is_bye, IsTellable, IsToldAt};
 ghost use Rattle.session_line.specs.Errors.{deck_named};
 ghost use Rattle.session_line.specs.Messages.{IsLinesOf, IsSaidOf, IsToldNames, IsToldSymbols, IsToldWords};
-ghost use Rattle.session_line.specs.PublishedTexts.{shown_part};
+ghost use Rattle.desk_core.specs.PublishedTexts.{shown_part};
 
 use crate::errors::shows_any;
 use crate::greetings::{Connected, Greeting};
 use crate::help::help_text;
 use crate::marked_rows::MarkedRow;
 use crate::messages::{object_named, told_of_messages};
-use crate::published_texts::{DeckText, PublishedText, shown_part};
 use crate::reasons::desk_reason;
 use crate::replied::{shown_in, status_in};
 use crate::symbol_lines::{told_of_deck_symbols, told_of_entered};
@@ -22,7 +21,9 @@ use crate::views::cards_from;
 use cards::{Card, DeckName, Edit, MOST_CARDS, edited_copy, first_fault};
 use deck_files::FileRow;
 use deck_linker::ListedPublication;
-use desk_core::{KeptEdit, Listed, Reply, Row, SharedPublication};
+use desk_core::{
+    DeckText, KeptEdit, Listed, PublishedText, Reply, Row, SharedPublication, shown_part,
+};
 use session_commands::{CardsView, ErrorsView, Refusal};
 use std::alloc::Global;
 use std::hash::RandomState;

@@ -2,13 +2,12 @@
 
 use crate::greetings::Connected;
 use crate::marked_rows::MarkedRow;
-use crate::published_texts::PublishedText;
 use crate::told_decks::ToldDeck;
 use cards::Card;
 use deck_files::FileRow;
 use deck_linker::ListedPublication;
 use deck_listing::ListedObject;
-use desk_core::{KeptEdit, Row};
+use desk_core::{KeptEdit, PublishedText, Row};
 use session_commands::{ErrorsView, Refusal};
 
 /// The reply to one command.

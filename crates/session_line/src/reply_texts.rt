@@ -1,7 +1,7 @@
 //! The lines of replies.
 ghost use Rattle.std.specs.Prelude.{◌≡◌, ◌+◌, ◌≤◌, ◌++◌, length};
 ghost use Rattle.session_line.specs.Greetings.{connected_text, service_text, session_word};
-ghost use Rattle.session_line.specs.PublishedTexts.{line_count, shown_text};
+ghost use Rattle.desk_core.specs.PublishedTexts.{line_count, shown_text};
 ghost use Rattle.session_line.specs.Replies.{IsWithinLimits, behind_text, line_of, counted_text, ok_text, unkept_text, head_text, numbers_text, published_text, row_text, state_text, status_text};
 ghost use Rattle.session_line.specs.Views.{number_where};
 ghost use Rattle.session_commands.specs.Sought.{has_text};
@@ -9,7 +9,6 @@ ghost use Rattle.session_commands.specs.Sought.{has_text};
 use crate::change_lines::change_line_count;
 use crate::errors::error_count;
 use crate::greetings::{Connected, service_version};
-use crate::published_texts::{PublishedText, line_count, shown_lines};
 use crate::refusal_texts::put_refusal;
 use crate::replies::Reply;
 use crate::reply_line::ReplyLine;
@@ -17,7 +16,7 @@ use crate::rights::Rights;
 use crate::views::count_with;
 use cards::Card;
 use deck_linker::ListedPublication;
-use desk_core::{Row, State};
+use desk_core::{PublishedText, Row, State, line_count, shown_lines};
 use session_commands::{Refusal, has_text};
 
 /// `OK version`

@@ -8,10 +8,9 @@ ghost use Rattle.session_line.specs.Taking.{IsTaskFor};
 ghost use Rattle.session_line.specs.Joins.LineItems.{IsRead, is_lacking};
 
 use crate::line_items::ItemsRead;
-use crate::published_texts::{DeckText, PublishedText};
 use cards::{Card, DeckName, Edit};
 use deck_files::SaveOver;
-use desk_core::{Change, Edits, Listed, NewDeck, Question};
+use desk_core::{Change, DeckText, Edits, Listed, NewDeck, PublishedText, Question};
 use session_commands::{BatchHead, CardsView, Command, ErrorsView, LinesHead, Refusal, Seen};
 use std::alloc::Global;
 

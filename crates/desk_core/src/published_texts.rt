@@ -1,7 +1,7 @@
 //! The texts of a publication: how many lines they have, their bytes to a writer, and those of one of its decks.
 ghost use Rattle.std.specs.Prelude.{◌≡◌, ◌<◌, ◌^◌, option_map, IfErr};
 ghost use Rattle.text_ports.specs.Joins.Sending.{Sends, count_after_sending};
-ghost use Rattle.session_line.specs.PublishedTexts.{line_count, shown_part, shown_text};
+ghost use Rattle.desk_core.specs.PublishedTexts.{line_count, shown_part, shown_text};
 
 use cards::DeckName;
 use deck_linker::ListedPublication;
@@ -21,21 +21,21 @@ pub enum PublishedText {
 
 /// Which text of one of its decks is shown.
 #[derive(Clone, Copy)]
-pub(crate) enum DeckText {
+pub enum DeckText {
     /// Its section in the image.
     Section,
     Listing,
 }
 
 /// How many lines a text has.
-pub(crate) fn line_count(text: &[u8]) -> usize
+pub fn line_count(text: &[u8]) -> usize
     ensures { result ≡ line_count text.now }
 {
     text.iter().filter(|c| **c == b'\n').count()
 }
 
 /// How many lines this text of a publication has.
-pub(crate) fn shown_lines(publication: &ListedPublication, text: PublishedText) -> usize
+pub fn shown_lines(publication: &ListedPublication, text: PublishedText) -> usize
     ensures { result ≡ line_count (shown_text text publication.now.decks) }
 {
     match text {
@@ -46,7 +46,7 @@ pub(crate) fn shown_lines(publication: &ListedPublication, text: PublishedText) 
 }
 
 /// Writes this text of a publication, or exactly the first `sent` bytes of it up to the first fault.
-pub(crate) fn write_shown<W: Write>(
+pub fn write_shown<W: Write>(
     output: &mut Counted<W>,
     publication: &ListedPublication,
     text: PublishedText,
@@ -63,7 +63,7 @@ pub(crate) fn write_shown<W: Write>(
 }
 
 /// This text of the deck of a name, where a publication has one.
-pub(crate) fn shown_part<'a>(
+pub fn shown_part<'a>(
     publication: &'a ListedPublication,
     text: DeckText,
     name: &DeckName,

@@ -2,8 +2,8 @@
 use Rattle.std.specs.Prelude.{ℕ, ◌==◌, List, Option, filter, length}
 use Rattle.definitions.specs.{Build.{image_of, listing_of}, Characters.line_feed, DeckInput.Deck}
 use Rattle.deck_linker.specs.Publishing.{listing_named, map_of, section_named}
-use Rattle.session_line.specs.declared.published_texts.{DeckText.DeckText, PublishedText.PublishedText, PublishedText.TheVariants.{Image, Listing, Map}}
-use Rattle.session_line.specs.declared.published_texts.DeckText.TheVariants as part
+use Rattle.desk_core.specs.declared.published_texts.{DeckText.DeckText, PublishedText.PublishedText, PublishedText.TheVariants.{Image, Listing, Map}}
+use Rattle.desk_core.specs.declared.published_texts.DeckText.TheVariants as part
 
 -- how many lines a text has
 abbrev pub line_count : List ℕ → ℕ
