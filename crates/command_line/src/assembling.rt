@@ -11,12 +11,12 @@ use crate::run_faults::{RunFault, tell_clash, tell_no_file, tell_run};
 use crate::standard_output::standard_output;
 use crate::symbols::symbol_tables;
 use crate::tab_places::FileColumns;
-use crate::words::{Word, valued_word, with_words};
+use crate::words::{Takes, Word, with_words};
 use asm_main::{
     AsmFault, Built, Chained, Chosen, Filter, Remembering, Tally, asm_build, asm_build_with,
     asm_run, write_chosen,
 };
-use clap::{Arg, ArgAction, ArgMatches, Command};
+use clap::{ArgMatches, Command};
 use deck_cuts::Deck;
 use deck_files::{begin_whole, end_whole};
 use std::alloc::{AllocError, Global};
@@ -52,78 +52,90 @@ const IMAGE: Chosen = Chosen {
     image: true,
 };
 
-/// How listings may be laid out.
-const LAYOUTS: [&str; 2] = ["usual", "manual"];
-
-/// The words of the filter in front of files, which a journal has none of, and of a journal in place of files.
-const INPUT_WORDS: [Word; 4] = [
+/// The words of `compass asm`. Where files refuse a journal, `clap` asks for no journal of its version: so this
+/// refuses files by itself.
+const WORDS: [Word; 16] = [
+    Word {
+        name: "FILE",
+        takes: Takes::Places,
+        help: "Files of cards, one after the other as one input; - or none is standard input",
+        without: &[],
+    },
     Word {
         name: "fold-case",
-        value: None,
+        takes: Takes::Nothing,
         help: "Takes small letters of files as capitals",
         without: &["journal", "version"],
     },
     Word {
         name: "tabs",
-        value: None,
+        takes: Takes::Nothing,
         help: "Takes a tab as blanks up to column 11, 18, 30, and then the next eighth",
         without: &["journal", "version"],
     },
     Word {
         name: "last-line",
-        value: None,
+        takes: Takes::Nothing,
         help: "Takes a last line that no line feed ends",
         without: &["journal", "version"],
     },
     Word {
         name: "journal",
-        value: Some("FILE"),
+        takes: Takes::Text("FILE"),
         help: "The journal of a service, whose decks are taken in place of files",
         without: &["FILE"],
     },
-];
-
-/// The words of where the listings and the link map go.
-const TEXT_WORDS: [Word; 2] = [
+    Word {
+        name: "version",
+        takes: Takes::NumberBeside("V", "journal"),
+        help: "The version of the decks; the last one unless said",
+        without: &["FILE"],
+    },
     Word {
         name: "listing",
-        value: Some("FILE"),
+        takes: Takes::Text("FILE"),
         help: "Where the listings go",
         without: &[],
     },
     Word {
         name: "map",
-        value: Some("FILE"),
+        takes: Takes::Text("FILE"),
         help: "Where the link map goes",
         without: &[],
     },
-];
-
-/// The word of where the packed image goes.
-const BINARY_WORDS: [Word; 1] = [Word {
-    name: "binary",
-    value: Some("FILE"),
-    help: "Where the words of the image go, packed; FILE.sections gets where they stand",
-    without: &[],
-}];
-
-/// The words of tables of symbols, and of what is reported of flagged statements.
-const MESSAGE_WORDS: [Word; 5] = [
+    Word {
+        name: "image",
+        takes: Takes::Lettered('o', "FILE"),
+        help: "Where the octal image goes",
+        without: &[],
+    },
+    Word {
+        name: "binary",
+        takes: Takes::Text("FILE"),
+        help: "Where the words of the image go, packed; FILE.sections gets where they stand",
+        without: &[],
+    },
+    Word {
+        name: "layout",
+        takes: Takes::OneOf("L", &["usual", "manual"]),
+        help: "How listings are laid out: usual, or manual, with code at the left of its card",
+        without: &[],
+    },
     Word {
         name: "symbols",
-        value: None,
+        takes: Takes::Nothing,
         help: "Puts a table of the symbols of each deck after the listings",
         without: &[],
     },
     Word {
         name: "quiet",
-        value: None,
+        takes: Takes::Nothing,
         help: "Tells no flagged statements and no LINK lines of files on standard error",
         without: &[],
     },
     Word {
         name: "check",
-        value: None,
+        takes: Takes::Nothing,
         help: "Writes nothing; shows what is flagged, and how much in a last line",
         without: &[
             "quiet", "journal", "symbols", "listing", "map", "image", "binary", "layout",
@@ -131,13 +143,13 @@ const MESSAGE_WORDS: [Word; 5] = [
     },
     Word {
         name: "explain",
-        value: None,
+        takes: Takes::Nothing,
         help: "Shows the card below each message, and where on it the fault is",
         without: &[],
     },
     Word {
         name: "name",
-        value: Some("FILE"),
+        takes: Takes::Text("FILE"),
         help: "What standard input is called in messages",
         without: &["journal"],
     },
@@ -179,49 +191,12 @@ struct Named<'w, 'a> {
     name: Option<&'a str>,
 }
 
-/// The word of the files that are read.
-fn files_word<'a>(alloc: Global) -> Arg<'a> {
-    Arg::new(alloc, "FILE")
-        .value_name("FILE")
-        .help("Files of cards, one after the other as one input; - or none is standard input")
-        .num_args(0..)
-        .action(ArgAction::Append)
-}
-
-/// The word of a version of the decks of a journal. It refuses files by itself: where files refuse a journal,
-/// `clap` asks for none.
-fn version_word<'a>(alloc: Global) -> Result<Arg<'a>, AllocError> {
-    let help = "The version of the decks; the last one unless said";
-    valued_word(alloc, "version", "V", help)
-        .value_parser(clap::value_parser!(u64))
-        .requires_arg("journal")?
-        .conflicts_with("FILE")
-}
-
-/// The word of the file of the image.
-fn image_word<'a>(alloc: Global) -> Arg<'a> {
-    valued_word(alloc, "image", "FILE", "Where the octal image goes").short('o')
-}
-
-/// The word of how listings are laid out.
-fn layout_word<'a>(alloc: Global) -> Arg<'a> {
-    let help = "How listings are laid out: usual, or manual, with code at the left of its card";
-    valued_word(alloc, "layout", "L", help).value_parser(LAYOUTS.as_slice())
-}
-
-/// The words of `compass asm`.
+/// `compass asm` with its words.
 pub fn asm_words<'a>(alloc: Global) -> Result<Command<'a>, AllocError> {
     let command = Command::new(alloc, "asm")
         .about("Assembles decks of cards: listing, link map and octal image")
-        .after_help(EXAMPLE)
-        .arg(files_word(alloc))?;
-    let command = with_words(alloc, command, INPUT_WORDS.as_slice())?;
-    let version = version_word(alloc)?;
-    let command = with_words(alloc, command.arg(version)?, TEXT_WORDS.as_slice())?;
-    let command = command.arg(image_word(alloc))?;
-    let command = with_words(alloc, command, BINARY_WORDS.as_slice())?;
-    let command = command.arg(layout_word(alloc))?;
-    with_words(alloc, command, MESSAGE_WORDS.as_slice())
+        .after_help(EXAMPLE);
+    with_words(alloc, command, WORDS.as_slice())
 }
 
 /// The filter that the words ask for, if they do.

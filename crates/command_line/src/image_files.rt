@@ -3,7 +3,7 @@
 use crate::input_files::{STANDARD_INPUT, bytes_of};
 use crate::outputs::FileName;
 use crate::standard_output::standard_output;
-use crate::words::file_word;
+use crate::words::{Takes, Word, with_words};
 use asm_main::{AsmFault, Remembering, asm_status};
 use clap::{ArgMatches, Command};
 use images::{Comparison, Image, ImageFault, section_lines};
@@ -59,19 +59,42 @@ enum PrintFault {
     Broken(#[from] Broken),
 }
 
+/// The word of an image that is read.
+const FILE: Word = Word {
+    name: "FILE",
+    takes: Takes::Place,
+    help: IMAGE_HELP,
+    without: &[],
+};
+
+/// The word of another, which it is compared with.
+const OTHER: Word = Word {
+    name: "OTHER",
+    takes: Takes::Place,
+    help: IMAGE_HELP,
+    without: &[],
+};
+
 /// The words of `compass dump`.
-pub fn dump_words<'a>(alloc: Global) -> Result<Command<'a>, AllocError> {
-    Command::new(alloc, "dump")
-        .about("Prints the words of an image with their characters and instructions")
-        .arg(file_word(alloc, "FILE", IMAGE_HELP))
-}
+const DUMP_WORDS: [Word; 1] = [FILE];
 
 /// The words of `compass diff`.
+const DIFF_WORDS: [Word; 2] = [FILE, OTHER];
+
+/// `compass dump` with its words.
+pub fn dump_words<'a>(alloc: Global) -> Result<Command<'a>, AllocError> {
+    let command = Command::new(alloc, "dump").about(
+        "Prints the words of an image with their characters and instructions",
+    );
+    with_words(alloc, command, DUMP_WORDS.as_slice())
+}
+
+/// `compass diff` with its words.
 pub fn diff_words<'a>(alloc: Global) -> Result<Command<'a>, AllocError> {
-    Command::new(alloc, "diff")
-        .about("Compares two images instruction by instruction; status 1 where they differ")
-        .arg(file_word(alloc, "FILE", IMAGE_HELP))?
-        .arg(file_word(alloc, "OTHER", IMAGE_HELP))
+    let command = Command::new(alloc, "diff").about(
+        "Compares two images instruction by instruction; status 1 where they differ",
+    );
+    with_words(alloc, command, DIFF_WORDS.as_slice())
 }
 
 /// The name of the text beside packed words.

@@ -1,10 +1,10 @@
 //! Journals on the command line: the decks of a version, and the changes as lines.
 
 use crate::standard_output::standard_output;
-use crate::words::valued_word;
+use crate::words::{Takes, Word, with_words};
 use asm_main::{AsmFault, asm_status};
 use cards::DeckName;
-use clap::{Arg, ArgAction, ArgMatches, Command};
+use clap::{ArgMatches, Command};
 use deck_cuts::Deck;
 use desk_core::{Change, Desk, NewDeck, StoredDeck};
 use journal::{
@@ -123,17 +123,27 @@ pub(crate) fn decks_at<R: Files>(
 }
 
 /// The words of `compass log`.
+const LOG_WORDS: [Word; 2] = [
+    Word {
+        name: "FILE",
+        takes: Takes::Place,
+        help: "The journal of a service",
+        without: &[],
+    },
+    Word {
+        name: "deck",
+        takes: Takes::Text("NAME"),
+        help: "Prints the changes of this deck alone, each with its cards or edits after it",
+        without: &[],
+    },
+];
+
+/// `compass log` with its words.
 pub fn log_words<'a>(alloc: Global) -> Result<Command<'a>, AllocError> {
-    let file = Arg::new(alloc, "FILE")
-        .value_name("FILE")
-        .help("The journal of a service")
-        .required(true)
-        .action(ArgAction::Set);
-    let deck = "Prints the changes of this deck alone, each with its cards or edits after it";
-    Command::new(alloc, "log")
-        .about("Prints the changes that a journal has, a line each")
-        .arg(file)?
-        .arg(valued_word(alloc, "deck", "NAME", deck))
+    let command = Command::new(alloc, "log").about(
+        "Prints the changes that a journal has, a line each",
+    );
+    with_words(alloc, command, LOG_WORDS.as_slice())
 }
 
 /// Why not all records of a journal were printed.

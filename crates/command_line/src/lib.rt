@@ -31,4 +31,4 @@ pub use assembling::{asm_words, assemble};
 pub use image_files::{diff, diff_words, dump, dump_words};
 pub use journal_files::{JOURNAL_STATUS, log, log_words};
 pub use run_faults::tell;
-pub use words::{plain_word, valued_word};
+pub use words::{Takes, Word, with_words};

@@ -2,13 +2,12 @@
 ghost use Rattle.std.specs.Prelude.{◌≡◌, ℕ, IfSome};
 ghost use Rattle.desk_service.specs.Services.{AreInRange};
 
-use clap::{Arg, ArgMatches, Command};
-use command_line::{JOURNAL_STATUS, plain_word, valued_word};
+use clap::{ArgMatches, Command};
+use command_line::{JOURNAL_STATUS, Takes, Word, with_words};
 use desk_service::{Journaling, ServeFault, Settings, serve};
 use std::alloc::{AllocError, Global};
 use std::fs::File;
 use std::net::{Net, TcpListener, TcpStream};
-use std::ops::Range;
 use std::process::ExitCode;
 use std::random::RandomSource;
 use std::rt::Files;
@@ -40,72 +39,76 @@ const EXAMPLE: &str = "Example:
   compass serve --root decks --port 7070 --workers 2 --sessions 4 &
   printf 'ADD M\\nINS M 1 1 *A\\nCARDS M\\nBYE\\n' | nc 127.0.0.1 7070";
 
-/// The word of a page for browsers.
-fn page_word<'a>(alloc: Global) -> Result<Arg<'a>, AllocError> {
-    let help =
-        "The port on 127.0.0.1 of a page for browsers, one that is free at 0; no page unless said, and none with --once";
-    valued_word(alloc, "page", "P", help)
-        .value_parser(clap::value_parser!(u16))
-        .conflicts_with("once")
-}
-
-/// The command with the words of where the decks lie, and of where it listens.
-fn with_places<'a>(alloc: Global, command: Command<'a>) -> Result<Command<'a>, AllocError> {
-    let root = "The folder of the deck files, NAME.DECK for deck NAME";
-    let port = "The port on 127.0.0.1, 1 to 65535; one that is free unless said, or at 0";
-    command
-        .arg(valued_word(alloc, "root", "DIR", root).required(true))?
-        .arg(valued_word(alloc, "port", "P", port).value_parser(clap::value_parser!(u16)))?
-        .arg(page_word(alloc)?)
-}
-
-/// The command with a word whose value is one of these numbers.
-fn with_number<'a>(
-    command: Command<'a>,
-    word: Arg<'a>,
-    numbers: Range<i64>,
-) -> Result<Command<'a>, AllocError> {
-    command.arg(word.value_parser(clap::value_parser!(u64).range(numbers)))
-}
-
-/// The command with the words of how many threads it has, and of how long it waits for a client.
-fn with_threads<'a>(alloc: Global, command: Command<'a>) -> Result<Command<'a>, AllocError> {
-    let workers = "How many threads assemble and link, 1 to 16; one for each processor unless said";
-    let sessions = "How many connections are served at once, 1 to 16; 16 unless said";
-    let readers =
-        "How many further connections may ask and change nothing, 0 to 16; none unless said";
-    let idle = "How long a client may be silent before its session ends; 900 unless said";
-    let command = with_number(command, valued_word(alloc, "workers", "W", workers), 1..17)?;
-    let command = with_number(
-        command,
-        valued_word(alloc, "sessions", "S", sessions),
-        1..17,
-    )?;
-    let command = with_number(command, valued_word(alloc, "readers", "N", readers), 0..17)?;
-    let idle = valued_word(alloc, "idle", "SECONDS", idle);
-    with_number(command, idle, 1..1_000_000_000)
-}
-
-/// The command with the words of its journal, and of when it ends.
-fn with_journal<'a>(alloc: Global, command: Command<'a>) -> Result<Command<'a>, AllocError> {
-    let journal =
-        "The file that keeps all changes, none for no such file; beskloun.journal in DIR unless said";
-    let compact = "Begins the journal anew with the decks that it leaves";
-    let once = "Ends when each session and each reader has served one connection";
-    command
-        .arg(valued_word(alloc, "journal", "FILE", journal))?
-        .arg(plain_word(alloc, "compact", compact))?
-        .arg(plain_word(alloc, "once", once))
-}
-
 /// The words of `compass serve`.
+const WORDS: [Word; 10] = [
+    Word {
+        name: "root",
+        takes: Takes::Needed("DIR"),
+        help: "The folder of the deck files, NAME.DECK for deck NAME",
+        without: &[],
+    },
+    Word {
+        name: "port",
+        takes: Takes::Port("P"),
+        help: "The port on 127.0.0.1, 1 to 65535; one that is free unless said, or at 0",
+        without: &[],
+    },
+    Word {
+        name: "page",
+        takes: Takes::Port("P"),
+        help: "The port on 127.0.0.1 of a page for browsers, one that is free at 0; no page unless said, and none with --once",
+        without: &["once"],
+    },
+    Word {
+        name: "workers",
+        takes: Takes::Within("W", 1, 17),
+        help: "How many threads assemble and link, 1 to 16; one for each processor unless said",
+        without: &[],
+    },
+    Word {
+        name: "sessions",
+        takes: Takes::Within("S", 1, 17),
+        help: "How many connections are served at once, 1 to 16; 16 unless said",
+        without: &[],
+    },
+    Word {
+        name: "readers",
+        takes: Takes::Within("N", 0, 17),
+        help: "How many further connections may ask and change nothing, 0 to 16; none unless said",
+        without: &[],
+    },
+    Word {
+        name: "idle",
+        takes: Takes::Within("SECONDS", 1, 1_000_000_000),
+        help: "How long a client may be silent before its session ends; 900 unless said",
+        without: &[],
+    },
+    Word {
+        name: "journal",
+        takes: Takes::Text("FILE"),
+        help: "The file that keeps all changes, none for no such file; beskloun.journal in DIR unless said",
+        without: &[],
+    },
+    Word {
+        name: "compact",
+        takes: Takes::Nothing,
+        help: "Begins the journal anew with the decks that it leaves",
+        without: &[],
+    },
+    Word {
+        name: "once",
+        takes: Takes::Nothing,
+        help: "Ends when each session and each reader has served one connection",
+        without: &[],
+    },
+];
+
+/// `compass serve` with its words.
 pub(crate) fn serve_words<'a>(alloc: Global) -> Result<Command<'a>, AllocError> {
     let command = Command::new(alloc, "serve")
         .about("Serves a desk of decks that several people edit over TCP")
         .after_help(EXAMPLE);
-    let command = with_places(alloc, command)?;
-    let command = with_threads(alloc, command)?;
-    with_journal(alloc, command)
+    with_words(alloc, command, WORDS.as_slice())
 }
 
 /// Where the words want the journal.

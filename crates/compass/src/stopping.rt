@@ -2,7 +2,7 @@
 
 use crate::serving::FOLDER_STATUS;
 use clap::{ArgMatches, Command};
-use command_line::valued_word;
+use command_line::{Takes, Word, with_words};
 use desk_service::stop;
 use std::alloc::{AllocError, Global};
 use std::net::Net;
@@ -10,11 +10,19 @@ use std::process::ExitCode;
 use std::rt::Files;
 
 /// The words of `compass stop`.
+const WORDS: [Word; 1] = [Word {
+    name: "root",
+    takes: Takes::Needed("DIR"),
+    help: "The folder of the service",
+    without: &[],
+}];
+
+/// `compass stop` with its words.
 pub(crate) fn stop_words<'a>(alloc: Global) -> Result<Command<'a>, AllocError> {
-    let root = valued_word(alloc, "root", "DIR", "The folder of the service").required(true);
-    Command::new(alloc, "stop")
-        .about("Ends the service of a folder, once what it is answering is out")
-        .arg(root)
+    let command = Command::new(alloc, "stop").about(
+        "Ends the service of a folder, once what it is answering is out",
+    );
+    with_words(alloc, command, WORDS.as_slice())
 }
 
 /// `compass stop`: it returns when the service is over.
