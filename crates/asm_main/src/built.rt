@@ -44,6 +44,11 @@ impl Built {
         Ok(Built::InPieces(LinkedDecks::new(alloc, keys, objects)?))
     }
 
+    /// Frees it. Crates above call this in place of `drop` (CONTRIBUTING).
+    pub fn free(self) {
+        drop(self);
+    }
+
     /// What a build counts.
     pub fn tally(&self) -> Tally
         ensures { Counts (build_of (decks_of self.now)) result }

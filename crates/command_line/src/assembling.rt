@@ -343,8 +343,10 @@ where
         let mut output = Counted::new(standard_output(rt));
         return Ok(asm_run(rt.alloc(), named.keys, input, &mut output)?);
     }
-    let mut built = asm_build(rt.alloc(), named.keys, input)?;
-    write_parts(rt, named, &mut built)
+    match asm_build(rt.alloc(), named.keys, input) {
+        Ok(built) => write_built(rt, named, built),
+        Err(fault) => Err(RunFault::Asm(fault)),
+    }
 }
 
 /// A run from the decks of a journal.
@@ -370,12 +372,21 @@ where
         return Err(RunFault::Asm(AsmFault::TooManyDecks));
     }
     match Built::new(rt.alloc(), named.keys, decks) {
-        Ok(built) => {
-            let mut built = built;
-            write_parts(rt, named, &mut built)
-        }
+        Ok(built) => write_built(rt, named, built),
         Err(_) => Err(RunFault::Asm(AsmFault::OutOfMemory)),
     }
+}
+
+/// Writes the parts of a build, which is over then.
+fn write_built<'a, R>(rt: &R, named: &Named<'_, 'a>, built: Built) -> Result<Tally, RunFault<'a>>
+where
+    R: AllocGlobal + Print + Files,
+    R::File: AsFd,
+{
+    let mut built = built;
+    let outcome = write_parts(rt, named, &mut built);
+    built.free();
+    outcome
 }
 
 /// A run from files.
@@ -426,7 +437,9 @@ where
     match outcome {
         Ok(built) => {
             let mut built = built;
-            write_and_tell(rt, named, &mut built, reader.get_ref(), names)
+            let told = write_and_tell(rt, named, &mut built, reader.get_ref(), names);
+            built.free();
+            told
         }
         Err(fault) => {
             let explain = named.explain;
