@@ -7,7 +7,7 @@ use crate::moves::Moves;
 use crate::processor::Processor;
 use crate::units::{Unit, between, from_place, units_of};
 use std::alloc::{AllocError, Global};
-use text_ports::Text;
+use text_ports::{Piece, Text};
 
 /// What a section of the first image is to the second.
 #[derive(Drop)]
@@ -147,72 +147,59 @@ fn laid_beside(
 }
 
 /// Writes the instructions that stand in one section alone.
-fn push_units(
-    text: &mut Text,
-    processor: Processor,
-    units: &[Unit],
-    sign: u8,
-) -> Result<(), AllocError> {
+fn push_units(text: &mut Piece, processor: Processor, units: &[Unit], sign: u8) {
     for unit in units {
-        unit.push_line(text, processor, sign)?;
+        unit.push_line(text, processor, sign);
     }
-    Ok(())
 }
 
 /// Writes what stands between two runs, one difference if anything does.
 fn push_gap(
-    text: &mut Text,
+    text: &mut Piece,
     counts: &mut Counts,
     processor: Processor,
     one: &[Unit],
     other: &[Unit],
-) -> Result<(), AllocError> {
+) {
     if !one.is_empty() || !other.is_empty() {
         counts.differences = counts.differences.saturating_add(1);
     }
-    push_units(text, processor, one, b'-')?;
-    push_units(text, processor, other, b'+')
+    push_units(text, processor, one, b'-');
+    push_units(text, processor, other, b'+');
 }
 
 /// Writes two instructions that name other addresses, or counts them where the address moved.
 fn push_named(
-    text: &mut Text,
+    text: &mut Piece,
     counts: &mut Counts,
     processor: Processor,
     moves: &Moves,
     units: (&Unit, &Unit),
-) -> Result<(), AllocError> {
+) {
     let (unit, beside) = units;
     let (from, to) = (unit.target().unwrap_or(0), beside.target().unwrap_or(0));
     if from == to {
-        return Ok(());
+        return;
     }
     if moves.has_moved(from, to) {
         counts.moved = counts.moved.saturating_add(1);
-        return Ok(());
+        return;
     }
     counts.differences = counts.differences.saturating_add(1);
-    unit.push_line(text, processor, b'-')?;
-    beside.push_line(text, processor, b'+')
+    unit.push_line(text, processor, b'-');
+    beside.push_line(text, processor, b'+');
 }
 
 /// Writes the instructions of a run that name another address, and counts those whose address moved.
-fn push_run(
-    text: &mut Text,
-    counts: &mut Counts,
-    pair: Pair<'_>,
-    moves: &Moves,
-    run: Run,
-) -> Result<(), AllocError> {
+fn push_run(text: &mut Piece, counts: &mut Counts, pair: Pair<'_>, moves: &Moves, run: Run) {
     let one = between(pair.one, run.one, run.one.saturating_add(run.length));
     for (unit, beside) in one.iter().zip(from_place(pair.other, run.other).iter()) {
-        push_named(text, counts, pair.processor, moves, (unit, beside))?;
+        push_named(text, counts, pair.processor, moves, (unit, beside));
     }
-    Ok(())
 }
 
 /// Writes what differs in two sections, and counts it.
-fn push_pair(text: &mut Text, pair: Pair<'_>, moves: &Moves) -> Result<Counts, AllocError> {
+fn push_pair(text: &mut Piece, pair: Pair<'_>, moves: &Moves) -> Counts {
     let mut counts = Counts {
         differences: 0,
         moved: 0,
@@ -222,55 +209,55 @@ fn push_pair(text: &mut Text, pair: Pair<'_>, moves: &Moves) -> Result<Counts, A
         let run = *run;
         let gap = between(pair.one, begin, run.one);
         let gap_beside = between(pair.other, beside, run.other);
-        push_gap(text, &mut counts, pair.processor, gap, gap_beside)?;
-        push_run(text, &mut counts, pair, moves, run)?;
+        push_gap(text, &mut counts, pair.processor, gap, gap_beside);
+        push_run(text, &mut counts, pair, moves, run);
         begin = run.one.saturating_add(run.length);
         beside = run.other.saturating_add(run.length);
     }
     let rest = from_place(pair.one, begin);
     let rest_beside = from_place(pair.other, beside);
-    push_gap(text, &mut counts, pair.processor, rest, rest_beside)?;
-    Ok(counts)
+    push_gap(text, &mut counts, pair.processor, rest, rest_beside);
+    counts
 }
 
 /// Writes a count and what it is of, with a plural.
-fn push_count(text: &mut Text, count: u64, one: &[u8], more: &[u8]) -> Result<(), AllocError> {
-    text.push_decimal(count)?;
-    text.push_byte(b' ')?;
-    text.push_bytes(if count == 1 { one } else { more })
+fn push_count(text: &mut Piece, count: u64, one: &[u8], more: &[u8]) {
+    text.put_decimal(count);
+    text.put(b" ");
+    text.put(if count == 1 { one } else { more });
 }
 
 /// Writes the first words of a title, by which a section is known.
-fn push_name(text: &mut Text, section: &Section) -> Result<(), AllocError> {
-    text.push_bytes(if section.is_deck() {
+fn push_name(text: &mut Piece, section: &Section) {
+    text.put(if section.is_deck() {
         b"DECK "
     } else {
         b"COMMON "
-    })?;
-    text.push_bytes(section.name())
+    });
+    text.put(section.name());
 }
 
 /// Writes the line of a section that one image has alone.
-fn push_alone(text: &mut Text, section: &Section, behind: &[u8]) -> Result<(), AllocError> {
-    push_name(text, section)?;
-    text.push_bytes(behind)
+fn push_alone(text: &mut Piece, section: &Section, behind: &[u8]) {
+    push_name(text, section);
+    text.put(behind);
 }
 
 /// Writes the line of two sections that are not the same.
-fn push_counts(text: &mut Text, section: &Section, counts: Counts) -> Result<(), AllocError> {
-    push_name(text, section)?;
-    text.push_bytes(b": ")?;
-    push_count(text, counts.differences, b"difference", b"differences")?;
-    text.push_bytes(b", ")?;
-    push_count(text, counts.moved, b"address moved\n", b"addresses moved\n")
+fn push_counts(text: &mut Piece, section: &Section, counts: Counts) {
+    push_name(text, section);
+    text.put(b": ");
+    push_count(text, counts.differences, b"difference", b"differences");
+    text.put(b", ");
+    push_count(text, counts.moved, b"address moved\n", b"addresses moved\n");
 }
 
 /// Writes what differs in two sections of a peripheral processor, whose words move by themselves.
-fn push_peripheral(alloc: Global, text: &mut Text, pair: Pair<'_>) -> Result<Counts, AllocError> {
+fn push_peripheral(alloc: Global, text: &mut Piece, pair: Pair<'_>) -> Result<Counts, AllocError> {
     let mut moves = Moves::new(alloc, Processor::Peripheral)?;
     note_pair(&mut moves, pair);
     moves.settle()?;
-    push_pair(text, pair, &moves)
+    Ok(push_pair(text, pair, &moves))
 }
 
 impl<'a> Comparison<'a> {
@@ -355,9 +342,9 @@ impl<'a> Comparison<'a> {
         let (Some(section), Some(beside)) = (section, beside) else {
             return self.others_alone(alloc);
         };
-        let mut text = Text::new(alloc);
+        let mut text = Piece::new(alloc);
         match beside {
-            Beside::Alone => push_alone(&mut text, section, b": in the first image alone\n")?,
+            Beside::Alone => push_alone(&mut text, section, b": in the first image alone\n"),
             Beside::Same(_) => {}
             Beside::Other(place, runs) => {
                 if let Some(other) = other.sections.as_slice().get(*place) {
@@ -365,14 +352,14 @@ impl<'a> Comparison<'a> {
                 }
             }
         }
-        Ok(text)
+        text.into_text()
     }
 
     /// Writes what differs in two sections.
     fn push_different(
         &self,
         alloc: Global,
-        text: &mut Text,
+        text: &mut Piece,
         sections: (&Section, &Section),
         runs: &[Run],
     ) -> Result<(), AllocError> {
@@ -386,21 +373,22 @@ impl<'a> Comparison<'a> {
             runs,
         };
         let counts = match section.processor {
-            Processor::Central => push_pair(text, pair, &self.moves)?,
+            Processor::Central => push_pair(text, pair, &self.moves),
             Processor::Peripheral => push_peripheral(alloc, text, pair)?,
         };
-        push_counts(text, section, counts)
+        push_counts(text, section, counts);
+        Ok(())
     }
 
     /// The lines of the sections that the second image has alone.
     fn others_alone(&self, alloc: Global) -> Result<Text, AllocError> {
-        let mut text = Text::new(alloc);
+        let mut text = Piece::new(alloc);
         let sections = self.other.sections.as_slice();
         for (section, taken) in sections.iter().zip(self.taken.as_slice().iter()) {
             if !*taken {
-                push_alone(&mut text, section, b": in the second image alone\n")?;
+                push_alone(&mut text, section, b": in the second image alone\n");
             }
         }
-        Ok(text)
+        text.into_text()
     }
 }

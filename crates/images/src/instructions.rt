@@ -3,8 +3,7 @@
 
 ghost use Rattle.std.specs.Prelude.{◌≤◌};
 
-use std::alloc::AllocError;
-use text_ports::Text;
+use text_ports::Piece;
 
 /// A short or long instruction of the central processor, by its first two octal digits.
 #[derive(Clone, Copy)]
@@ -162,53 +161,48 @@ fn has_digit(upper: u64, wanted: u8, number: u64) -> bool {
 
 /// Writes an instruction of the central processor with the parcel behind it, if there is one; what is no
 /// instruction as octal digits.
-pub(crate) fn push_central(
-    text: &mut Text,
-    upper: u64,
-    lower: Option<u64>,
-) -> Result<(), AllocError> {
+pub(crate) fn push_central(text: &mut Piece, upper: u64, lower: Option<u64>) {
     let long = is_long(upper);
     let form = match lower {
         None if long => b"",
         _ => central_text(upper, lower.unwrap_or(0)),
     };
     if form.is_empty() {
-        return push_parcels(text, upper, if long { lower } else { None });
+        push_parcels(text, upper, if long { lower } else { None });
+        return;
     }
-    push_form(text, form, upper, lower.unwrap_or(0))
+    push_form(text, form, upper, lower.unwrap_or(0));
 }
 
 /// Writes one or two parcels as octal digits.
-fn push_parcels(text: &mut Text, upper: u64, lower: Option<u64>) -> Result<(), AllocError> {
-    text.push_octal(5, upper)?;
+fn push_parcels(text: &mut Piece, upper: u64, lower: Option<u64>) {
+    text.put_octal(5, upper);
     if let Some(lower) = lower {
-        text.push_byte(b' ')?;
-        text.push_octal(5, lower)?;
+        text.put(b" ");
+        text.put_octal(5, lower);
     }
-    Ok(())
 }
 
 /// Writes the name and the operand of a form with the digits of an instruction.
-fn push_form(text: &mut Text, form: &[u8], upper: u64, lower: u64) -> Result<(), AllocError> {
+fn push_form(text: &mut Piece, form: &[u8], upper: u64, lower: u64) {
     for byte in form {
         match *byte {
-            b'i' => text.push_octal(1, upper / 0o100)?,
-            b'j' => text.push_octal(1, upper / 0o10)?,
-            b'k' => text.push_octal(1, upper)?,
-            b'n' => push_number(text, 2, upper)?,
-            b'K' => push_number(text, 6, (upper % 8) * 0o100_000 + lower % 0o100_000)?,
-            other => text.push_byte(other)?,
+            b'i' => text.put_octal(1, upper / 0o100),
+            b'j' => text.put_octal(1, upper / 0o10),
+            b'k' => text.put_octal(1, upper),
+            b'n' => push_number(text, 2, upper),
+            b'K' => push_number(text, 6, (upper % 8) * 0o100_000 + lower % 0o100_000),
+            other => text.put([other].as_slice()),
         }
     }
-    Ok(())
 }
 
 /// Writes a number of so many octal digits, with the letter of octal numbers behind.
-fn push_number(text: &mut Text, digits: u32, number: u64) -> Result<(), AllocError>
+fn push_number(text: &mut Piece, digits: u32, number: u64)
     requires few { digits ≤ 20 }
 {
-    text.push_octal(digits, number)?;
-    text.push_byte(b'B')
+    text.put_octal(digits, number);
+    text.put(b"B");
 }
 
 /// The name of a peripheral instruction with what stands behind it, empty where there is none; no operand makes
@@ -238,42 +232,40 @@ pub(crate) fn has_second(word: u64) -> bool {
 }
 
 /// Writes a number of six bits with a sign.
-fn push_signed(text: &mut Text, number: u64) -> Result<(), AllocError> {
+fn push_signed(text: &mut Piece, number: u64) {
     if number < 32 {
-        return push_number(text, 2, number);
+        push_number(text, 2, number);
+        return;
     }
-    text.push_byte(b'-')?;
-    push_number(text, 2, 63u64.saturating_sub(number))
+    text.put(b"-");
+    push_number(text, 2, 63u64.saturating_sub(number));
 }
 
 /// Writes an instruction of a peripheral processor with the word behind it, if there is one; a word that is no
 /// instruction as octal digits.
-pub(crate) fn push_peripheral(
-    text: &mut Text,
-    word: u64,
-    second: Option<u64>,
-) -> Result<(), AllocError> {
+pub(crate) fn push_peripheral(text: &mut Piece, word: u64, second: Option<u64>) {
     let form = match second {
         None if has_second(word) => b"",
         _ => peripheral_form(word),
     };
     if form.is_empty() {
-        return text.push_octal(4, word);
+        text.put_octal(4, word);
+        return;
     }
-    text.push_bytes(form.split_at(form.len().min(3)).0)?;
+    text.put(form.split_at(form.len().min(3)).0);
     match peripheral_operand(form) {
         Some(operand) => push_operand(text, operand, word % 64, second.unwrap_or(0) % 4096),
-        None => Ok(()),
+        None => {}
     }
 }
 
 /// Writes what stands behind the name of a peripheral instruction.
-fn push_operand(text: &mut Text, operand: u8, number: u64, second: u64) -> Result<(), AllocError> {
-    text.push_bytes(b"    ")?;
+fn push_operand(text: &mut Piece, operand: u8, number: u64, second: u64) {
+    text.put(b"    ");
     match operand {
         b'm' => {
-            push_number(text, 4, second)?;
-            text.push_byte(b',')?;
+            push_number(text, 4, second);
+            text.put(b",");
             push_number(text, 2, number)
         }
         b'c' => push_number(text, 6, (number % 64) * 4096 + second % 4096),

@@ -1,5 +1,5 @@
 //! The text of a record.
-ghost use Rattle.std.specs.Prelude.{◌≡◌, ◌++◌, ◌∷◌, [], IfOk, OnOk, codes, decimal, map, flat_map};
+ghost use Rattle.std.specs.Prelude.{◌≡◌, ◌++◌, ◌∷◌, [], IfOk, codes, decimal, map, flat_map};
 ghost use Rattle.session_commands.specs.Lines.{behind_a_blank, line_in_batch, line_of_edit, name_and_seen, seen_text};
 ghost use Rattle.journal.specs.CheckSums.{check_sum};
 ghost use Rattle.journal.specs.Records.{ended, first_line, line_of_change, line_of_edits, line_of_entry, log_line, lines_behind, lines_behind_change, lines_of_edits, lines_of_record, sum_line, text_behind_version, text_of_lines, text_of_record, text_with_version};
@@ -12,103 +12,97 @@ use itoa::Buffer;
 use moments::Moment;
 use session_commands::Seen;
 use std::alloc::{AllocError, Global};
-use text_ports::Text;
+use text_ports::{Piece, Text};
 
 /// Appends a blank and a word.
-fn push_word(text: &mut Text, word: &[u8]) -> Result<(), AllocError>
-    ensures { OnOk result (text.new ≡ text.old ++ behind_a_blank word.now) }
+fn push_word(text: &mut Piece, word: &[u8])
+    ensures { text.new ≡ text.old ++ behind_a_blank word.now }
 {
-    text.push_byte(b' ')?;
-    text.push_bytes(word)
+    text.put(b" ");
+    text.put(word);
 }
 
 /// Appends a blank and a number in decimal.
-fn push_number(text: &mut Text, number: u64) -> Result<(), AllocError>
-    ensures { OnOk result (text.new ≡ text.old ++ behind_a_blank (decimal number)) }
+fn push_number(text: &mut Piece, number: u64)
+    ensures { text.new ≡ text.old ++ behind_a_blank (decimal number) }
 {
     let mut buffer = Buffer::new();
-    push_word(text, buffer.format(number).as_bytes())
+    push_word(text, buffer.format(number).as_bytes());
 }
 
 /// Appends a verb and a name.
-fn push_verb_and_name(text: &mut Text, verb: &[u8], name: &DeckName) -> Result<(), AllocError>
-    ensures { OnOk result (text.new ≡ text.old ++ (verb.now ++ behind_a_blank (name.now ++ []))) }
+fn push_verb_and_name(text: &mut Piece, verb: &[u8], name: &DeckName)
+    ensures { text.new ≡ text.old ++ (verb.now ++ behind_a_blank (name.now ++ [])) }
 {
-    text.push_bytes(verb)?;
-    push_word(text, name.as_slice())
+    text.put(verb);
+    push_word(text, name.as_slice());
 }
 
 /// Appends a verb and a number.
-fn push_verb_and_number(text: &mut Text, verb: &[u8], number: u64) -> Result<(), AllocError>
-    ensures { OnOk result (text.new ≡ text.old ++ (verb.now ++ behind_a_blank (decimal number ++ []))) }
+fn push_verb_and_number(text: &mut Piece, verb: &[u8], number: u64)
+    ensures { text.new ≡ text.old ++ (verb.now ++ behind_a_blank (decimal number ++ [])) }
 {
-    text.push_bytes(verb)?;
-    push_number(text, number)
+    text.put(verb);
+    push_number(text, number);
 }
 
 /// Appends a verb, a place and a card.
-fn push_verb_and_card(text: &mut Text, verb: &[u8], at: u64, card: &Card) -> Result<(), AllocError>
-    ensures { OnOk result (text.new ≡ text.old ++ (verb.now ++ behind_a_blank (decimal at ++ behind_a_blank card.now))) }
+fn push_verb_and_card(text: &mut Piece, verb: &[u8], at: u64, card: &Card)
+    ensures { text.new ≡ text.old ++ (verb.now ++ behind_a_blank (decimal at ++ behind_a_blank card.now)) }
 {
-    text.push_bytes(verb)?;
-    push_number(text, at)?;
-    push_word(text, card.as_slice())
+    text.put(verb);
+    push_number(text, at);
+    push_word(text, card.as_slice());
 }
 
 /// Appends a blank and a version that was seen.
-fn push_seen(text: &mut Text, seen: Seen) -> Result<(), AllocError>
-    ensures { OnOk result (text.new ≡ text.old ++ behind_a_blank (seen_text seen)) }
+fn push_seen(text: &mut Piece, seen: Seen)
+    ensures { text.new ≡ text.old ++ behind_a_blank (seen_text seen) }
 {
     match seen {
         Seen::Exactly(version) => push_number(text, version),
         Seen::Since(version) => {
-            push_number(text, version)?;
-            text.push_byte(b'+')
+            push_number(text, version);
+            text.put(b"+");
         }
     }
 }
 
 /// Appends a verb, a name and the version that was seen.
-fn push_target(text: &mut Text, verb: &[u8], name: &DeckName, seen: Seen) -> Result<(), AllocError>
-    ensures { OnOk result (text.new ≡ text.old ++ (verb.now ++ name_and_seen name.now seen [])) }
+fn push_target(text: &mut Piece, verb: &[u8], name: &DeckName, seen: Seen)
+    ensures { text.new ≡ text.old ++ (verb.now ++ name_and_seen name.now seen []) }
 {
-    text.push_bytes(verb)?;
-    push_word(text, name.as_slice())?;
-    push_seen(text, seen)
+    text.put(verb);
+    push_word(text, name.as_slice());
+    push_seen(text, seen);
 }
 
 /// Appends a verb, a name, the version that was seen, and a number.
-fn push_target_and_number(
-    text: &mut Text,
-    verb: &[u8],
-    name: &DeckName,
-    seen: Seen,
-    number: u64,
-) -> Result<(), AllocError>
-    ensures { OnOk result (text.new ≡ text.old ++ (verb.now ++ name_and_seen name.now seen (behind_a_blank (decimal number ++ [])))) }
+fn push_target_and_number(text: &mut Piece, verb: &[u8], name: &DeckName, seen: Seen, number: u64)
+    ensures { text.new ≡ text.old ++ (verb.now ++ name_and_seen name.now seen (behind_a_blank (decimal number ++ []))) }
 {
-    push_target(text, verb, name, seen)?;
-    push_number(text, number)
+    push_target(text, verb, name, seen);
+    push_number(text, number);
 }
 
 /// Appends a verb, a name, the version that was seen, a place and a card.
 fn push_target_and_card(
-    text: &mut Text,
+    text: &mut Piece,
     verb: &[u8],
     name: &DeckName,
     seen: Seen,
     at: u64,
     card: &Card,
-) -> Result<(), AllocError>
-    ensures { OnOk result (text.new ≡ text.old ++ (verb.now ++ name_and_seen name.now seen (behind_a_blank (decimal at ++ behind_a_blank card.now)))) }
+)
+    ensures { text.new ≡ text.old ++ (verb.now ++ name_and_seen name.now seen (behind_a_blank (decimal at ++ behind_a_blank card.now))) }
 {
-    push_target_and_number(text, verb, name, seen, at)?;
-    push_word(text, card.as_slice())
+    push_target_and_number(text, verb, name, seen, at);
+    push_word(text, card.as_slice());
 }
 
 /// Appends an edit as a line of a batch.
-fn push_line_in_batch(text: &mut Text, edit: &Edit) -> Result<(), AllocError>
-    ensures { OnOk result (text.new ≡ text.old ++ line_in_batch edit.now) }
+fn push_line_in_batch(text: &mut Piece, edit: &Edit)
+    ensures { text.new ≡ text.old ++ line_in_batch edit.now }
 {
     match edit {
         Edit::Insert { at, card } => push_verb_and_card(text, b"INS", *at, card),
@@ -118,8 +112,8 @@ fn push_line_in_batch(text: &mut Text, edit: &Edit) -> Result<(), AllocError>
 }
 
 /// Appends an edit of a deck.
-fn push_edit(text: &mut Text, name: &DeckName, seen: Seen, edit: &Edit) -> Result<(), AllocError>
-    ensures { OnOk result (text.new ≡ text.old ++ line_of_edit name.now seen edit.now) }
+fn push_edit(text: &mut Piece, name: &DeckName, seen: Seen, edit: &Edit)
+    ensures { text.new ≡ text.old ++ line_of_edit name.now seen edit.now }
 {
     match edit {
         Edit::Insert { at, card } => push_target_and_card(text, b"INS", name, seen, *at, card),
@@ -129,13 +123,8 @@ fn push_edit(text: &mut Text, name: &DeckName, seen: Seen, edit: &Edit) -> Resul
 }
 
 /// Appends edits of a deck as the line that asked for them.
-fn push_edits_asked(
-    text: &mut Text,
-    name: &DeckName,
-    seen: Seen,
-    edits: &Edits,
-) -> Result<(), AllocError>
-    ensures { OnOk result (text.new ≡ text.old ++ line_of_edits name.now seen edits.now) }
+fn push_edits_asked(text: &mut Piece, name: &DeckName, seen: Seen, edits: &Edits)
+    ensures { text.new ≡ text.old ++ line_of_edits name.now seen edits.now }
 {
     match edits {
         Edits::One(edit) => push_edit(text, name, seen, edit),
@@ -146,8 +135,8 @@ fn push_edits_asked(
 }
 
 /// Appends a change as the line that asked for it.
-fn push_change(text: &mut Text, change: &Change) -> Result<(), AllocError>
-    ensures { OnOk result (text.new ≡ text.old ++ line_of_change change.now) }
+fn push_change(text: &mut Piece, change: &Change)
+    ensures { text.new ≡ text.old ++ line_of_change change.now }
 {
     match change {
         Change::AddDeck(deck) => push_verb_and_name(text, b"ADD", &deck.name),
@@ -162,34 +151,34 @@ fn push_change(text: &mut Text, change: &Change) -> Result<(), AllocError>
 }
 
 /// Appends what a record shows.
-fn push_entry(text: &mut Text, entry: &Entry) -> Result<(), AllocError>
-    ensures { OnOk result (text.new ≡ text.old ++ line_of_entry entry.now) }
+fn push_entry(text: &mut Piece, entry: &Entry)
+    ensures { text.new ≡ text.old ++ line_of_entry entry.now }
 {
     match entry {
-        Entry::Begun => text.push_bytes(b"BEGIN"),
+        Entry::Begun => text.put(b"BEGIN"),
         Entry::Made(change) => push_change(text, change),
     }
 }
 
 /// Appends a record as one line, and its line feed.
-fn push_log_line(text: &mut Text, record: &Record) -> Result<(), AllocError>
-    ensures { OnOk result (text.new ≡ text.old ++ ended (log_line «record».now)) }
+fn push_log_line(text: &mut Piece, record: &Record)
+    ensures { text.new ≡ text.old ++ ended (log_line «record».now) }
 {
     let mut buffer = Buffer::new();
-    text.push_bytes(buffer.format(record.version).as_bytes())?;
-    push_word(text, record.moment.as_slice())?;
-    push_word(text, record.by.as_slice())?;
-    text.push_byte(b' ')?;
-    push_entry(text, &record.entry)?;
-    text.push_byte(b'\n')
+    text.put(buffer.format(record.version).as_bytes());
+    push_word(text, record.moment.as_slice());
+    push_word(text, record.by.as_slice());
+    text.put(b" ");
+    push_entry(text, &record.entry);
+    text.put(b"\n");
 }
 
 /// Appends the first line of a record, and its line feed.
-fn push_first_line(text: &mut Text, record: &Record) -> Result<(), AllocError>
-    ensures { OnOk result (text.new ≡ text.old ++ ended (first_line «record».now)) }
+fn push_first_line(text: &mut Piece, record: &Record)
+    ensures { text.new ≡ text.old ++ ended (first_line «record».now) }
 {
-    text.push_bytes(b"RECORD ")?;
-    push_log_line(text, record)
+    text.put(b"RECORD ");
+    push_log_line(text, record);
 }
 
 /// A record as one line, with its line feed: the version, when it was made, the name of the session, and
@@ -197,85 +186,86 @@ fn push_first_line(text: &mut Text, record: &Record) -> Result<(), AllocError>
 pub fn log_line(alloc: Global, record: &Record) -> Result<Text, AllocError>
     ensures { IfOk result (λ text. text ≡ ended (log_line «record».now)) }
 {
-    let mut text = Text::new(alloc);
-    push_log_line(&mut text, record)?;
-    Ok(text)
+    let mut text = Piece::new(alloc);
+    push_log_line(&mut text, record);
+    text.into_text()
 }
 
 /// Appends the lines of cards.
-fn push_cards(text: &mut Text, cards: &[Card]) -> Result<(), AllocError>
-    ensures { OnOk result (text.new ≡ text.old ++ text_of_lines (map behind_a_blank cards.now)) }
+fn push_cards(text: &mut Piece, cards: &[Card])
+    ensures { text.new ≡ text.old ++ text_of_lines (map behind_a_blank cards.now) }
 {
     for card in cards {
-        push_word(text, card.as_slice())?;
-        text.push_byte(b'\n')?;
+        push_word(text, card.as_slice());
+        text.put(b"\n");
     }
-    Ok(())
 }
 
 /// Appends the lines of edits.
-fn push_edits(text: &mut Text, edits: &[Edit]) -> Result<(), AllocError>
-    ensures { OnOk result (text.new ≡ text.old ++ text_of_lines (map behind_a_blank (map line_in_batch edits.now))) }
+fn push_edits(text: &mut Piece, edits: &[Edit])
+    ensures { text.new ≡ text.old ++ text_of_lines (map behind_a_blank (map line_in_batch edits.now)) }
 {
     for edit in edits {
-        text.push_byte(b' ')?;
-        push_line_in_batch(text, edit)?;
-        text.push_byte(b'\n')?;
+        text.put(b" ");
+        push_line_in_batch(text, edit);
+        text.put(b"\n");
     }
-    Ok(())
 }
 
 /// Appends the lines of several edits; one stands on the line that asked for it.
-fn push_lines_of_edits(text: &mut Text, edits: &Edits) -> Result<(), AllocError>
-    ensures { OnOk result (text.new ≡ text.old ++ text_of_lines (map behind_a_blank (lines_of_edits edits.now))) }
+fn push_lines_of_edits(text: &mut Piece, edits: &Edits)
+    ensures { text.new ≡ text.old ++ text_of_lines (map behind_a_blank (lines_of_edits edits.now)) }
 {
     match edits {
-        Edits::One(_) => Ok(()),
+        Edits::One(_) => {}
         Edits::Batch(edits) => push_edits(text, edits.as_slice()),
     }
 }
 
 /// Appends the lines that belong to a change.
-fn push_lines_behind_change(text: &mut Text, change: &Change) -> Result<(), AllocError>
-    ensures { OnOk result (text.new ≡ text.old ++ text_of_lines (map behind_a_blank (lines_behind_change change.now))) }
+fn push_lines_behind_change(text: &mut Piece, change: &Change)
+    ensures { text.new ≡ text.old ++ text_of_lines (map behind_a_blank (lines_behind_change change.now)) }
 {
     match change {
         Change::AddDeck(deck) => push_cards(text, deck.cards.as_slice()),
         Change::PutDeck { deck, .. } => push_cards(text, deck.cards.as_slice()),
         Change::EditDeck { edits, .. } => push_lines_of_edits(text, edits),
-        Change::DropDeck { .. } => Ok(()),
-        Change::Undo { .. } => Ok(()),
+        Change::DropDeck { .. } => {}
+        Change::Undo { .. } => {}
     }
 }
 
 /// Appends the lines that belong to what a record shows.
-fn push_lines_behind(text: &mut Text, entry: &Entry) -> Result<(), AllocError>
-    ensures { OnOk result (text.new ≡ text.old ++ text_of_lines (map behind_a_blank (lines_behind entry.now))) }
+fn push_lines_behind(text: &mut Piece, entry: &Entry)
+    ensures { text.new ≡ text.old ++ text_of_lines (map behind_a_blank (lines_behind entry.now)) }
 {
     match entry {
-        Entry::Begun => Ok(()),
+        Entry::Begun => {}
         Entry::Made(change) => push_lines_behind_change(text, change),
     }
 }
 
-/// Appends the line of a check sum over a text, and its line feed.
-fn push_sum(text: &mut Text) -> Result<(), AllocError>
-    ensures { OnOk result (text.new ≡ text.old ++ ended (sum_line (check_sum text.old))) }
+/// A text with the line of its check sum behind it, and its line feed.
+fn with_sum(alloc: Global, front: Piece) -> Result<Text, AllocError>
+    ensures { IfOk result (λ text. text ≡ front ++ ended (sum_line (check_sum front))) }
 {
+    let mut text = front.into_text()?;
     let sum = sum_over(FIRST_SUM, text.as_slice());
-    push_verb_and_number(text, b"SUM", u64::from(sum))?;
-    text.push_byte(b'\n')
+    let mut line = Piece::new(alloc);
+    push_verb_and_number(&mut line, b"SUM", u64::from(sum));
+    line.put(b"\n");
+    text.append(line.into_text()?)?;
+    Ok(text)
 }
 
 /// The text of a record.
 pub fn record_text(alloc: Global, record: &Record) -> Result<Text, AllocError>
     ensures { IfOk result (λ text. text ≡ text_of_record «record».now) }
 {
-    let mut text = Text::new(alloc);
-    push_first_line(&mut text, record)?;
-    push_lines_behind(&mut text, &record.entry)?;
-    push_sum(&mut text)?;
-    Ok(text)
+    let mut text = Piece::new(alloc);
+    push_first_line(&mut text, record);
+    push_lines_behind(&mut text, &record.entry);
+    with_sum(alloc, text)
 }
 
 /// The text of the record of a change, from behind its version to in front of its check sum.
@@ -287,14 +277,14 @@ pub(crate) fn text_behind_version(
 ) -> Result<Text, AllocError>
     ensures { IfOk result (λ text. text ≡ text_behind_version moment.now by.now change.now) }
 {
-    let mut text = Text::new(alloc);
-    push_word(&mut text, moment.as_slice())?;
-    push_word(&mut text, by.as_slice())?;
-    text.push_byte(b' ')?;
-    push_change(&mut text, change)?;
-    text.push_byte(b'\n')?;
-    push_lines_behind_change(&mut text, change)?;
-    Ok(text)
+    let mut text = Piece::new(alloc);
+    push_word(&mut text, moment.as_slice());
+    push_word(&mut text, by.as_slice());
+    text.put(b" ");
+    push_change(&mut text, change);
+    text.put(b"\n");
+    push_lines_behind_change(&mut text, change);
+    text.into_text()
 }
 
 /// The text of a record, by its version and the text behind it.
@@ -305,10 +295,9 @@ pub(crate) fn text_with_version(
 ) -> Result<Text, AllocError>
     ensures { IfOk result (λ text. text ≡ text_with_version version behind.now) }
 {
-    let mut text = Text::new(alloc);
-    text.push_bytes(b"RECORD")?;
-    push_number(&mut text, version)?;
-    text.push_bytes(behind)?;
-    push_sum(&mut text)?;
-    Ok(text)
+    let mut text = Piece::new(alloc);
+    text.put(b"RECORD");
+    push_number(&mut text, version);
+    text.put(behind);
+    with_sum(alloc, text)
 }
