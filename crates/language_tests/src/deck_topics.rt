@@ -1,10 +1,13 @@
 //! Whole decks: how they are sized and coded, and the records of decks that are edited.
+ghost use Rattle.std.specs.Prelude.{◌≤◌, length};
+ghost use Rattle.deck_assembler.specs.Joins.SizedDecks.{IsSizedDeck};
 
 use crate::card_topics::{edits_of, push_cards, repeated_cards};
 use crate::expression_topics::form;
 use crate::item_topics::item;
 use crate::outputs::Answer;
 use crate::statement_topics::{bases_shown, lengths_shown, meter, position_shown, words};
+use cards::Card;
 use deck_assembler::{Piece, SizedDeck, object_parts};
 use deck_objects::{CodedLine, Line, LineFields, ObjectParts};
 use edit_core::Kept;
@@ -17,18 +20,44 @@ pub fn deck(answer: &mut Answer, topic: &str, text: &str) -> Result<(), AllocErr
     let cards = repeated_cards(answer.alloc, text)?;
     let mut done = work_meter::begin();
     let deck = SizedDeck::new(answer.alloc, answer.keys, &cards, &mut done)?;
+    sized_deck(answer, topic, &cards, &deck, &mut done)
+}
+
+/// What it shows of these cards, whose statements are sized.
+fn sized_deck(
+    answer: &mut Answer,
+    topic: &str,
+    cards: &[Card],
+    deck: &SizedDeck,
+    done: &mut Meter,
+) -> Result<(), AllocError>
+    requires { IsSizedDeck cards.now deck.now }
+{
     match topic {
         "sized_decks" => {
-            sized(answer, &deck);
-            meter(answer, &done);
+            sized(answer, deck);
+            meter(answer, done);
         }
-        "symbols_of_decks" => values(answer, &deck),
+        "symbols_of_decks" => values(answer, deck),
         _ if cards.len() > 20_000 => answer.word("too many"),
-        _ => {
-            let parts = object_parts(answer.alloc, answer.keys, &cards, &deck, &mut done)?;
-            object(answer, topic, &parts, &done);
-        }
+        _ => return parts(answer, topic, cards, deck, done),
     }
+    Ok(())
+}
+
+/// What it shows of the parts of their object.
+fn parts(
+    answer: &mut Answer,
+    topic: &str,
+    cards: &[Card],
+    deck: &SizedDeck,
+    done: &mut Meter,
+) -> Result<(), AllocError>
+    requires few { length cards.now ≤ 20000 }
+    requires sized { IsSizedDeck cards.now deck.now }
+{
+    let parts = object_parts(answer.alloc, answer.keys, cards, deck, done)?;
+    object(answer, topic, &parts, done);
     Ok(())
 }
 
@@ -148,6 +177,7 @@ pub fn record(answer: &mut Answer, text: &str) -> Result<(), AllocError> {
     answer.either(kept.is_spent(), "spent", "-");
     meter(answer, &done);
     finished(answer, &kept, false);
+    kept.free();
     Ok(())
 }
 
@@ -191,5 +221,7 @@ pub fn record_edits(answer: &mut Answer, text: &str, card: &[u8]) -> Result<(), 
     let mut cards = Vec::new(answer.alloc);
     push_cards(&mut cards, number(count).min(20_000), "*A")?;
     let mut kept = new_record(answer.alloc, name_of("M")?, cards)?;
-    make_edits(answer, &mut kept, words, card)
+    let made = make_edits(answer, &mut kept, words, card);
+    kept.free();
+    made
 }

@@ -22,13 +22,10 @@ pub fn edited_deck(answer: &mut Answer, topic: &str, text: &str) -> Result<(), A
     let name = name_of(NAME)?;
     let mut cards = repeated_cards(answer.alloc, deck)?;
     let mut kept = new_record(answer.alloc, name, copied_cards(answer.alloc, &cards)?)?;
-    edited(
-        answer,
-        &mut kept,
-        &mut cards,
-        edits,
-        topic == "counted_edits",
-    )
+    let is_counted = topic == "counted_edits";
+    let done = edited(answer, &mut kept, &mut cards, edits, is_counted);
+    kept.free();
+    done
 }
 
 /// Makes the edits of these lines, one after the other, in the record and of the cards, and looks after each.
@@ -133,15 +130,24 @@ fn is_as_new(alloc: Global, kept: &Kept, cards: &[Card]) -> Result<bool, AllocEr
     let Ok(object) = kept.finish() else {
         return Ok(false);
     };
-    let found = published(alloc, object)?;
+    let found = linked(alloc, object)?;
     let new = new_object(alloc, name_of(NAME)?, copied_cards(alloc, cards)?)?;
-    let new = published(alloc, new)?;
-    Ok(found.listing() == new.listing() && found.image() == new.image())
+    Ok(found == linked(alloc, new)?)
 }
 
-/// The link of one deck.
-fn published(alloc: Global, object: SharedObject) -> Result<Publication, AllocError> {
+/// The listing and the image of the link of one deck.
+fn linked(alloc: Global, object: SharedObject) -> Result<Vec<u8>, AllocError> {
     let mut objects = Vec::new(alloc);
     objects.push(object)?;
-    link(alloc, fixed_keys()?, objects, 1)
+    let published = link(alloc, fixed_keys()?, objects, 1)?;
+    let texts = texts_of(alloc, &published);
+    drop(published);
+    texts
+}
+
+/// The listing of a publication, and its image behind it.
+fn texts_of(alloc: Global, published: &Publication) -> Result<Vec<u8>, AllocError> {
+    let mut texts = Vec::from_slice(alloc, published.listing())?;
+    texts.extend_from_slice(published.image())?;
+    Ok(texts)
 }

@@ -309,9 +309,15 @@ pub fn state(answer: &mut Answer, text: &str) -> Result<(), AllocError> {
 /// The rows of the blocks behind cards, with the literals that the first line has.
 pub fn bases(answer: &mut Answer, text: &str) -> Result<(), AllocError> {
     let (words, cards) = cut_line(text);
+    let blocks = blocks_behind(answer, cards, false)?;
     let literals = literals_of(answer.alloc, answer.keys, words)?;
-    let lengths = blocks_behind(answer, cards, false)?.lengths;
-    bases_shown(answer, &Bases::new(answer.alloc, &lengths, &literals)?);
+    bases_of(answer, &blocks.lengths, &literals)
+}
+
+/// The rows of blocks of these lengths, with these literals.
+fn bases_of(answer: &mut Answer, lengths: &Lengths, literals: &Literals) -> Result<(), AllocError> {
+    let bases = Bases::new(answer.alloc, lengths, literals)?;
+    bases_shown(answer, &bases);
     Ok(())
 }
 
