@@ -153,7 +153,7 @@ fn push_image(desk: &mut Desk, answer: &mut Answer) {
         Reply::Shown(shown) => push_publication(answer, shown.publication()),
         other => push_reply(answer, other),
     }
-    drop(reply);
+    reply.free();
 }
 
 /// A reply of the desk.
@@ -187,7 +187,7 @@ pub fn push_told(answer: &mut Answer, reply: Reply) {
         }
         other => {
             push_reply(answer, &other);
-            drop(other);
+            other.free();
         }
     }
 }

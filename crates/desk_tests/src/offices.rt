@@ -244,7 +244,7 @@ fn meet_at_desk<R: AllocGlobal + Wait>(rt: &R, answer: &mut Answer) -> Got<()> {
     answer.keep(done);
     let desk = closed_in_turn(office, first, second, answer)?;
     answer.number(", version ", desk.version());
-    drop(desk);
+    desk.free();
     Ok(())
 }
 

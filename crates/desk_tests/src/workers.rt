@@ -133,7 +133,7 @@ const MANY: u32 = 10_001;
 fn add_two<D: Called>(desk: &mut D, alloc: Global, lines: &str) -> Got<()> {
     for of in &["A", "B"] {
         let call = addition(alloc, of, lines)?;
-        drop(ask(desk, call));
+        ask(desk, call).free();
     }
     Ok(())
 }

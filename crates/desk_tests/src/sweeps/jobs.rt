@@ -40,7 +40,7 @@ pub fn told_in(reply: &Reply) -> Told {
 /// The same of a reply that is then freed.
 pub fn told_of(reply: Reply) -> Told {
     let told = told_in(&reply);
-    drop(reply);
+    reply.free();
     told
 }
 
@@ -96,7 +96,7 @@ fn offer_all(desk: &mut Desk, lease: u64, publication: &SharedPublication) -> (T
                 place,
                 object,
             };
-            drop(ask(desk, Call::Do(offered)));
+            ask(desk, Call::Do(offered)).free();
         }
     }
     publish(desk, lease)
@@ -108,7 +108,7 @@ fn end_made(desk: &mut Desk, made: Made) -> (Told, bool) {
     match made {
         Made::Link { lease, publication } => {
             let ended = offer_all(desk, lease, &publication);
-            drop(publication);
+            publication.free();
             ended
         }
         other => (told_of(ask(desk, other.into_call())), false),

@@ -189,7 +189,7 @@ impl<'p> Tries for Outputs<'p> {
         match build_of(alloc, &mut Counted::new(self.input)) {
             Ok(mut built) => {
                 let came = self.write(alloc, failing, &mut built);
-                drop(built);
+                built.free();
                 Ok(came)
             }
             Err(AsmFault::OutOfMemory) => Ok(Came::Lacking),

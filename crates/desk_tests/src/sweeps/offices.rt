@@ -22,7 +22,7 @@ fn open_once(scene: &mut Scene) -> Got<(Office<Desk>, SeatList<Desk>)>
     match Office::open(scene.alloc, desk, 2) {
         Ok(opened) => Ok(opened),
         Err(failed) => {
-            drop(mem::replace(&mut scene.desk, failed.value));
+            mem::replace(&mut scene.desk, failed.value).free();
             Err(AllocError)
         }
     }
@@ -135,7 +135,7 @@ pub fn office<R: Wait>(rt: &R, scene: &mut Scene) -> Got<()> {
     scene.load_first();
     let (office, seats) = open(scene)?;
     let desk = use_office(rt, scene, office, seats)?;
-    drop(mem::replace(&mut scene.desk, desk));
+    mem::replace(&mut scene.desk, desk).free();
     scene.journal.made("close", true);
     scene.settle_as_asm()
 }

@@ -63,7 +63,7 @@ fn renew(scene: &mut Scene, kept: &mut Kept, before: &[Card], edit: &Edit) -> Go
     scene.journal.refused("edit", holds);
     let cards = copied_cards(scene.alloc, before)?;
     let renewed = new_record(scene.alloc, kept.name().copied(), cards)?;
-    drop(mem::replace(kept, renewed));
+    mem::replace(kept, renewed).free();
     Ok(())
 }
 
@@ -129,7 +129,7 @@ fn finish_edited(scene: &mut Scene, kept: &mut Kept, input: &mut Vec<u8>) -> Got
 fn edited(scene: &mut Scene, deck: &DeckText, input: &mut Vec<u8>) -> Got<SharedObject> {
     let mut kept = record(scene, deck)?;
     let object = finish_edited(scene, &mut kept, input);
-    drop(kept);
+    kept.free();
     object
 }
 
@@ -189,7 +189,7 @@ fn text_twice(scene: &mut Scene, call: Called, object: &SharedObject) -> Got<()>
 fn object(scene: &mut Scene, deck: &DeckText) -> Got<SharedObject> {
     let kept = record(scene, deck)?;
     let object = finish(scene, &kept);
-    drop(kept);
+    kept.free();
     object
 }
 
