@@ -23,9 +23,18 @@ impl DeckWords {
     pub fn new(alloc: Global, keys: RandomState, cards: &[Card]) -> Result<DeckWords, AllocError> {
         let mut meter = work_meter::begin();
         let deck = SizedDeck::new(alloc, keys, cards, &mut meter)?;
-        let bases = Bases::new(alloc, deck.lengths(), deck.literals())?;
-        let first = FirstCards::new(alloc, keys, &deck)?;
-        Ok(DeckWords { deck, bases, first })
+        match places_of(alloc, keys, &deck) {
+            Ok((bases, first)) => Ok(DeckWords { deck, bases, first }),
+            Err(error) => {
+                deck.free();
+                Err(error)
+            }
+        }
+    }
+
+    /// Frees it. Crates above call this in place of `drop` (CONTRIBUTING).
+    pub fn free(self) {
+        drop(self);
     }
 
     /// The statement with this number, counted from 0; none behind END.
@@ -33,4 +42,15 @@ impl DeckWords {
         let piece = self.deck.pieces().get(number / PIECE_STATEMENTS)?;
         piece.statements().get(number % PIECE_STATEMENTS)
     }
+}
+
+/// Where the blocks of a deck stand, and the cards that its statements begin with.
+fn places_of(
+    alloc: Global,
+    keys: RandomState,
+    deck: &SizedDeck,
+) -> Result<(Bases, FirstCards), AllocError> {
+    let bases = Bases::new(alloc, deck.lengths(), deck.literals())?;
+    let first = FirstCards::new(alloc, keys, deck)?;
+    Ok((bases, first))
 }

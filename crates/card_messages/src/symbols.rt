@@ -246,6 +246,18 @@ pub fn push_symbols(
 ) -> Result<(), AllocError> {
     let mut meter = work_meter::begin();
     let sized = SizedDeck::new(alloc, keys, cards, &mut meter)?;
-    let mentions = mentions_of(alloc, cards, &sized)?;
-    push_lines(text, &mentions.found, &sized)
+    let pushed = push_mentions(alloc, text, cards, &sized);
+    sized.free();
+    pushed
+}
+
+/// Writes the lines of the symbols of these cards, whose statements are sized.
+fn push_mentions(
+    alloc: Global,
+    text: &mut Text,
+    cards: &[Card],
+    sized: &SizedDeck,
+) -> Result<(), AllocError> {
+    let mentions = mentions_of(alloc, cards, sized)?;
+    push_lines(text, &mentions.found, sized)
 }

@@ -79,7 +79,10 @@ fn tell_object<R: AllocGlobal + Eprint, I: FileColumns>(
         return;
     }
     match DeckWords::new(rt.alloc(), telling.keys, object.cards()) {
-        Ok(deck) => tell_deck(rt, &deck, object, first, telling),
+        Ok(deck) => {
+            tell_deck(rt, &deck, object, first, telling);
+            deck.free();
+        }
         Err(_) => {
             let _ = eprintln!(rt; "compass: OutOfMemory: the listing has what is flagged");
         }

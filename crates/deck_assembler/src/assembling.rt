@@ -54,5 +54,7 @@ pub fn assemble(
     ensures coded_all { OnOk result (RisesBy (length (up_to_end (statements_of (reverse cards.items)))) meter.old.coded meter.new.coded) }
 {
     let sized = SizedDeck::new(alloc, keys, &cards, meter)?;
-    object_of(alloc, keys, name, cards, &sized, meter)
+    let made = object_of(alloc, keys, name, cards, &sized, meter);
+    sized.free();
+    made
 }

@@ -31,6 +31,20 @@ pub struct EditedDeck {
     pub former: Former,
 }
 
+impl EditedDeck {
+    /// The deck; what is needed of the one before is freed.
+    pub fn into_deck(self) -> SizedDeck
+        ensures { result ≡ self.deck }
+    {
+        self.deck
+    }
+
+    /// Frees it. Crates above call this in place of `drop` (CONTRIBUTING).
+    pub fn free(self) {
+        drop(self);
+    }
+}
+
 /// The lines of an object, if two kinds of deck are one, and else none.
 fn lines_alike(lines: &[Line], old: DeckKind, kind: DeckKind) -> &[Line]
     ensures alike { old ≡ kind → result.now ≡ lines.now }

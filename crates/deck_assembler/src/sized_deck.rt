@@ -190,6 +190,11 @@ impl SizedDeck {
     {
         &self.lengths
     }
+
+    /// Frees it. Crates above call this in place of `drop` (CONTRIBUTING).
+    pub fn free(self) {
+        drop(self);
+    }
 }
 
 /// The statements of a deck, and what coding needs of it besides.

@@ -44,4 +44,9 @@ impl SharedObject {
     {
         &self.object
     }
+
+    /// Frees it. Crates above call this in place of `drop` (CONTRIBUTING).
+    pub fn free(self) {
+        drop(self);
+    }
 }

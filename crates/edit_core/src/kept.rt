@@ -86,8 +86,13 @@ impl Kept {
         ensures coded_all { OnOk result (RisesBy (length (up_to_end (statements_of (reverse cards.items)))) meter.old.coded meter.new.coded) }
     {
         let sized = SizedDeck::new(alloc, keys, &cards, meter)?;
-        let object = object_of(alloc, keys, name, cards, &sized, meter)?;
-        Kept::of(alloc, object, sized)
+        match object_of(alloc, keys, name, cards, &sized, meter) {
+            Ok(object) => Kept::of(alloc, object, sized),
+            Err(error) => {
+                sized.free();
+                Err(error)
+            }
+        }
     }
 
     /// The record of an object and of the sized deck of its cards.
@@ -96,12 +101,18 @@ impl Kept {
         requires deck { IsSizedDeck object.cards sized }
         ensures { IfOk result (IsRecordOf object.name object.cards) }
     {
-        let pieces = piece_counts(alloc, sized.pieces())?;
-        Ok(Kept {
-            object,
-            sized: Some(sized),
-            pieces,
-        })
+        match piece_counts(alloc, sized.pieces()) {
+            Ok(pieces) => Ok(Kept {
+                object,
+                sized: Some(sized),
+                pieces,
+            }),
+            Err(error) => {
+                object.free();
+                sized.free();
+                Err(error)
+            }
+        }
     }
 
     /// Makes an edit. Where the record is spent, or else where the edit doesn't apply, it says so and
@@ -309,10 +320,21 @@ impl Kept {
             before: cards_before_all(edits),
             behind: cards_behind_all(edits, own.len()),
         };
-        let cards = edited_copy(alloc, own, edits)?;
+        let cards = match edited_copy(alloc, own, edits) {
+            Ok(cards) => cards,
+            Err(error) => {
+                sized.free();
+                return Err(error);
+            }
+        };
         let edited = sized.edited(alloc, keys, old, &cards, meter)?;
-        let object = edited_object(alloc, keys, self.object.object(), cards, &edited, meter)?;
-        Kept::of(alloc, object, edited.deck)
+        match edited_object(alloc, keys, self.object.object(), cards, &edited, meter) {
+            Ok(object) => Kept::of(alloc, object, edited.into_deck()),
+            Err(error) => {
+                edited.free();
+                Err(error)
+            }
+        }
     }
 
     pub fn name(&self) -> &DeckName

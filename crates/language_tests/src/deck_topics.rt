@@ -20,7 +20,9 @@ pub fn deck(answer: &mut Answer, topic: &str, text: &str) -> Result<(), AllocErr
     let cards = repeated_cards(answer.alloc, text)?;
     let mut done = work_meter::begin();
     let deck = SizedDeck::new(answer.alloc, answer.keys, &cards, &mut done)?;
-    sized_deck(answer, topic, &cards, &deck, &mut done)
+    let shown = sized_deck(answer, topic, &cards, &deck, &mut done);
+    deck.free();
+    shown
 }
 
 /// What it shows of these cards, whose statements are sized.

@@ -236,11 +236,20 @@ fn deck_messages(alloc: Global, keys: RandomState, object: &Object) -> Result<Te
     ensures { IfOk result (AreMessages object.now.name (deck_letters object.now)) }
 {
     let words = DeckWords::new(alloc, keys, object.cards())?;
+    let told = messages_by(alloc, &words, object);
+    words.free();
+    told
+}
+
+/// The same, of a deck with these words.
+fn messages_by(alloc: Global, words: &DeckWords, object: &Object) -> Result<Text, AllocError>
+    ensures { IfOk result (AreMessages object.now.name (deck_letters object.now)) }
+{
     let mut text = Text::new(alloc);
     push_statements(
         alloc,
         &mut text,
-        &words,
+        words,
         object.name(),
         object.cards(),
         object.parts().lines.as_slice(),

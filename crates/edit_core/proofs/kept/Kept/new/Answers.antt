@@ -8,13 +8,13 @@ always : {T E P : Type 0} (result : Result T E) → P → OnOk result P
 always (Ok value) holds = holds
 always (Err error) holds = tt
 
-pub returns-clause-sized_all : goal.returns-clause-sized_all
-returns-clause-sized_all c =
+pub returns-in-Ok-clause-sized_all : goal.returns-in-Ok-clause-sized_all
+returns-in-Ok-clause-sized_all c =
     always c.of.result
     (subst (λ (n : ℕ). RisesBy (length (up_to_end (statements_of (reverse c.args.cards.items)))) c.args.meter.now.sized n) (sym c.object_of.ensures.sized)
     (subst (λ (cards : List Card). RisesBy (length (up_to_end (statements_of (reverse cards)))) c.args.meter.now.sized c.new.new.meter.sized) c.deref.ensures.value c.in_ok-sized.ensures.all))
 
-pub returns-clause-coded_all : goal.returns-clause-coded_all
-returns-clause-coded_all c =
+pub returns-in-Ok-clause-coded_all : goal.returns-in-Ok-clause-coded_all
+returns-in-Ok-clause-coded_all c =
     always c.of.result
-    (subst (λ (n : ℕ). RisesBy (length (up_to_end (statements_of (reverse c.args.cards.items)))) n c.object_of.new.meter.coded) c.new.ensures.coded c.in_ok-object.ensures.coded_all)
+    (subst (λ (n : ℕ). RisesBy (length (up_to_end (statements_of (reverse c.args.cards.items)))) n c.object_of.new.meter.coded) c.new.ensures.coded c.in-Ok.ensures.coded_all)

@@ -12,14 +12,14 @@ edited-requires-clause-deck c = subst (λ (cards : List Card). IsSizedDeck cards
 pub edited-requires-clause-before : goal.edited-requires-clause-before
 edited-requires-clause-before c =
     let n = c.cards_before_all.result in
-    let now = c.deref.ensures.value ∙ c.in_ok-cards.ensures in
+    let now = c.deref.ensures.value ∙ c.in-Ok.ensures in
     let apply = subst (λ (cards : List Card). first_fault c.args.edits.now cards ≡ None) (sym c.cards-own.ensures.cards) c.requires.apply in
     sym (ap (take n) now ∙ front-all n c.args.edits.now c.cards-own.result.now c.cards_before_all.ensures.all apply)
 
 pub edited-requires-clause-behind : goal.edited-requires-clause-behind
 edited-requires-clause-behind c =
     let own = c.cards-own.result.now in
-    let now = c.deref.ensures.value ∙ c.in_ok-cards.ensures in
+    let now = c.deref.ensures.value ∙ c.in-Ok.ensures in
     let apply = subst (λ (cards : List Card). first_fault c.args.edits.now cards ≡ None) (sym c.cards-own.ensures.cards) c.requires.apply in
     let few = subst (λ (cards : List Card). length cards ≤ 20000) (sym c.cards-own.ensures.cards) c.cards-own.ensures.few in
     subst (HaveSameEnd c.cards_behind_all.result own) (sym now)
@@ -27,7 +27,7 @@ edited-requires-clause-behind c =
 
 pub edited_object-requires-clause-few : goal.edited_object-requires-clause-few
 edited_object-requires-clause-few c =
-    let now = c.in_ok-cards.ensures ∙ ap (λ (cards : List Card). edited_by c.args.edits.now cards) c.cards-own.ensures.cards in
+    let now = c.in-Ok.ensures ∙ ap (λ (cards : List Card). edited_by c.args.edits.now cards) c.cards-own.ensures.cards in
     subst (λ (cards : List Card). length cards ≤ 20000) (sym now) (few-all c.args.edits.now c.args.self.now.cards c.requires.apply c.cards-own.ensures.few)
 
 pub edited_object-requires-clause-former : goal.edited_object-requires-clause-former
@@ -40,7 +40,7 @@ pub edited_object-requires-clause-edited : goal.edited_object-requires-clause-ed
 edited_object-requires-clause-edited c =
     let former = c.in_ok-edited.edited.former in
     let n = former.before in
-    let now = c.in_ok-cards.ensures ∙ ap (λ (cards : List Card). edited_by c.args.edits.now cards) c.cards-own.ensures.cards in
+    let now = c.in-Ok.ensures ∙ ap (λ (cards : List Card). edited_by c.args.edits.now cards) c.cards-own.ensures.cards in
     let unchanged = front-all c.cards_before_all.result c.args.edits.now c.args.self.now.cards c.cards_before_all.ensures.all c.requires.apply in
     let own = c.cards-own.ensures.cards ∙ sym (ap (λ (r : Record). r.cards) c.self.view_is) ∙ sym (ap (λ (d : Deck). d.cards) c.object.ensures) in
     record {
@@ -52,14 +52,14 @@ edited_object-requires-clause-edited c =
 
 pub of-requires-clause-few : goal.of-requires-clause-few
 of-requires-clause-few c =
-    let now = c.in_ok-cards.ensures ∙ ap (λ (cards : List Card). edited_by c.args.edits.now cards) c.cards-own.ensures.cards in
+    let now = c.in-Ok.ensures ∙ ap (λ (cards : List Card). edited_by c.args.edits.now cards) c.cards-own.ensures.cards in
     let few = few-all c.args.edits.now c.args.self.now.cards c.requires.apply c.cards-own.ensures.few in
-    let made = ap (λ (d : Deck). length d.cards) c.in_ok-object.ensures.object in
+    let made = ap (λ (d : Deck). length d.cards) c.in-Ok-edited_object.ensures.object in
     let own = ap (λ (cards : List Card). length cards) now in
     omega (arith, few, made, own)
 
-pub returns-in_err-cards-clause-few : goal.returns-in_err-cards-clause-few
-returns-in_err-cards-clause-few c = record {
+pub returns-in-Err-clause-few : goal.returns-in-Err-clause-few
+returns-in-Err-clause-few c = record {
   sized_rises = first_of (search rules, cc);
   sized_few = first_of (search rules, cc);
   coded_rises = first_of (search rules, cc);
@@ -74,42 +74,42 @@ returns-in_err-edited-clause-few c = record {
   coded_few = first_of (search rules, cc);
 }
 
-pub returns-in_err-object-clause-few : goal.returns-in_err-object-clause-few
-returns-in_err-object-clause-few c = record {
+pub returns-in-Err-edited_object-clause-few : goal.returns-in-Err-edited_object-clause-few
+returns-in-Err-edited_object-clause-few c = record {
   sized_rises = first_of (search rules, cc);
   sized_few = first_of (search rules, cc);
   coded_rises = first_of (search rules, cc);
   coded_few = first_of (search rules, cc);
 }
 
-pub returns-clause-few : goal.returns-clause-few
-returns-clause-few c = record {
+pub returns-in-Ok-edited_object-clause-few : goal.returns-in-Ok-edited_object-clause-few
+returns-in-Ok-edited_object-clause-few c = record {
   sized_rises = first_of (search rules, cc);
   sized_few = first_of (search rules, cc);
   coded_rises = first_of (search rules, cc);
   coded_few = first_of (search rules, cc);
 }
 
-pub returns-in_err-cards-clause-sized_front : goal.returns-in_err-cards-clause-sized_front
-returns-in_err-cards-clause-sized_front c = front-still c.args.edits.now c.args.self.now.cards c.args.meter.now.sized
+pub returns-in-Err-clause-sized_front : goal.returns-in-Err-clause-sized_front
+returns-in-Err-clause-sized_front c = front-still c.args.edits.now c.args.self.now.cards c.args.meter.now.sized
 
 pub returns-in_err-edited-clause-sized_front : goal.returns-in_err-edited-clause-sized_front
 returns-in_err-edited-clause-sized_front c =
-    (front-edited c.args.edits.now c.cards-own.result.now c.args.self.now.cards _ c.cards_before_all.result _ _ c.cards-own.ensures.cards (c.deref.ensures.value ∙ c.in_ok-cards.ensures)
+    (front-edited c.args.edits.now c.cards-own.result.now c.args.self.now.cards _ c.cards_before_all.result _ _ c.cards-own.ensures.cards (c.deref.ensures.value ∙ c.in-Ok.ensures)
     c.cards_before_all.ensures.most c.cards-own.ensures.few c.edited.ensures.counts.front)
 
-pub returns-in_err-object-clause-sized_front : goal.returns-in_err-object-clause-sized_front
-returns-in_err-object-clause-sized_front c = subst (RisesBehindFront c.args.edits.now c.args.self.now.cards c.args.meter.now.sized) (sym c.edited_object.ensures.sized)
-    (front-edited c.args.edits.now c.cards-own.result.now c.args.self.now.cards _ c.cards_before_all.result _ _ c.cards-own.ensures.cards (c.deref.ensures.value ∙ c.in_ok-cards.ensures)
+pub returns-in-Err-edited_object-clause-sized_front : goal.returns-in-Err-edited_object-clause-sized_front
+returns-in-Err-edited_object-clause-sized_front c = subst (RisesBehindFront c.args.edits.now c.args.self.now.cards c.args.meter.now.sized) (sym c.edited_object.ensures.sized)
+    (front-edited c.args.edits.now c.cards-own.result.now c.args.self.now.cards _ c.cards_before_all.result _ _ c.cards-own.ensures.cards (c.deref.ensures.value ∙ c.in-Ok.ensures)
     c.cards_before_all.ensures.most c.cards-own.ensures.few c.edited.ensures.counts.front)
 
-pub returns-clause-sized_front : goal.returns-clause-sized_front
-returns-clause-sized_front c = subst (RisesBehindFront c.args.edits.now c.args.self.now.cards c.args.meter.now.sized) (sym c.edited_object.ensures.sized)
-    (front-edited c.args.edits.now c.cards-own.result.now c.args.self.now.cards _ c.cards_before_all.result _ _ c.cards-own.ensures.cards (c.deref.ensures.value ∙ c.in_ok-cards.ensures)
+pub returns-in-Ok-edited_object-clause-sized_front : goal.returns-in-Ok-edited_object-clause-sized_front
+returns-in-Ok-edited_object-clause-sized_front c = subst (RisesBehindFront c.args.edits.now c.args.self.now.cards c.args.meter.now.sized) (sym c.edited_object.ensures.sized)
+    (front-edited c.args.edits.now c.cards-own.result.now c.args.self.now.cards _ c.cards_before_all.result _ _ c.cards-own.ensures.cards (c.deref.ensures.value ∙ c.in-Ok.ensures)
     c.cards_before_all.ensures.most c.cards-own.ensures.few c.edited.ensures.counts.front)
 
-pub returns-in_err-cards-clause-due : goal.returns-in_err-cards-clause-due
-returns-in_err-cards-clause-due c =
+pub returns-in-Err-clause-due : goal.returns-in-Err-clause-due
+returns-in-Err-clause-due c =
     let edits = c.args.edits.now in
     let own = c.cards-own.result.now in
     let cards = c.args.self.now.cards in
@@ -132,12 +132,12 @@ returns-in_err-edited-clause-due c =
     let taken = are-taken edits own cards c.cards_before_all.result c.cards_behind_all.result same c.requires.some c.requires.apply few c.cards_before_all.ensures.all c.cards_before_all.ensures.most
     c.cards_behind_all.ensures.most in
     record {
-      sized = due-edited edits c.cards-own.result.now c.args.self.now.cards _ c.cards_before_all.result c.cards_behind_all.result _ _ c.cards-own.ensures.cards (c.deref.ensures.value ∙ c.in_ok-cards.ensures) taken c.edited.ensures.counts.rises c.edited.ensures.counts.front c.edited.ensures.counts.due;
+      sized = due-edited edits c.cards-own.result.now c.args.self.now.cards _ c.cards_before_all.result c.cards_behind_all.result _ _ c.cards-own.ensures.cards (c.deref.ensures.value ∙ c.in-Ok.ensures) taken c.edited.ensures.counts.rises c.edited.ensures.counts.front c.edited.ensures.counts.due;
       coded = subst (RisesToDueCode edits cards c.args.meter.now.coded) (sym c.edited.ensures.counts.coded) (due-code-still edits cards c.cards_before_all.result c.cards_behind_all.result c.args.meter.now.coded taken);
     }
 
-pub returns-in_err-object-clause-due : goal.returns-in_err-object-clause-due
-returns-in_err-object-clause-due c =
+pub returns-in-Err-edited_object-clause-due : goal.returns-in-Err-edited_object-clause-due
+returns-in-Err-edited_object-clause-due c =
     let edits = c.args.edits.now in
     let own = c.cards-own.result.now in
     let cards = c.args.self.now.cards in
@@ -149,13 +149,13 @@ returns-in_err-object-clause-due c =
     let object = same ∙ sym (ap (λ (r : Record). r.cards) c.self.view_is) ∙ sym (ap (λ (d : Deck). d.cards) c.object.ensures) in
     record {
       sized = subst (RisesToDue edits c.args.self.now.cards c.args.meter.now.sized) (sym c.edited_object.ensures.sized)
-          (due-edited edits c.cards-own.result.now c.args.self.now.cards _ c.cards_before_all.result c.cards_behind_all.result _ _ c.cards-own.ensures.cards (c.deref.ensures.value ∙ c.in_ok-cards.ensures) taken c.edited.ensures.counts.rises c.edited.ensures.counts.front c.edited.ensures.counts.due);
-      coded = due-code-object edits own cards c.deref.result.now _ _ c.cards_before_all.result c.cards_behind_all.result c.in_ok-edited.edited.former c.args.meter.now.coded _ _ same (c.deref.ensures.value ∙ c.in_ok-cards.ensures)
+          (due-edited edits c.cards-own.result.now c.args.self.now.cards _ c.cards_before_all.result c.cards_behind_all.result _ _ c.cards-own.ensures.cards (c.deref.ensures.value ∙ c.in-Ok.ensures) taken c.edited.ensures.counts.rises c.edited.ensures.counts.front c.edited.ensures.counts.due);
+      coded = due-code-object edits own cards c.deref.result.now _ _ c.cards_before_all.result c.cards_behind_all.result c.in_ok-edited.edited.former c.args.meter.now.coded _ _ same (c.deref.ensures.value ∙ c.in-Ok.ensures)
           taken object c.deref.ensures.value c.edited.ensures.counts.coded c.edited_object.ensures.coded_rises edited.before_is edited.kinds edited.tail edited.within c.edited_object.ensures.coded_due;
     }
 
-pub returns-clause-due : goal.returns-clause-due
-returns-clause-due c =
+pub returns-in-Ok-edited_object-clause-due : goal.returns-in-Ok-edited_object-clause-due
+returns-in-Ok-edited_object-clause-due c =
     let edits = c.args.edits.now in
     let own = c.cards-own.result.now in
     let cards = c.args.self.now.cards in
@@ -167,13 +167,13 @@ returns-clause-due c =
     let object = same ∙ sym (ap (λ (r : Record). r.cards) c.self.view_is) ∙ sym (ap (λ (d : Deck). d.cards) c.object.ensures) in
     record {
       sized = subst (RisesToDue edits c.args.self.now.cards c.args.meter.now.sized) (sym c.edited_object.ensures.sized)
-          (due-edited edits c.cards-own.result.now c.args.self.now.cards _ c.cards_before_all.result c.cards_behind_all.result _ _ c.cards-own.ensures.cards (c.deref.ensures.value ∙ c.in_ok-cards.ensures) taken c.edited.ensures.counts.rises c.edited.ensures.counts.front c.edited.ensures.counts.due);
-      coded = due-code-object edits own cards c.deref.result.now _ _ c.cards_before_all.result c.cards_behind_all.result c.in_ok-edited.edited.former c.args.meter.now.coded _ _ same (c.deref.ensures.value ∙ c.in_ok-cards.ensures)
+          (due-edited edits c.cards-own.result.now c.args.self.now.cards _ c.cards_before_all.result c.cards_behind_all.result _ _ c.cards-own.ensures.cards (c.deref.ensures.value ∙ c.in-Ok.ensures) taken c.edited.ensures.counts.rises c.edited.ensures.counts.front c.edited.ensures.counts.due);
+      coded = due-code-object edits own cards c.deref.result.now _ _ c.cards_before_all.result c.cards_behind_all.result c.in_ok-edited.edited.former c.args.meter.now.coded _ _ same (c.deref.ensures.value ∙ c.in-Ok.ensures)
           taken object c.deref.ensures.value c.edited.ensures.counts.coded c.edited_object.ensures.coded_rises edited.before_is edited.kinds edited.tail edited.within c.edited_object.ensures.coded_due;
     }
 
-pub returns-clause-anew : goal.returns-clause-anew
-returns-clause-anew c =
+pub returns-in-Ok-edited_object-clause-anew : goal.returns-in-Ok-edited_object-clause-anew
+returns-in-Ok-edited_object-clause-anew c =
     let edits = c.args.edits.now in
     let own = c.cards-own.result.now in
     let cards = c.args.self.now.cards in
@@ -181,7 +181,7 @@ returns-clause-anew c =
     let object = same ∙ sym (ap (λ (r : Record). r.cards) c.self.view_is) ∙ sym (ap (λ (d : Deck). d.cards) c.object.ensures) in
     on_ok_any c.of.result (record {
       sized = subst (RisesToAnew edits cards c.args.meter.now.sized) (sym c.edited_object.ensures.sized)
-          (anew-edited edits own cards c.deref.result.now _ _ same (c.deref.ensures.value ∙ c.in_ok-cards.ensures) c.in_ok-edited.ensures.anew);
-      coded = rebound-edited edits own cards c.deref.result.now _ _ c.args.meter.now.coded _ _ same (c.deref.ensures.value ∙ c.in_ok-cards.ensures) object c.deref.ensures.value c.edited.ensures.counts.coded
-          c.in_ok-object.ensures.coded_anew;
+          (anew-edited edits own cards c.deref.result.now _ _ same (c.deref.ensures.value ∙ c.in-Ok.ensures) c.in_ok-edited.ensures.anew);
+      coded = rebound-edited edits own cards c.deref.result.now _ _ c.args.meter.now.coded _ _ same (c.deref.ensures.value ∙ c.in-Ok.ensures) object c.deref.ensures.value c.edited.ensures.counts.coded
+          c.in-Ok-edited_object.ensures.coded_anew;
     })
