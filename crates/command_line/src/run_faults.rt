@@ -16,7 +16,7 @@ use thiserror::Error;
 const COMMAND_LINE_STATUS: u8 = 2;
 
 /// A line of a file of the input that is refused, and why.
-#[derive(Clone, Copy)]
+#[derive(Clone, Copy, Debug, Error)]
 pub(crate) struct LineFault<'a> {
     pub name: &'a str,
     pub line: u64,
@@ -29,7 +29,7 @@ pub(crate) struct LineFault<'a> {
 }
 
 /// The character that a refused line is about, if it is about one.
-#[derive(Clone, Copy)]
+#[derive(Clone, Copy, Debug)]
 pub(crate) struct BadCharacter(pub Option<u8>);
 
 /// The character, and a comma behind it: one that can't be shown by its number. Of a tab and a carriage return

@@ -13,13 +13,16 @@ use session_commands::read_command;
 use std::alloc::Global;
 use std::io::Read;
 use text_ports::{Counted, LineBuf, LineIs, next_line};
+use thiserror::Error;
 
 /// Why a command was not read whole.
-#[derive(Clone, Copy)]
+#[derive(Clone, Copy, Debug, Error)]
 pub(crate) enum Stop {
     /// The input ended, also within a line, or a line was too long.
+    #[error("the input ended, or a line was too long")]
     InputEnded,
     /// The reader failed.
+    #[error("the reader failed")]
     InputFailed,
 }
 
