@@ -56,3 +56,4 @@ pub use linked_decks::LinkedDecks;
 pub use linking::DeckLinking;
 pub use listed_publication::{ListedPublication, publish};
 pub use publication::{Publication, link};
+pub use text_parts::lines_in;

@@ -50,7 +50,7 @@ impl TextPart for Option<SharedText> {
 }
 
 /// How many lines a text has.
-fn lines_in(text: &[u8]) -> usize
+pub fn lines_in(text: &[u8]) -> usize
     ensures { result ≡ lines_in text.now }
 {
     text.iter().filter(|c| **c == b'\n').count()

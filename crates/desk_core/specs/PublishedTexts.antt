@@ -1,13 +1,9 @@
 -- The texts of a publication that a session is shown (ours).
-use Rattle.std.specs.Prelude.{ℕ, ◌==◌, List, Option, filter, length}
-use Rattle.definitions.specs.{Build.{image_of, listing_of}, Characters.line_feed, DeckInput.Deck}
+use Rattle.std.specs.Prelude.{ℕ, List, Option}
+use Rattle.definitions.specs.{Build.{image_of, listing_of}, DeckInput.Deck}
 use Rattle.deck_linker.specs.Publishing.{listing_named, map_of, section_named}
 use Rattle.desk_core.specs.declared.published_texts.{DeckText.DeckText, PublishedText.PublishedText, PublishedText.TheVariants.{Image, Listing, Map}}
 use Rattle.desk_core.specs.declared.published_texts.DeckText.TheVariants as part
-
--- how many lines a text has
-abbrev pub line_count : List ℕ → ℕ
-line_count text = length (filter (λ c. c == line_feed) text)
 
 -- the text of decks that is shown
 abbrev pub shown_text : PublishedText → List Deck → List ℕ

@@ -69,9 +69,7 @@ pub use leases::Lease;
 pub use listed::Listed;
 pub use new_deck::NewDeck;
 pub use past::KeptEdit;
-pub use published_texts::{
-    DeckText, PublishedText, line_count, shown_lines, shown_part, write_shown,
-};
+pub use published_texts::{DeckText, PublishedText, shown_lines, shown_part, write_shown};
 pub use replies::{Refusal, Reply, Row, State};
 pub use shared_publication::{PublicationBefore, SharedPublication};
 pub use stored_deck::StoredDeck;

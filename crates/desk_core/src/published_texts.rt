@@ -1,10 +1,11 @@
 //! The texts of a publication: how many lines they have, their bytes to a writer, and those of one of its decks.
 ghost use Rattle.std.specs.Prelude.{◌≡◌, ◌<◌, ◌^◌, option_map, IfErr};
 ghost use Rattle.text_ports.specs.Joins.Sending.{Sends, count_after_sending};
-ghost use Rattle.desk_core.specs.PublishedTexts.{line_count, shown_part, shown_text};
+ghost use Rattle.deck_linker.specs.Publishing.{lines_in};
+ghost use Rattle.desk_core.specs.PublishedTexts.{shown_part, shown_text};
 
 use cards::DeckName;
-use deck_linker::ListedPublication;
+use deck_linker::{ListedPublication, lines_in};
 use std::io::Write;
 use text_ports::{Broken, Counted, put_all};
 
@@ -27,21 +28,14 @@ pub enum DeckText {
     Listing,
 }
 
-/// How many lines a text has.
-pub fn line_count(text: &[u8]) -> usize
-    ensures { result ≡ line_count text.now }
-{
-    text.iter().filter(|c| **c == b'\n').count()
-}
-
 /// How many lines this text of a publication has.
 pub fn shown_lines(publication: &ListedPublication, text: PublishedText) -> usize
-    ensures { result ≡ line_count (shown_text text publication.now.decks) }
+    ensures { result ≡ lines_in (shown_text text publication.now.decks) }
 {
     match text {
         PublishedText::Image => publication.image_lines(),
         PublishedText::Listing => publication.listing_lines(),
-        PublishedText::Map => line_count(publication.map()),
+        PublishedText::Map => lines_in(publication.map()),
     }
 }
 

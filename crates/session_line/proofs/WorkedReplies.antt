@@ -7,7 +7,7 @@ use Rattle.session_line.specs.declared.told_decks.DeckOutcome.TheVariants as out
 use Rattle.session_line.specs.declared.replies.Reply.TheVariants as reply
 use Rattle.desk_core.specs.declared.replies.State.TheVariants.{Behind, Ready}
 use Rattle.session_commands.specs.UnknownWords.{told_word}
-use Rattle.desk_core.specs.PublishedTexts.{line_count}
+use Rattle.deck_linker.specs.Publishing.{lines_in}
 use Rattle.session_line.specs.{Replies.{text_of_reply, marked_text, status_text, told_deck_text, published_text, counted_text, numbers_text}, FileLines.file_line, declared.rights.Rights.TheVariants.{Edits, Reads}, Greetings.{connected_text, service_text}, Views.numbers_from}
 
 -- a version; names with their numbers
@@ -100,5 +100,5 @@ service = refl
 pub counted : counted_text 5 4 ≡ codes "OK 5 4"
 counted = unfold digits in refl
 
-pub two_lines : line_count (codes "MAP\nEND\n") ≡ 2
+pub two_lines : lines_in (codes "MAP\nEND\n") ≡ 2
 two_lines = refl

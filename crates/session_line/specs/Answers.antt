@@ -1,8 +1,8 @@
 -- What a command is answered, and the text of that (ours).
 use Rattle.std.specs.Prelude.{ℕ, ◌≡◌, ◌+◌, ◌≤◌, ◌⊎◌, ⊤, IsTrue, Bool, true, false, nat_le, List, [], ◌++◌, Option, Some, None, Result, Ok, Err, length, codes, if◌then◌else◌}
 use Rattle.definitions.specs.{Cards.Card, DeckInput.Deck}
-use Rattle.deck_linker.specs.Publishing.{map_of}
-use Rattle.desk_core.specs.{Desks.Publication, PublishedTexts.{line_count, shown_part, shown_text}, declared.published_texts.DeckText.DeckText, declared.published_texts.PublishedText.PublishedText, declared.replies.Reply.Reply, declared.replies.Row.Row, declared.replies.Reply.TheVariants.{Changed, Carried, Unkept, CardsAre, ChangesAre, CardsBefore, StatusIs, Refused}}
+use Rattle.deck_linker.specs.Publishing.{lines_in, map_of}
+use Rattle.desk_core.specs.{Desks.Publication, PublishedTexts.{shown_part, shown_text}, declared.published_texts.DeckText.DeckText, declared.published_texts.PublishedText.PublishedText, declared.replies.Reply.Reply, declared.replies.Row.Row, declared.replies.Reply.TheVariants.{Changed, Carried, Unkept, CardsAre, ChangesAre, CardsBefore, StatusIs, Refused}}
 use Rattle.deck_files.specs.{DeckFiles.file_of, FileRows.most_files}
 use Rattle.session_commands.specs.{declared.refusals.Refusal.Refusal, Refusals.refusal_text, declared.views.CardsView.CardsView, declared.views.CardsView.TheVariants.{All, From, With}, declared.views.ErrorsView.ErrorsView}
 use Rattle.session_commands.specs.declared.refusals.Refusal.TheVariants as refusal
@@ -116,7 +116,7 @@ refused_text reason = with_body (codes "NO " ++ refusal_text reason) []
 
 -- lines behind a version and their count
 abbrev pub lines_text : ℕ → List ℕ → List ℕ
-lines_text version lines = with_body (counted_text version (line_count lines)) lines
+lines_text version lines = with_body (counted_text version (lines_in lines)) lines
 
 -- the text of a deck that is shown; without one there is no such deck
 abbrev pub part_text : ℕ → Option (List ℕ) → List ℕ

@@ -51,9 +51,9 @@ onto_line c [] = (c ∷ []) ∷ []
 onto_line c (line ∷ lines) = (c ∷ line) ∷ lines
 
 -- the lines of a text, without their line feeds
-abbrev pub lines_in : List ℕ → List (List ℕ)
-lines_in [] = []
-lines_in (c ∷ cs) = if c == line_feed then [] ∷ lines_in cs else onto_line c (lines_in cs)
+abbrev pub map_lines : List ℕ → List (List ℕ)
+map_lines [] = []
+map_lines (c ∷ cs) = if c == line_feed then [] ∷ map_lines cs else onto_line c (map_lines cs)
 
 -- whether a line of a map is a LINK line
 abbrev pub is_link : List ℕ → Bool
@@ -70,7 +70,7 @@ shows_line (Of name) line = is_link line && same_text (link_deck line) name
 
 -- the lines that are shown of decks and of the map of their link
 abbrev pub error_lines : ErrorsView → List Deck → List ℕ → List (List ℕ)
-error_lines view decks map = flat_map (errors_where view) decks ++ filter (shows_line view) (lines_in map)
+error_lines view decks map = flat_map (errors_where view) decks ++ filter (shows_line view) (map_lines map)
 
 -- the first deck of this name among these
 abbrev pub deck_named : List ℕ → List Deck → Option Deck

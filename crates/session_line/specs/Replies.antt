@@ -4,7 +4,8 @@ use Rattle.definitions.specs.Characters.{line_feed}
 use Rattle.deck_files.specs.{DeckFiles.file_of, FileRows.most_files}
 use Rattle.session_line.specs.{FileLines.files_text, Greetings.{service_text, connected_text}, declared.greetings.Connected.Connected, declared.marked_rows.MarkedRow.MarkedRow, declared.told_decks.ToldDeck.ToldDeck, declared.told_decks.DeckOutcome.DeckOutcome, declared.told_decks.DeckOutcome.TheVariants.{Done, Unkept, Refused}, Errors.error_lines, Views.numbers_of, ChangeLines.change_lines, declared.replies.Reply.Reply}
 use Rattle.session_commands.specs.Refusals.{refusal_text}
-use Rattle.desk_core.specs.{PublishedTexts.{line_count, shown_text}, declared.replies.{Row.Row, State.State, State.TheVariants.{Out, Behind, Ready}}}
+use Rattle.deck_linker.specs.Publishing.{lines_in}
+use Rattle.desk_core.specs.{PublishedTexts.shown_text, declared.replies.{Row.Row, State.State, State.TheVariants.{Out, Behind, Ready}}}
 use Rattle.session_line.specs.declared.replies.Reply.TheVariants as reply
 
 -- a text and its line feed
@@ -72,8 +73,8 @@ head_text (reply.Unkept version) = unkept_text version
 head_text (reply.Cards version cards) = counted_text version (length cards.now)
 head_text (reply.Changes version kept) = counted_text version (length (change_lines kept.now))
 head_text (reply.Found version cards text) = counted_text version (length (numbers_of text.now cards.now))
-head_text (reply.Text version text) = counted_text version (line_count text.now)
-head_text (reply.Published publication text) = counted_text publication.now.version (line_count (shown_text text publication.now.decks))
+head_text (reply.Text version text) = counted_text version (lines_in text.now)
+head_text (reply.Published publication text) = counted_text publication.now.version (lines_in (shown_text text publication.now.decks))
 head_text (reply.Errors version view decks map) = counted_text version (length (error_lines view.now decks.now map.now))
 head_text (reply.Status version published decks) = counted_text version (length decks.now + 1)
 head_text (reply.FileStatus version published decks) = counted_text version (length decks.now + 1)

@@ -2,7 +2,7 @@
 ghost use Rattle.std.specs.Prelude.{◌≡◌, ◌≤◌, ◌<◌, ◌+◌, ◌*◌, ◌^◌, ◌++◌, All, codes, filter, flat_map, is_none, length, IfErr, IfOk};
 ghost use Rattle.deck_objects.specs.declared.lines.Line.{Line};
 ghost use Rattle.text_ports.specs.Joins.Sending.{Sends, count_after_sending};
-ghost use Rattle.session_line.specs.Errors.{Begins, Flagged, error_lines, errors_where, flag_of, flag_text, lines_in, shows_line};
+ghost use Rattle.session_line.specs.Errors.{Begins, Flagged, error_lines, errors_where, flag_of, flag_text, map_lines, shows_line};
 ghost use Rattle.session_line.specs.Joins.FlagWalks.{flags_in, flags_text, shown_text};
 ghost use Rattle.session_line.specs.Replies.{line_of, text_of_lines};
 
@@ -206,7 +206,7 @@ fn write_links<W: Write>(
     view: &ErrorsView,
     map: &[u8],
 ) -> Result<(), Broken>
-    ensures sends { Sends (W.contents output.old.0) (W.contents output.new.0) (text_of_lines (filter (shows_line view.now) (lines_in map.now))) result }
+    ensures sends { Sends (W.contents output.old.0) (W.contents output.new.0) (text_of_lines (filter (shows_line view.now) (map_lines map.now))) result }
     ensures count { output.new.1 ≡ count_after_sending result output.old.1 }
     ensures few { IfErr result (λ broken. broken.sent ≤ length map.now + 1) }
 {

@@ -2,7 +2,7 @@
 //! begin another deck, and LINK lines of its map.
 ghost use Rattle.std.specs.Prelude.{◌≡◌, ◌≤◌, ◌+◌, ◌*◌, ◌∷◌, cond, filter, flat_map, is_none, length, take, drop};
 ghost use Rattle.definitions.specs.DeckInput.{Deck};
-ghost use Rattle.session_line.specs.Errors.{deck_errors, error_lines, errors_where, flag_of, has_deck, is_link, lines_in, link_deck, shows_any, shows_deck, shows_line};
+ghost use Rattle.session_line.specs.Errors.{deck_errors, error_lines, errors_where, flag_of, has_deck, is_link, map_lines, link_deck, shows_any, shows_deck, shows_line};
 ghost use Rattle.session_line.specs.Joins.FlagWalks.{flags_in, line_len};
 
 use cards::{Card, DeckName};
@@ -172,7 +172,7 @@ fn one_where(holds: bool) -> usize
 
 /// How many lines of a map are shown.
 fn link_count(view: &ErrorsView, map: &[u8]) -> usize
-    ensures count { result ≡ length (filter (shows_line view.now) (lines_in map.now)) }
+    ensures count { result ≡ length (filter (shows_line view.now) (map_lines map.now)) }
     ensures few { result ≤ length map.now }
 {
     let mut count = 0;
