@@ -8,3 +8,4 @@ pub mod Versions
 pub mod Connections
 pub mod PageLines
 pub mod Seating
+pub mod Patience

@@ -1,4 +1,7 @@
 //! How long a client may keep a session waiting.
+ghost use Rattle.std.specs.Prelude.{◌≡◌, option_map};
+ghost use Rattle.std.specs.Duration.{as_nanos};
+ghost use Rattle.desk_service.specs.Patience.{spent_behind, wait_for};
 
 use std::io;
 use std::io::{ErrorKind, Read, Write};
@@ -13,6 +16,30 @@ const ATTEMPT_SECONDS: u64 = 5;
 
 /// How often it is tried to write to a client that takes nothing.
 const ATTEMPTS: u32 = 5;
+
+/// How long a read may wait: what is left of half a minute inside a line, whose reads have taken so long, and else
+/// as long as a client may be idle.
+fn wait_for(spent: Option<Duration>, idle: Duration) -> Duration
+    ensures { as_nanos result ≡ wait_for (option_map as_nanos spent) (as_nanos idle) }
+{
+    match spent {
+        Some(spent) => Duration::from_secs(LINE_SECONDS).saturating_sub(spent),
+        None => idle,
+    }
+}
+
+/// How long the reads have taken of a line whose end was not read, behind one that gave these bytes and took so
+/// long.
+fn spent_behind(bytes: &[u8], took: Duration, spent: Option<Duration>) -> Option<Duration>
+    ensures { option_map as_nanos result ≡ spent_behind bytes.now (as_nanos took) (option_map as_nanos spent) }
+{
+    match (bytes.last(), spent) {
+        (None, spent) => spent,
+        (Some(b'\n'), _) => None,
+        (Some(_), Some(spent)) if !bytes.contains(&b'\n') => Some(spent.saturating_add(took)),
+        (Some(_), _) => Some(Duration::ZERO),
+    }
+}
 
 /// The reads of a connection. A read at the beginning of a line waits as long as a client may be idle, and
 /// the reads of the rest of a line half a minute together; then the reader fails. Contracts see nothing of
@@ -35,29 +62,11 @@ impl<'a, R: Clock> PatientReader<'a, R> {
             spent: None,
         }
     }
-
-    /// How long the next read may wait.
-    fn wait(&self) -> Duration {
-        match self.spent {
-            Some(spent) => Duration::from_secs(LINE_SECONDS).saturating_sub(spent),
-            None => self.idle,
-        }
-    }
-
-    /// Notes whether these bytes, which a read gave that took so long, end inside of a line.
-    fn note(&mut self, bytes: &[u8], took: Duration) {
-        self.spent = match (bytes.last(), self.spent) {
-            (None, spent) => spent,
-            (Some(b'\n'), _) => None,
-            (Some(_), Some(spent)) if !bytes.contains(&b'\n') => Some(spent.saturating_add(took)),
-            (Some(_), _) => Some(Duration::ZERO),
-        };
-    }
 }
 
 impl<R: Clock> Read for PatientReader<'_, R> {
     fn read(&mut self, buf: &mut [u8]) -> io::Result<usize> {
-        let wait = self.wait();
+        let wait = wait_for(self.spent, self.idle);
         if wait.is_zero() {
             return Err(io::Error::from(ErrorKind::TimedOut));
         }
@@ -65,7 +74,8 @@ impl<R: Clock> Read for PatientReader<'_, R> {
         let began = Instant::now(self.rt)?;
         let mut stream = self.stream;
         let count = stream.read(buf)?;
-        self.note(&buf[..count], began.elapsed(self.rt)?);
+        let took = began.elapsed(self.rt)?;
+        self.spent = spent_behind(&buf[..count], took, self.spent);
         Ok(count)
     }
 }
