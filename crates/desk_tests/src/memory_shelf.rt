@@ -12,6 +12,7 @@ use deck_files::{
 };
 use indexmap::IndexMap;
 use std::alloc::{AllocError, Global};
+use std::hash::RandomState;
 use std::marker::Model;
 use text_ports::Counted;
 
@@ -27,7 +28,7 @@ struct MemoryFile {
 #[derive(Drop)]
 pub struct MemoryShelf {
     alloc: Global,
-    files: IndexMap<Vec<u8>, MemoryFile>,
+    files: IndexMap<Vec<u8>, MemoryFile, RandomState>,
 }
 
 impl Model for MemoryShelf {
@@ -40,13 +41,13 @@ impl Model for MemoryShelf {
 }
 
 impl MemoryShelf {
-    /// A shelf without files.
-    pub fn new(alloc: Global) -> MemoryShelf
+    /// A shelf without files, whose table is kept by these keys.
+    pub fn new(alloc: Global, keys: RandomState) -> MemoryShelf
         ensures { result ≡ [] }
     {
         MemoryShelf {
             alloc,
-            files: IndexMap::new(alloc),
+            files: IndexMap::with_hasher(alloc, keys),
         }
     }
 

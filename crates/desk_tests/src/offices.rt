@@ -250,9 +250,10 @@ fn meet_at_desk<R: AllocGlobal + Wait>(rt: &R, answer: &mut Answer) -> Got<()> {
 
 /// Says commands of a session on a desk, each from the second seat of its office: the number of the seat.
 fn say_all<R: AllocGlobal + Wait>(rt: &R, lines: &str, answer: &mut Answer) -> Got<()> {
-    let desk = Desk::new(rt.alloc(), fixed_keys()?);
+    let keys = fixed_keys()?;
+    let desk = Desk::new(rt.alloc(), keys);
     let (office, _, seat) = open_two(rt.alloc(), desk)?;
-    let mut shelf = MemoryShelf::new(rt.alloc());
+    let mut shelf = MemoryShelf::new(rt.alloc(), keys);
     let mut desk = SeatCalls::new(rt, &office, seat);
     for line in lines.split_inclusive('\n') {
         serve_ports(&mut desk, &mut shelf, line, Failing::never(1), answer);

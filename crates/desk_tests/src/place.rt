@@ -39,7 +39,7 @@ impl Place {
         Place {
             alloc,
             desk: Desk::new(alloc, keys),
-            shelf: MemoryShelf::new(alloc),
+            shelf: MemoryShelf::new(alloc, keys),
             jobs: Jobs::new(alloc, keys),
             file: Vec::new(alloc),
         }

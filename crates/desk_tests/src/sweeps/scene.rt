@@ -60,7 +60,7 @@ impl Scene {
             keys,
             journal: Journal::new(alloc),
             desk: Desk::new(alloc, keys),
-            shelf: MemoryShelf::new(alloc),
+            shelf: MemoryShelf::new(alloc, keys),
         }
     }
 
