@@ -19,6 +19,3 @@ pub mod ListedLaws
 pub mod ElsewhereLaws
 pub mod CommonSteps
 mod InPieceLaws
-mod TakenLaws
-mod KnownFitLaws
-mod SectionLaws

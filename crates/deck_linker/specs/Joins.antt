@@ -18,6 +18,3 @@ pub mod MapLines
 pub mod Sections
 -- Publications.
 pub mod InPieces
-pub mod Listed
--- What the fields of a deck take from a link.
-pub mod TakenValues

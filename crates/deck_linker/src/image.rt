@@ -73,16 +73,6 @@ pub(crate) fn push_end(text: &mut Sheet, layout: &Layout, commons: &[Vec<WordSpa
     text.put(b"END\n");
 }
 
-/// What is behind the sections of the decks of a link.
-pub(crate) fn image_end(alloc: Global, layout: &Layout) -> Result<Text, AllocError>
-    ensures { IfOk result (λ text. text ≡ end_text layout.now) }
-{
-    let commons = words_of_commons(alloc, layout)?;
-    let mut text = Sheet::new(alloc);
-    push_end(&mut text, layout, commons.as_slice());
-    text.into_text()
-}
-
 /// The octal image of a link.
 pub(crate) fn image(alloc: Global, layout: &Layout) -> Result<Text, AllocError>
     ensures { IfOk result (λ text. text ≡ image_text layout.now) }

@@ -7,9 +7,8 @@
 //! from the ends of its lines. `DeckLinking` is the link of a deck in a layout; what does not fit
 //! its field is 0. A common block's words are each the last deck's. A `Publication` is seen by
 //! contracts as its version and decks: that its texts and counts are those of the build of these
-//! decks is the invariant of its type. A `ListedPublication` is the same of decks that have their
-//! listings with them: it holds the map and the end of the image, and shares listings and sections with its
-//! objects; its texts are written part by part.
+//! decks is the invariant of its type. A `ListedPublication` is decks with their listings under a version;
+//! map, image and sections are made of it when somebody asks, and a `PublishedListing` is written part by part.
 #![tactic(auto)]
 
 // Where decks and common blocks stand.
@@ -38,22 +37,20 @@ mod unfit_fields;
 mod common_image;
 mod common_words;
 mod image;
-mod kept_sections;
-mod taken_values;
 
-// All of them: made whole, shared, or part by part.
+// All of them: made whole, when somebody asks, or part by part.
 mod linked_decks;
 mod listed_publication;
 mod measuring;
 mod publication;
+mod published_listing;
 mod sending;
-mod text_parts;
 
 pub use based::Based;
 pub use commons::Common;
 pub use layout::Layout;
 pub use linked_decks::LinkedDecks;
 pub use linking::DeckLinking;
-pub use listed_publication::{ListedPublication, publish};
+pub use listed_publication::ListedPublication;
 pub use publication::{Publication, link};
-pub use text_parts::lines_in;
+pub use published_listing::{PublishedListing, lines_in};

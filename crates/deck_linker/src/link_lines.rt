@@ -1,17 +1,15 @@
 //! The LINK lines of a link.
-ghost use Rattle.std.specs.Prelude.{◌≡◌, [], Some, flat_map, slice_get, true, OnOk};
+ghost use Rattle.std.specs.Prelude.{◌≡◌, [], flat_map, OnOk};
 ghost use Rattle.definitions.specs.Blocks.{is_named};
 ghost use Rattle.definitions.specs.LinkValues.{entry_names};
 ghost use Rattle.definitions.specs.LinkLines.{doubled_lines, lines_from, link_lines, missing_lines, past_lines};
 ghost use Rattle.deck_linker.specs.Joins.DeckLines.{lines_of_common, lines_of_deck, lines_of_decks};
 ghost use Rattle.deck_linker.specs.Joins.Lines.{with_lines};
-ghost use Rattle.deck_linker.specs.Joins.UnfitLines.{AreKnownToFit};
-ghost use Rattle.deck_listing.specs.KeptSections.{DoAllFit};
 
 use crate::link_text::LinkText;
 use crate::linked_deck::{entries, externals, name};
 use crate::name_set::NameSet;
-use crate::unfit_fields::push_unfit_unless;
+use crate::unfit_fields::push_unfit;
 use crate::{Based, Common, Layout};
 use deck_objects::Entry;
 use expr_forms::Name;
@@ -69,50 +67,34 @@ fn push_past(out: &mut LinkText, is_past: bool, name: &[u8]) -> Result<(), Alloc
     Ok(())
 }
 
-/// Writes the LINK lines of a deck, where earlier decks enter some names; whether it is known that all its
-/// fields fit is shown.
+/// Writes the LINK lines of a deck, where earlier decks enter some names.
 #[tactic(auto, using(crate::proofs::LineLaws::lines_joined))]
 fn push_deck(
     out: &mut LinkText,
     layout: &Layout,
     earlier: &NameSet,
     based: &Based,
-    fits: bool,
 ) -> Result<(), AllocError>
-    requires { fits ≡ true → DoAllFit layout.now based.now }
     ensures { OnOk result (out.new ≡ with_lines out.old (lines_of_deck layout.now earlier.now based.now)) }
 {
     let deck = name(based);
     push_doubled(out, earlier, deck, entries(based))?;
     push_missing(out, layout, deck, externals(based))?;
-    push_unfit_unless(out, layout, based, fits)?;
+    push_unfit(out, layout, based)?;
     push_past(out, based.is_past(), deck)
 }
 
-/// Whether it is known of the deck at a place that all its fields fit.
-fn is_known_to_fit(fits: &[bool], place: usize) -> bool
-    ensures { result ≡ true → slice_get fits.now place ≡ Some true }
-{
-    match fits.get(place) {
-        Some(fit) => *fit,
-        None => false,
-    }
-}
-
-/// Writes the LINK lines of decks, of some of which it is known that all their fields fit; the names that they
-/// enter join those that earlier decks enter.
+/// Writes the LINK lines of decks; the names that they enter join those that earlier decks enter.
 fn push_decks(
     out: &mut LinkText,
     layout: &Layout,
     earlier: &mut NameSet,
     decks: &[Based],
-    fits: &[bool],
 ) -> Result<(), AllocError>
-    requires { AreKnownToFit layout.now decks.now fits.now }
     ensures { OnOk result (out.new ≡ with_lines out.old (lines_of_decks layout.now earlier.old decks.now)) }
 {
-    for (place, based) in decks.iter().enumerate() {
-        push_deck(out, layout, earlier, based, is_known_to_fit(fits, place))?;
+    for based in decks {
+        push_deck(out, layout, earlier, based)?;
         earlier.add_entries(entries(based))?;
     }
     Ok(())
@@ -129,20 +111,17 @@ fn push_commons(out: &mut LinkText, commons: &[Common]) -> Result<(), AllocError
     Ok(())
 }
 
-/// Writes the LINK lines of a link: those of its decks in order, of some of which it is known that all their
-/// fields fit, and those of its common blocks.
+/// Writes the LINK lines of a link: those of its decks in order, and those of its common blocks.
 #[tactic(auto, using(crate::proofs::LineLaws::lines_joined))]
 pub(crate) fn push_link_lines(
     alloc: Global,
     keys: RandomState,
     out: &mut LinkText,
     layout: &Layout,
-    fits: &[bool],
 ) -> Result<(), AllocError>
-    requires { AreKnownToFit layout.now layout.now.decks fits.now }
     ensures { OnOk result (out.new ≡ with_lines out.old (link_lines layout.now)) }
 {
     let mut earlier = NameSet::new(alloc, keys);
-    push_decks(out, layout, &mut earlier, layout.decks(), fits)?;
+    push_decks(out, layout, &mut earlier, layout.decks())?;
     push_commons(out, layout.commons())
 }

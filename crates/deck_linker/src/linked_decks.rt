@@ -224,7 +224,7 @@ fn measured_texts(
 {
     let errors = errors_in(objects)?;
     let front = measure_listings(alloc, objects, Measure { all: 0, most: 0 })?;
-    let mapped = with_map(alloc, keys, Text::new(alloc), layout, &[])?;
+    let mapped = with_map(alloc, keys, Text::new(alloc), layout)?;
     let most = image_room(
         alloc,
         layout,

@@ -6,7 +6,6 @@ ghost use Rattle.definitions.specs.LinkValues.{entry_value};
 ghost use Rattle.definitions.specs.LinkLines.{link_lines};
 ghost use Rattle.definitions.specs.Listing.{line};
 ghost use Rattle.definitions.specs.Map.{common_line, deck_line, entry_line, entry_lines, map_text};
-ghost use Rattle.deck_linker.specs.Joins.UnfitLines.{AreKnownToFit};
 ghost use Rattle.deck_linker.specs.Joins.MapLines.{entries_of_decks, map_front, new_entry, shown_place, shown_value};
 
 use crate::link_lines::push_link_lines;
@@ -173,22 +172,20 @@ fn push_front(
     push_entries_of(text, layout, &mut earlier, layout.decks())
 }
 
-/// A text with the map of a link behind it; of some decks it is known that all their fields fit.
+/// A text with the map of a link behind it.
 pub(crate) fn with_map(
     alloc: Global,
     keys: RandomState,
     front: Text,
     layout: &Layout,
-    fits: &[bool],
 ) -> Result<Mapped, AllocError>
-    requires { AreKnownToFit layout.now layout.now.decks fits.now }
     ensures text { IfOk result (λ mapped. mapped.text ≡ front ++ map_text layout.now) }
     ensures links { IfOk result (λ mapped. mapped.links ≡ length (link_lines layout.now)) }
 {
     let mut text = front;
     push_front(alloc, keys, &mut text, layout)?;
     let mut lines = LinkText::new(text);
-    push_link_lines(alloc, keys, &mut lines, layout, fits)?;
+    push_link_lines(alloc, keys, &mut lines, layout)?;
     let links = lines.lines();
     let mut text = lines.into_text();
     text.push_bytes(b"END\n")?;

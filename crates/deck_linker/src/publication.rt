@@ -165,7 +165,7 @@ fn mapped_listings(
 {
     let front = listings(alloc, objects)?;
     let map_at = front.as_slice().len();
-    let mapped = with_map(alloc, keys, front, layout, &[])?;
+    let mapped = with_map(alloc, keys, front, layout)?;
     Ok(MappedListings { map_at, mapped })
 }
 

@@ -1,10 +1,9 @@
 //! The LINK A lines: fields that the values of a link do not fit.
-ghost use Rattle.std.specs.Prelude.{ℕ, ◌≡◌, ◌+◌, ◌*◌, ◌/◌, ◌^◌, ◌<◌, ◌≤◌, ◌==◌, List, flat_map, length, map, reverse, slice_get, true, IfOk, OnOk};
+ghost use Rattle.std.specs.Prelude.{ℕ, ◌≡◌, ◌+◌, ◌*◌, ◌/◌, ◌^◌, ◌<◌, ◌≤◌, List, flat_map, length, map, reverse, slice_get, OnOk};
 ghost use Rattle.definitions.specs.Kinds.{unit_bits, word_bits};
 ghost use Rattle.definitions.specs.LinkValues.{is_unfit};
 ghost use Rattle.definitions.specs.LinkLines.{address_lines, unfit_addresses, unfit_words};
 ghost use Rattle.deck_objects.specs.Joins.LineItems.{AreKept, AreShort};
-ghost use Rattle.deck_listing.specs.KeptSections.{DoAllFit};
 ghost use Rattle.deck_linker.specs.Joins.Lines.{with_lines};
 ghost use Rattle.deck_linker.specs.Joins.UnfitLines.{AllAreKept, IsKept, unfit_in, unfit_lines, unfit_of};
 ghost use Rattle.statement_coder.specs.Joins.Items.{item_as};
@@ -16,8 +15,7 @@ use crate::{Based, Layout};
 use deck_objects::{CodedLine, Line, LineFields, ObjectParts, listed};
 use definitions::DeckKind;
 use statement_coder::{Content, Item, number_coded};
-use std::alloc::{AllocError, Global};
-use text_ports::Text;
+use std::alloc::AllocError;
 
 /// Whether the value that the link gives a field does not fit there.
 fn is_unfit(layout: &Layout, based: &Based, item: &Item) -> bool
@@ -153,30 +151,4 @@ pub(crate) fn push_unfit(
 {
     let parts = parts(based);
     push_unfit_lines(out, layout, based, parts, parts.lines.as_slice())
-}
-
-/// Writes these lines of a deck; where it is known that all its fields fit, there are none, and no statement is
-/// looked at.
-pub(crate) fn push_unfit_unless(
-    out: &mut LinkText,
-    layout: &Layout,
-    based: &Based,
-    fits: bool,
-) -> Result<(), AllocError>
-    requires { fits ≡ true → DoAllFit layout.now based.now }
-    ensures { OnOk result (out.new ≡ with_lines out.old (flat_map (unfit_addresses layout.now based.now) (reverse based.now.object.coded))) }
-{
-    if fits {
-        return Ok(());
-    }
-    push_unfit(out, layout, based)
-}
-
-/// Whether all fields of a deck fit the values of a link.
-pub(crate) fn do_all_fit(alloc: Global, layout: &Layout, based: &Based) -> Result<bool, AllocError>
-    ensures { IfOk result (λ fit. fit ≡ (length (flat_map (unfit_addresses layout.now based.now) (reverse based.now.object.coded)) == 0)) }
-{
-    let mut lines = LinkText::new(Text::new(alloc));
-    push_unfit(&mut lines, layout, based)?;
-    Ok(lines.lines() == 0)
 }

@@ -16,5 +16,3 @@ mod ImageLineSteps
 mod AloneSteps
 mod SectionSteps
 pub mod SheetSteps
-pub mod KeptLaws
-pub mod FitLaws

@@ -1,6 +1,6 @@
 -- Decks that begin behind the END of another.
 pub mod DecksBehind
--- Sections that are kept.
-pub mod KeptSections
+-- Objects with their listings.
+pub mod ListedObjects
 -- What no promise leads to.
 pub mod Joins

@@ -34,15 +34,9 @@ mod image_lines;
 mod section_words;
 mod sections;
 
-// Sections that are kept, and what they rest on.
-mod kept_laws;
-mod placed_section;
-
 pub use blocks::words_of_blocks;
 pub use image_lines::push_image_line;
-pub use kept_laws::{fields_fit_by_values, sections_follow_values};
 pub use listed_object::ListedObject;
-pub use placed_section::{LinkValue, PlacedSection};
 pub use sections::{image, push_section};
 pub use shared_text::SharedText;
 pub use sheet::Sheet;

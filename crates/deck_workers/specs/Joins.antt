@@ -1,4 +1,3 @@
 -- What inner functions promise, so that the proofs of the outer ones join: no promise of the documents leads here.
 pub mod Language
-pub mod Linking
 pub mod Rests

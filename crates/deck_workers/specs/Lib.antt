@@ -1,7 +1,6 @@
 pub mod Working
 pub mod Jobs
 pub mod Rounds
-pub mod WorkerRounds
 pub mod Subscribers
 -- What no promise leads to.
 pub mod Joins

@@ -1,7 +1,7 @@
 -- What one who works for a desk asks of it (ours): rounds of a claim each, with one call that ends what the claim gave.
 use Rattle.std.specs.{Prelude.{◌≡◌, ℕ, List, [], ◌∷◌, Option, Some, None}, List.flat_map}
 use Rattle.turn_office.specs.Histories.{entry}
-use Rattle.deck_workers.specs.{Joins.Language.{Claim, DeliverDeck, DeliverLink, GiveUp, Call, Do, Reply, DeckJob, LinkJob}, declared.jobs.Job.Job, declared.made.Made.Made, Jobs.MayMake}
+use Rattle.deck_workers.specs.{Joins.Language.{Claim, DeliverDeck, Publish, GiveUp, Call, Do, Reply, DeckJob, LinkJob}, declared.jobs.Job.Job, declared.made.Made.Made, Jobs.MayMake}
 use Rattle.desk_core.specs.Runs.{History}
 use Rattle.deck_workers.specs.declared.jobs.Job.TheVariants as job
 use Rattle.deck_workers.specs.declared.made.Made.TheVariants as made
@@ -12,10 +12,10 @@ job_in (DeckJob work) = Some (job.Deck work)
 job_in (LinkJob work) = Some (job.Link work)
 job_in _ = None
 
--- the call that ends a job: its result is delivered, or its lease is given up
+-- the call that ends a job: a deck is delivered, the desk is to publish what a link job is for, or the lease of a lost job is given up
 abbrev pub call_of : Made → Call
 call_of (made.Deck done) = Do (DeliverDeck done)
-call_of (made.Link lease publication) = Do (DeliverLink lease publication)
+call_of (made.Link lease publication) = Do (Publish lease)
 call_of (made.Lost lease fault) = Do (GiveUp lease)
 
 -- the version of the publication that was made, if one was

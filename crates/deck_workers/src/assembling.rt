@@ -1,11 +1,11 @@
-//! A deck assembled from what a job begins with, and objects published.
+//! A deck assembled from what a job begins with, and objects as a publication.
 ghost use Rattle.std.specs.Prelude.{◌≡◌, ◌+◌, ◌≤◌, ◌⊎◌, false, None, Some, length, IfOk, IfErr, OnOk};
 ghost use Rattle.statement_coder.specs.Meters.{CountsAtMost, RisesBy};
 ghost use Rattle.deck_workers.specs.Joins.Language.{edits_fault, statement_count, statements_sum};
 ghost use Rattle.deck_workers.specs.Jobs.{start_deck, start_cards, start_bound, deck_edited, CountsDue, CountsWithin};
 
 use cards::{Card, DeckName, Edit, first_fault};
-use deck_linker::publish;
+use deck_linker::ListedPublication;
 use deck_listing::ListedObject;
 use desk_core::{Held, SharedPublication, Start};
 use edit_core::{Kept, RecordFault};
@@ -148,11 +148,10 @@ fn finished(alloc: Global, kept: Kept) -> Result<(Held, ListedObject), RecordFau
 /// The publication of objects under a version.
 pub(crate) fn published(
     alloc: Global,
-    keys: RandomState,
     objects: Vec<ListedObject>,
     version: u64,
 ) -> Result<SharedPublication, AllocError>
     ensures { IfOk result (λ publication. publication ≡ record { version = version; decks = objects.items }) }
 {
-    SharedPublication::new(alloc, publish(alloc, keys, objects, version)?)
+    SharedPublication::new(alloc, ListedPublication::new(version, objects))
 }

@@ -1,5 +1,5 @@
 //! What is made of a job.
-ghost use Rattle.std.specs.Prelude.{◌≡◌, IfSome};
+ghost use Rattle.std.specs.Prelude.{◌≡◌};
 ghost use Rattle.deck_workers.specs.Jobs.{is_result};
 ghost use Rattle.deck_workers.specs.Rounds.{call_of, published_in};
 
@@ -49,31 +49,23 @@ impl Made {
     /// older version. None where it can't be shared.
     pub(crate) fn object(&self) -> Option<ListedObject> {
         match self {
-            Made::Deck(done) => shared(&done.object),
+            Made::Deck(done) => match done.object.share() {
+                Ok(object) => Some(object),
+                Err(_) => None,
+            },
             Made::Link { .. } | Made::Lost { .. } => None,
         }
     }
 
-    /// The call that ends the job: a result is delivered, and the lease of a lost job given up.
+    /// The call that ends the job: a deck is delivered, the desk is to publish its decks, or the lease of a lost job is
+    /// given up.
     pub fn into_call(self) -> Call
         ensures { result ≡ call_of self }
     {
         match self {
             Made::Deck(done) => Call::Do(Work::DeliverDeck(done)),
-            Made::Link { lease, publication } => {
-                Call::Do(Work::DeliverLink { lease, publication })
-            }
+            Made::Link { lease, .. } => Call::Do(Work::Publish(lease)),
             Made::Lost { lease, .. } => Call::Do(Work::GiveUp(lease)),
         }
-    }
-}
-
-/// An object once more; none where it can't be shared.
-pub(crate) fn shared(object: &ListedObject) -> Option<ListedObject>
-    ensures { IfSome result (λ shared. shared ≡ object.now) }
-{
-    match object.share() {
-        Ok(object) => Some(object),
-        Err(_) => None,
     }
 }

@@ -89,13 +89,14 @@ impl Runs for LinkWork {
     ghost counts = { λ _ old new. new ≡ old };
 
     fn run(self, alloc: Global, keys: RandomState, meter: &mut Meter) -> Made {
+        let _ = keys;
         let _ = meter;
         let LinkWork {
             lease,
             version,
             objects,
         } = self;
-        match published(alloc, keys, objects.into_items(), version) {
+        match published(alloc, objects.into_items(), version) {
             Ok(publication) => Made::Link { lease, publication },
             Err(_) => Made::Lost {
                 lease,

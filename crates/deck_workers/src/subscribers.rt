@@ -3,8 +3,7 @@ ghost use Rattle.deck_workers.specs.Subscribers.{HearsAfter, HearsIf};
 
 use desk_core::Reply;
 
-/// Who hears of each publication that a worker delivered and the desk took. The member says what such a
-/// one makes of it.
+/// Who hears of each publication that a desk made for a worker. The member says what such a one makes of it.
 pub trait Subscriber {
     ghost use Rattle.std.specs.Prelude.{ℕ};
 
@@ -39,11 +38,11 @@ fn tell_if<S: Subscriber>(subscriber: &mut S, published: Option<u64>)
     }
 }
 
-/// Reports a publication to a subscriber, where the desk took it or published it itself, which its reply shows.
+/// Reports a publication to a subscriber, where the desk made it, which its reply shows.
 pub(crate) fn tell_after<S: Subscriber>(subscriber: &mut S, published: Option<u64>, reply: &Reply)
     ensures { HearsAfter S.hears reply.now published subscriber.old subscriber.new }
 {
-    if matches!(reply, Reply::Stored | Reply::Published(_)) {
+    if matches!(reply, Reply::Published(_)) {
         tell_if(subscriber, published);
     }
 }

@@ -2,7 +2,7 @@
 use Rattle.std.{proofs.Common.{◌≡◌, ℕ, ◌+◌, ◌≤◌, ◌==◌, nat_le, nat_lt, Bool, true, false, cond, not, ◌||◌, is_none, List, [], ◌∷◌, length, map, find, is_some, Option, Some, None, Result, Ok, Err, option_map, refl, sym, ap, ◌∙◌, subst, inl, inr}, specs.List.{list_any, AllByRecursion}, proofs.lemmas.Bool.{cond_both, ltb-false}}
 use Rattle.cards.specs.declared.carrying.Touched.{Touched}
 use Rattle.turn_office.specs.Histories.{Leads}
-use Rattle.desk_core.{specs.Joins.Language.{Card, Deck}, specs.Joins.Causes.when, specs.Joins.Edits.{Edit, most_cards, first_fault, edited_by}, specs.Past.{Past, begun_at, past_after}, specs.Desks.{Desk, DeskDeck, Publication, most_decks, is_named, deck_named, put_if_named, is_leased, is_leased_at, decks_of}, specs.Joins.Calls.{Exactly, Since, AddDeck, PutDeck, DropDeck, EditDeck, Undo, Changes, CardsAt, Cards, Show, Status, Claim, DeliverDeck, DeliverLink, OfferObject, Publish, GiveUp, Call, Make, Ask, Do, Done, Reply, Refusal, NameTaken, TooManyDecks, DeckFull, NoDeck, BatchSize}, specs.Answers.{Answer, unless, against_next}, specs.Changing.{accepted, against_add, added_deck, added, against_put, replaced_deck, put, put_where, against_drop, dropped, edited_deck, edited, against_edits, is_batch, bad_edit, shown, against_seen}, specs.Carrying.{carried_since, against_carry, accept_carried, edit_since_of, is_alone, edits_of}, specs.Undoing.{backs_at, against_change, undo_where}, specs.Earlier.{against_since, changes_of, cards_at_of}, specs.Claiming.{claim, claim_deck, claim_link, hand_out, hand_out_link, given, is_behind, is_free, is_published}, specs.Delivering.{deliver_to, take_result, deck_leased, lost, given_back, stored, is_for, is_sound, same_decks, deliver_link, offer_object, publish, give_up_of}, specs.Joins.OwnNames.HaveOwnNames, specs.Steps.{answer, Steps}, specs.Runs.History, proofs.AnswerLaws.{no-reason, head-clear, map-clear}, proofs.CarryDone.carry-clear, proofs.OwnAlways.own-answer, proofs.Same.equal_texts, proofs.TellingDecks.{none_found, all_next, all_weaker, all_filtered, all_added, all_put}}
+use Rattle.desk_core.{specs.Joins.Language.{Card, Deck}, specs.Joins.Causes.when, specs.Joins.Edits.{Edit, most_cards, first_fault, edited_by}, specs.Past.{Past, begun_at, past_after}, specs.Desks.{Desk, DeskDeck, Publication, most_decks, is_named, deck_named, put_if_named, is_leased, is_leased_at, decks_of}, specs.Joins.Calls.{Exactly, Since, AddDeck, PutDeck, DropDeck, EditDeck, Undo, Changes, CardsAt, Cards, Show, Status, Claim, DeliverDeck, DeliverLink, Publish, GiveUp, Call, Make, Ask, Do, Done, Reply, Refusal, NameTaken, TooManyDecks, DeckFull, NoDeck, BatchSize}, specs.Answers.{Answer, unless, against_next}, specs.Changing.{accepted, against_add, added_deck, added, against_put, replaced_deck, put, put_where, against_drop, dropped, edited_deck, edited, against_edits, is_batch, bad_edit, shown, against_seen}, specs.Carrying.{carried_since, against_carry, accept_carried, edit_since_of, is_alone, edits_of}, specs.Undoing.{backs_at, against_change, undo_where}, specs.Earlier.{against_since, changes_of, cards_at_of}, specs.Claiming.{claim, claim_deck, claim_link, hand_out, hand_out_link, given, is_behind, is_free, is_published}, specs.Delivering.{deliver_to, take_result, deck_leased, lost, given_back, stored, is_for, is_sound, same_decks, deliver_link, publish, give_up_of}, specs.Joins.OwnNames.HaveOwnNames, specs.Steps.{answer, Steps}, specs.Runs.History, proofs.AnswerLaws.{no-reason, head-clear, map-clear}, proofs.CarryDone.carry-clear, proofs.OwnAlways.own-answer, proofs.Same.equal_texts, proofs.Starved.starved_has, proofs.TellingDecks.{none_found, all_next, all_weaker, all_filtered, all_added, all_put}}
 
 named-head : (name : List ℕ) (d : DeskDeck) (decks : List DeskDeck) (named : Bool) → is_named name d ≡ named → find (is_named d.name) decks ≡ None →
     AllByRecursion (λ (x : DeskDeck). is_named name x ≡ true → find (is_named name) decks ≡ Some x) decks →
@@ -153,9 +153,6 @@ module _ (R : ℕ → List ℕ → List Card → Past → Type 0) (desk : Desk) 
       (λ present. cond_both (not (same_decks publication.decks (decks_of desk))) _ _ Told (λ other. all) (λ same. all))))
       (λ unknown. all)
 
-  told-offer : (number : ℕ) → Told (offer_object number desk)
-  told-offer number = cond_both (is_leased number desk.link) _ _ Told (λ out. all) (λ unknown. all)
-
   told-publish : (number : ℕ) → Told (publish number desk)
   told-publish number =
       cond_both (is_leased number desk.link) _ _ Told
@@ -183,7 +180,6 @@ module _ (R : ℕ → List ℕ → List Card → Past → Type 0) (desk : Desk) 
   told-answer (Do Claim) = told-claim
   told-answer (Do (DeliverDeck done)) = told-deliver-to done (deck_leased done.lease desk)
   told-answer (Do (DeliverLink number publication)) = told-link number publication
-  told-answer (Do (OfferObject number place object)) = told-offer number
   told-answer (Do (Publish number)) = told-publish number
   told-answer (Do (GiveUp number)) = told-give-up number (deck_leased number desk)
 
@@ -195,7 +191,7 @@ pub record AllSo (R : ℕ → List ℕ → List Card → Past → Type 0) (desk 
 -- after each step
 pub so-next : (R : ℕ → List ℕ → List Card → Past → Type 0) (desk : Desk) (call : Call) (reply : Reply) (next : Desk) → Steps desk call reply next → IsKept R desk.version → AllSo R desk → AllSo R next
 so-next R desk call reply next (inl gave) keeps so = subst (AllSo R) (sym gave.1) (record { own = own-answer desk so.own call; all = told-answer R desk keeps so.own so.all call })
-so-next R desk call reply next (inr starved) keeps so = subst (AllSo R) (sym starved.2) so
+so-next R desk call reply next (inr left) keeps so = subst (AllSo R) (sym left.2) (starved_has (AllSo R) call desk so (record { own = so.own; all = so.all }))
 
 -- what the changes at each version keep holds on each desk that is reached
 pub so-through : (R : ℕ → List ℕ → List Card → Past → Type 0) (desk last : Desk) (history : History) → ((version : ℕ) → IsKept R version) → Leads Steps desk history last → AllSo R desk → AllSo R last

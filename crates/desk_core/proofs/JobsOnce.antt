@@ -1,7 +1,7 @@
 -- Each deck job is what the history before it makes due.
 use Rattle.std.proofs.{Common.{◌≡◌, inl, inr, ℕ, List, Option, Some, None, [], ◌∷◌, ◌++◌, reverse, refl, sym, ap, ◌∙◌, subst, append_assoc, append-nil}, lemmas.List.reverse-append}
 use Rattle.turn_office.specs.{declared.history.Entry.Entry, Histories.{Leads, entry}}
-use Rattle.desk_core.{specs.Desks.{Desk, DeskDeck, deck_named, new_desk_at}, specs.Past.backs_of, specs.Answers.answers, specs.Earlier.{against_since, edits_behind, changes_of, cards_at_of}, specs.Joins.Calls.{Question, Changes, CardsAt, Cards, Show, Status, Work, Claim, DeliverDeck, DeliverLink, OfferObject, Publish, GiveUp, Call, Make, Ask, Do, DeckWork, Reply, DeckJob, ChangesAre, CardsBefore, Refused, OutOfMemory, NoDeck}, specs.Reading.{cards_reply, show_reply}, specs.Steps.{answer_to_question, answer_to_work, answer, Steps}, specs.Runs.{History, Runs}, specs.Jobs.IsDue, proofs.JobsTold.{IsDeskTold, desk_told_first}, proofs.QuietSteps.{quiet, starved_quiet}, proofs.ChangeSteps.{Next, next_quiet, next_unless, change_next}, proofs.ClaimSteps.{claim_next, claim_due}, proofs.ResultSteps.{deliver_deck_next, deliver_link_next, offer_next, publish_next, give_up_next}}
+use Rattle.desk_core.{specs.Desks.{Desk, DeskDeck, deck_named, new_desk_at}, specs.Past.backs_of, specs.Answers.answers, specs.Earlier.{against_since, edits_behind, changes_of, cards_at_of}, specs.Joins.Calls.{Question, Changes, CardsAt, Cards, Show, Status, Work, Claim, DeliverDeck, DeliverLink, Publish, GiveUp, Call, Make, Ask, Do, DeckWork, Reply, DeckJob, ChangesAre, CardsBefore, Refused, OutOfMemory, NoDeck}, specs.Reading.{cards_reply, show_reply}, specs.Steps.{answer_to_question, answer_to_work, answer, Steps}, specs.Runs.{History, Runs}, specs.Jobs.IsDue, proofs.JobsTold.{IsDeskTold, desk_told_first}, proofs.QuietSteps.{quiet, starved_quiet, told_unlinked}, proofs.Starved.starved_has, specs.Delivering.unlinked, proofs.ChangeSteps.{Next, next_quiet, next_unless, change_next}, proofs.ClaimSteps.{claim_next, claim_due}, proofs.ResultSteps.{deliver_deck_next, deliver_link_next, publish_next, give_up_next}}
 
 module _ (history : History) (by : ℕ) (desk : Desk) (told : IsDeskTold history desk) where
   -- what reads a past means nothing
@@ -28,7 +28,6 @@ module _ (history : History) (by : ℕ) (desk : Desk) (told : IsDeskTold history
   work_next Claim = claim_next history by desk told
   work_next (DeliverDeck done) = deliver_deck_next history by desk told done
   work_next (DeliverLink number publication) = deliver_link_next history by desk told number publication
-  work_next (OfferObject number place object) = offer_next history by desk told number place object
   work_next (Publish number) = publish_next history by desk told number
   work_next (GiveUp number) = give_up_next history by desk told number
 
@@ -41,7 +40,10 @@ module _ (history : History) (by : ℕ) (desk : Desk) (told : IsDeskTold history
   -- what is stated after each step
   pub step_next : (call : Call) (reply : Reply) (next : Desk) → Steps desk call reply next → IsDeskTold (entry by call reply ∷ history) next
   step_next call reply next (inl gave) = rw (gave.0, gave.1) (answer_next call)
-  step_next call reply next (inr starved) = rw (starved.1, starved.2) (next_quiet history by desk told call (Refused OutOfMemory) (starved_quiet history desk.leases by call))
+  step_next call reply next (inr left) =
+      let e = entry by call (Refused OutOfMemory) in
+      let silent = starved_quiet history desk.leases by call in
+      rw (left.1, left.2) (starved_has (IsDeskTold (e ∷ history)) call desk (next_quiet history by desk told call (Refused OutOfMemory) silent) (told_unlinked history e desk (unlinked desk) silent told refl refl refl refl))
 
   -- a job that a step hands out is due
   pub step_due : (next : Desk) (job : DeckWork) → Steps desk (Do Claim) (DeckJob job) next → IsDue job history

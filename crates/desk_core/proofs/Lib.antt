@@ -2,6 +2,7 @@ pub mod Same
 pub mod DecksSeen
 pub mod Outcomes
 pub mod Staying
+pub mod Starved
 pub mod Accepting
 pub mod Publishing
 pub mod OwnPublication

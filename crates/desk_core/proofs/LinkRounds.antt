@@ -1,6 +1,6 @@
 -- A round at a desk without leases where no deck is behind: its link is published, or it is idle.
 use Rattle.std.{proofs.Common.{◌≡◌, ◌+◌, ◌==◌, ◌≤◌, Bool, true, false, cond, not, Option, Some, refl, sym, ap, ◌∙◌, subst, arith, eq-eqb}, specs.Prelude.find, specs.List.list_any, proofs.lemmas.Bool.{cond-true, cond-false}}
-use Rattle.desk_core.{specs.Desks.{Desk, Lease, Publication, is_leased_at, decks_of, greatest_number}, specs.Joins.Calls.{Idle, Stored, Refusal}, specs.Answers.{Answer, answers, unless}, specs.Claiming.{claim, claim_deck, claim_link, hand_out_link, is_behind, is_free, is_published}, specs.Delivering.{deliver_link, same_decks, unlinked}, specs.Rounds.{after_job, after_round}, proofs.Same.same_decks-itself, proofs.RoundsLeft.{rounds_in, link_rounds}, proofs.DeckRounds.{IsResting, Goes, none_against}}
+use Rattle.desk_core.{specs.Desks.{Desk, Lease, is_leased_at, greatest_number}, specs.Joins.Calls.{Idle, Published, Refusal}, specs.Answers.{Answer, answers, unless}, specs.Claiming.{claim, claim_deck, claim_link, hand_out_link, is_behind, is_free, is_published}, specs.Delivering.{publish, own_publication, unlinked}, specs.Rounds.{after_job, after_round}, proofs.RoundsLeft.{rounds_in, link_rounds}, proofs.DeckRounds.{IsResting, Goes, none_against}}
 
 module _ (desk : Desk) (built : list_any is_behind desk.decks ≡ false) where
   claimed : claim desk ≡ claim_link desk
@@ -22,24 +22,23 @@ module _ (desk : Desk) (built : list_any is_behind desk.decks ≡ false) where
     abbrev out : Desk
     out = (hand_out_link desk).desk
 
-    abbrev publication : Publication
-    publication = record { version = desk.version; decks = decks_of desk }
+    -- the desk that published its decks
+    abbrev last : Desk
+    last = record (unlinked out) { publication = Some (own_publication out) }
 
-    -- its link is delivered
-    delivered : deliver_link (desk.leases + 1) publication out ≡ answers Stored (record (unlinked out) { publication = Some publication })
-    delivered =
+    -- it publishes them
+    published : publish (desk.leases + 1) out ≡ answers (Published desk.publication) last
+    published =
         let present : (desk.version == desk.version) ≡ true = eq-eqb desk.version desk.version refl in
         cond-true (desk.leases + 1 == desk.leases + 1) _ _ (eq-eqb (desk.leases + 1) (desk.leases + 1) refl)
         ∙ cond-false (not (desk.version == desk.version)) _ _ (ap not present)
-        ∙ cond-false (not (desk.version == desk.version)) _ _ (ap not present)
-        ∙ cond-false (not (same_decks (decks_of desk) (decks_of desk))) _ _ (ap not (same_decks-itself (decks_of desk)))
+        ∙ cond-false (list_any is_behind desk.decks) _ _ built
 
-    goes_delivered : Goes desk (record (unlinked out) { publication = Some publication })
-    goes_delivered =
-        let next : Desk = record (unlinked out) { publication = Some publication } in
+    goes_published : Goes desk last
+    goes_published =
         let before : link_rounds desk ≡ 1 = ap (λ (b : Bool). cond b 0 1) unpublished in
-        let after : link_rounds next ≡ 0 = ap (λ (b : Bool). cond b 0 1) (eq-eqb desk.version desk.version refl) in
-        let decks : rounds_in next.decks ≡ rounds_in desk.decks = refl in
+        let after : link_rounds last ≡ 0 = ap (λ (b : Bool). cond b 0 1) (eq-eqb desk.version desk.version refl) in
+        let decks : rounds_in last.decks ≡ rounds_in desk.decks = refl in
         record {
           resting = record { own = resting.own; ungiven = resting.ungiven; unlinked = refl };
           version = refl;
@@ -51,4 +50,4 @@ module _ (desk : Desk) (built : list_any is_behind desk.decks ≡ false) where
     pub link_round : Goes desk (after_round desk)
     link_round =
         subst (λ (a : Answer). Goes desk (after_job a.reply a.desk)) (sym link_claimed)
-        (subst (λ (a : Answer). Goes desk a.desk) (sym delivered) goes_delivered)
+        (subst (λ (a : Answer). Goes desk a.desk) (sym published) goes_published)

@@ -1,7 +1,7 @@
 -- The decks of a desk have names of their own in every run.
 use Rattle.std.{proofs.Common.{◌≡◌, ℕ, ◌+◌, ◌==◌, Bool, true, false, cond, not, ◌||◌, is_none, List, [], ◌∷◌, map, filter, find, is_some, Option, Some, None, Result, Ok, Err, option_map, refl, sym, ap, ◌∙◌, subst, inl, inr}, specs.List.list_any, proofs.lemmas.Bool.cond_both}
 use Rattle.turn_office.specs.Histories.{Leads}
-use Rattle.desk_core.{specs.Joins.Language.{Deck, same_text}, specs.Joins.Causes.{when, first_cause}, specs.Joins.Edits.Edit, specs.Desks.{Desk, DeskDeck, Publication, new_desk_at, is_named, deck_named, put_if_named, is_leased, is_leased_at, decks_of}, specs.Joins.Calls.{Exactly, Since, AddDeck, PutDeck, DropDeck, EditDeck, Undo, Changes, CardsAt, Cards, Show, Status, Claim, DeliverDeck, DeliverLink, OfferObject, Publish, GiveUp, Call, Make, Ask, Do, Done, Reply, Refusal, NameTaken}, specs.Answers.{Answer, unless, against_next}, specs.Changing.{accepted, against_add, added_deck, added, add_deck, against_put, replaced_deck, put, put_where, against_drop, dropped, drop_deck, edited_deck, edited, against_edits, shown, edit_deck}, specs.Carrying.{carried_since, against_carry, accept_carried, edit_since_of, is_alone, edits_of}, specs.Undoing.{backs_at, against_change, undo_where}, specs.Earlier.{against_since, changes_of, cards_at_of}, specs.Claiming.{claim, claim_deck, claim_link, hand_out, hand_out_link, given, is_behind, is_free, is_published}, specs.Delivering.{deliver_to, take_result, deck_leased, lost, given_back, stored, is_for, is_sound, same_decks, deliver_link, offer_object, publish, give_up_of}, specs.Steps.{answer, Steps}, specs.Runs.{History, Runs}, specs.Joins.OwnNames.HaveOwnNames, proofs.PlaceLaws.{fails-head, own-added}}
+use Rattle.desk_core.{specs.Joins.Language.{Deck, same_text}, specs.Joins.Causes.{when, first_cause}, specs.Joins.Edits.Edit, specs.Desks.{Desk, DeskDeck, Publication, new_desk_at, is_named, deck_named, put_if_named, is_leased, is_leased_at, decks_of}, specs.Joins.Calls.{Exactly, Since, AddDeck, PutDeck, DropDeck, EditDeck, Undo, Changes, CardsAt, Cards, Show, Status, Claim, DeliverDeck, DeliverLink, Publish, GiveUp, Call, Make, Ask, Do, Done, Reply, Refusal, NameTaken}, specs.Answers.{Answer, unless, against_next}, specs.Changing.{accepted, against_add, added_deck, added, add_deck, against_put, replaced_deck, put, put_where, against_drop, dropped, drop_deck, edited_deck, edited, against_edits, shown, edit_deck}, specs.Carrying.{carried_since, against_carry, accept_carried, edit_since_of, is_alone, edits_of}, specs.Undoing.{backs_at, against_change, undo_where}, specs.Earlier.{against_since, changes_of, cards_at_of}, specs.Claiming.{claim, claim_deck, claim_link, hand_out, hand_out_link, given, is_behind, is_free, is_published}, specs.Delivering.{deliver_to, take_result, deck_leased, lost, given_back, stored, is_for, is_sound, same_decks, deliver_link, publish, give_up_of}, specs.Steps.{answer, Steps}, specs.Runs.{History, Runs}, specs.Joins.OwnNames.HaveOwnNames, proofs.PlaceLaws.{fails-head, own-added}, proofs.Starved.starved_has}
 use Rattle.cards.specs.declared.carrying.Touched.{Touched}
 
 -- a deck in another form under its name
@@ -108,9 +108,6 @@ module _ (desk : Desk) (own : HaveOwnNames desk.decks) where
       (λ present. cond_both (not (same_decks publication.decks (decks_of desk))) _ _ Own (λ other. own) (λ same. own))))
       (λ unknown. own)
 
-  own-offer : (number : ℕ) → Own (offer_object number desk)
-  own-offer number = cond_both (is_leased number desk.link) _ _ Own (λ out. own) (λ unknown. own)
-
   own-publish : (number : ℕ) → Own (publish number desk)
   own-publish number =
       cond_both (is_leased number desk.link) _ _ Own
@@ -158,13 +155,12 @@ module _ (desk : Desk) (own : HaveOwnNames desk.decks) where
   own-answer (Do Claim) = own-claim
   own-answer (Do (DeliverDeck done)) = own-deliver-to done (deck_leased done.lease desk)
   own-answer (Do (DeliverLink number publication)) = own-link number publication
-  own-answer (Do (OfferObject number place object)) = own-offer number
   own-answer (Do (Publish number)) = own-publish number
   own-answer (Do (GiveUp number)) = own-give-up-of number (deck_leased number desk)
 
 own-next : (desk : Desk) (call : Call) (reply : Reply) (next : Desk) → Steps desk call reply next → HaveOwnNames desk.decks → HaveOwnNames next.decks
 own-next desk call reply next (inl given) own = subst (λ (d : Desk). HaveOwnNames d.decks) (sym given.1) (own-answer desk own call)
-own-next desk call reply next (inr starved) own = subst (λ (d : Desk). HaveOwnNames d.decks) (sym starved.2) own
+own-next desk call reply next (inr left) own = subst (λ (d : Desk). HaveOwnNames d.decks) (sym left.2) (starved_has (λ (d : Desk). HaveOwnNames d.decks) call desk own own)
 
 own-through : (desk last : Desk) (history : History) → Leads Steps desk history last → HaveOwnNames desk.decks → HaveOwnNames last.decks
 own-through desk last [] leads own = subst (λ (d : Desk). HaveOwnNames d.decks) leads own

@@ -1,6 +1,6 @@
 -- The call whose outcome may be a publication, and the outcome of each step.
 use Rattle.std.{proofs.Common.{◌≡◌, inl, inr, ℕ, List, ◌==◌, true, false, not, refl, sym, ap, ◌∙◌, eqb-true}, specs.List.list_any, proofs.lemmas.Bool.{cond_both, not-false}}
-use Rattle.desk_core.{specs.Desks.{Desk, Publication, decks_of, is_leased, is_leased_at}, specs.Joins.Calls.{Change, Question, Work, Claim, DeliverDeck, DeliverLink, OfferObject, Publish, GiveUp, Call, Make, Ask, Do, Reply, Refused, OutOfMemory}, specs.Joins.Language.Deck, specs.Claiming.is_behind, specs.Delivering.{deliver_link, take_link, same_decks, offer_object, publish, own_publication}, specs.Steps.{answer_to_work, answer, Steps}, specs.Runs.{accepts, IsUnchanged}, proofs.Same.equal_lists, proofs.Outcomes.{Outcome, Comes, Stays, by_staying, by_changing, by_publishing, publishes, unchanged_itself, refused_stays, either_comes}, proofs.Staying.{leaves, question_leaves, claim_stays, deliver_deck_stays, give_up_stays, unlinks, tells}, proofs.Accepting.{change_comes, change_unpublished}}
+use Rattle.desk_core.{specs.Desks.{Desk, Publication, decks_of, is_leased, is_leased_at}, specs.Joins.Calls.{Change, Question, Work, Claim, DeliverDeck, DeliverLink, Publish, GiveUp, Call, Make, Ask, Do, Reply, Refused, OutOfMemory}, specs.Joins.Language.Deck, specs.Claiming.is_behind, specs.Delivering.{deliver_link, take_link, same_decks, publish, own_publication}, specs.Steps.{answer_to_work, answer, Steps}, specs.Runs.{accepts, IsUnchanged}, proofs.Same.equal_lists, proofs.Outcomes.{Outcome, Comes, Stays, by_staying, by_changing, by_publishing, publishes, unchanged_itself, refused_stays, either_comes}, proofs.Staying.{leaves, question_leaves, claim_stays, deliver_deck_stays, give_up_stays, unlinks}, proofs.Starved.starved_has, proofs.Accepting.{change_comes, change_unpublished}}
 
 take_link_comes : (number : ℕ) (publication : Publication) (desk : Desk) → Comes desk (Do (DeliverLink number publication)) (take_link publication desk)
 take_link_comes number publication desk =
@@ -21,12 +21,6 @@ take_link_comes number publication desk =
 
 link_comes : (number : ℕ) (publication : Publication) (desk : Desk) → Comes desk (Do (DeliverLink number publication)) (deliver_link number publication desk)
 link_comes number publication desk = either_comes desk (Do (DeliverLink number publication)) (is_leased number desk.link) _ _ (take_link_comes number publication desk) (refused_stays desk (Do (DeliverLink number publication)) _)
-
--- an object that is offered
-offer_comes : (number place : ℕ) (object : Deck) (desk : Desk) → Comes desk (Do (OfferObject number place object)) (offer_object number desk)
-offer_comes number place object desk =
-    let call = Do (OfferObject number place object) in
-    either_comes desk call (is_leased number desk.link) _ _ (tells desk call _ refl) (refused_stays desk call _)
 
 -- the desk's own decks, published by the desk
 publish_comes : (number : ℕ) (desk : Desk) → Comes desk (Do (Publish number)) (publish number desk)
@@ -52,7 +46,6 @@ work_comes : (work : Work) (desk : Desk) → Comes desk (Do work) (answer_to_wor
 work_comes Claim desk = claim_stays desk
 work_comes (DeliverDeck done) desk = deliver_deck_stays done desk
 work_comes (DeliverLink number publication) desk = link_comes number publication desk
-work_comes (OfferObject number place object) desk = offer_comes number place object desk
 work_comes (Publish number) desk = publish_comes number desk
 work_comes (GiveUp number) desk = give_up_stays number desk
 
@@ -65,7 +58,7 @@ answer_comes (Do work) desk = work_comes work desk
 -- the outcome of each step
 pub step_comes : (desk : Desk) (call : Call) (reply : Reply) (next : Desk) → Steps desk call reply next → Outcome desk call reply next
 step_comes desk call reply next (inl given) = rw (given.0, given.1) (answer_comes call desk)
-step_comes desk call reply next (inr starved) = rw (starved.1, starved.2) (refused_stays desk call OutOfMemory)
+step_comes desk call reply next (inr left) = rw (left.1, left.2) (starved_has (Outcome desk call (Refused OutOfMemory)) call desk (refused_stays desk call OutOfMemory) (unlinks desk call (Refused OutOfMemory) refl))
 
 -- a question leaves what everybody sees
 pub asked_leaves : (desk next : Desk) (question : Question) (reply : Reply) → Steps desk (Ask question) reply next → Stays desk reply next

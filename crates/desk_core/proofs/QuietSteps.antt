@@ -1,7 +1,7 @@
 -- Entries that mean nothing for records, and steps with such an entry.
 use Rattle.std.{proofs.Common.{◌≡◌, ℕ, ◌<◌, ◌≤◌, Bool, List, ◌∷◌, filter, Some, None, refl, ap, ◌∙◌, arith}, specs.List.AllByRecursion}
 use Rattle.turn_office.specs.{declared.history.Entry.Entry, Histories.entry}
-use Rattle.desk_core.{specs.Desks.{Desk, DeskDeck}, specs.Joins.Calls.{Exactly, Since, AddDeck, PutDeck, DropDeck, EditDeck, Undo, Claim, DeliverDeck, DeliverLink, OfferObject, Publish, GiveUp, Call, Make, Ask, Do, Reply, Refused, OutOfMemory}, specs.Runs.History, specs.Jobs.{identity_in, leased_in, Effect, Leaves, effect_on, after_effect, since_job}, proofs.JobsTold.{name_in, since_of, IsDeckTold, IsUnreached, IsDeskTold, IsLeaseTold, AddsNone, LeasesNone, meant_still, lease_told_still, deck_told_next}, proofs.TellingDecks.{all_weaker, all_filtered}}
+use Rattle.desk_core.{specs.Desks.{Desk, DeskDeck}, specs.Joins.Calls.{Exactly, Since, AddDeck, PutDeck, DropDeck, EditDeck, Undo, Claim, DeliverDeck, DeliverLink, Publish, GiveUp, Call, Make, Ask, Do, Reply, Refused, OutOfMemory}, specs.Runs.History, specs.Jobs.{identity_in, leased_in, Effect, Leaves, effect_on, after_effect, since_job}, proofs.JobsTold.{name_in, since_of, IsDeckTold, IsUnreached, IsDeskTold, IsLeaseTold, AddsNone, LeasesNone, meant_still, lease_told_still, deck_told_next}, proofs.TellingDecks.{all_weaker, all_filtered}}
 
 -- an entry that adds no deck, gives no lease that was given before, and leaves each record
 pub record IsQuiet (history : History) (leases : ℕ) (e : Entry Call Reply) : Type 0 where
@@ -26,7 +26,6 @@ starved_quiet history leases by (Ask question) = quiet _ _ _ (λ n. refl) (λ i.
 starved_quiet history leases by (Do Claim) = quiet _ _ _ (λ n. refl) (λ i. refl) (λ n. refl) (λ d. refl)
 starved_quiet history leases by (Do (DeliverDeck done)) = quiet _ _ _ (λ n. refl) (λ i. refl) (λ n. refl) (λ d. refl)
 starved_quiet history leases by (Do (DeliverLink number publication)) = quiet _ _ _ (λ n. refl) (λ i. refl) (λ n. refl) (λ d. refl)
-starved_quiet history leases by (Do (OfferObject number place object)) = quiet _ _ _ (λ n. refl) (λ i. refl) (λ n. refl) (λ d. refl)
 starved_quiet history leases by (Do (Publish number)) = quiet _ _ _ (λ n. refl) (λ i. refl) (λ n. refl) (λ d. refl)
 starved_quiet history leases by (Do (GiveUp number)) = quiet _ _ _ (λ n. refl) (λ i. refl) (λ n. refl) (λ d. refl)
 

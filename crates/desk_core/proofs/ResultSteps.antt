@@ -1,7 +1,7 @@
 -- What is stated of a desk after a call that ends a lease.
 use Rattle.std.{proofs.Common.{◌≡◌, ℕ, ◌==◌, Bool, true, false, cond, not, ◌||◌, List, ◌∷◌, is_some, is_none, Option, Some, None, refl, sym, ap, ◌∙◌, arith, eqb-true}, specs.List.list_any, proofs.lemmas.Bool.{cond_both, or_parts}}
 use Rattle.turn_office.specs.{declared.history.Entry.Entry, Histories.entry}
-use Rattle.desk_core.{specs.Joins.Language.Deck, specs.Joins.Edits.Edit, specs.Desks.{Desk, DeskDeck, Lease, Kept, Publication, decks_of, with_deck, is_leased, is_leased_at}, specs.Joins.Calls.{DeliverDeck, DeliverLink, OfferObject, Publish, GiveUp, Call, Do, Done, Reply, Stored, Cleared, Refused, Stale, Foreign}, specs.Answers.answers, specs.Claiming.is_behind, specs.Delivering.{deliver_deck, deliver_to, take_result, deck_leased, lost, given_back, stored, is_for, is_sound, same_decks, deliver_link, offer_object, publish, give_up, give_up_of, unlinked}, specs.Runs.History, specs.Jobs.{deck_of_lease, Loses, Leaves, effect_if, since_job}, proofs.JobsTold.{since_of, IsLeaseTold, IsDeckTold, IsDeskTold}, proofs.TellingDecks.found_told, proofs.QuietSteps.{IsQuiet, quiet, told_unlinked}, proofs.TouchedSteps.{Touches, told_touched, leaves_each}, proofs.ChangeSteps.{Next, next_quiet}}
+use Rattle.desk_core.{specs.Joins.Language.Deck, specs.Joins.Edits.Edit, specs.Desks.{Desk, DeskDeck, Lease, Kept, Publication, decks_of, with_deck, is_leased, is_leased_at}, specs.Joins.Calls.{DeliverDeck, DeliverLink, Publish, GiveUp, Call, Do, Done, Reply, Stored, Cleared, Refused, Stale, Foreign}, specs.Answers.answers, specs.Claiming.is_behind, specs.Delivering.{deliver_deck, deliver_to, take_result, deck_leased, lost, given_back, stored, is_for, is_sound, same_decks, deliver_link, publish, give_up, give_up_of, unlinked}, specs.Runs.History, specs.Jobs.{deck_of_lease, Loses, Leaves, effect_if, since_job}, proofs.JobsTold.{since_of, IsLeaseTold, IsDeckTold, IsDeskTold}, proofs.TellingDecks.found_told, proofs.QuietSteps.{IsQuiet, quiet, told_unlinked}, proofs.TouchedSteps.{Touches, told_touched, leaves_each}, proofs.ChangeSteps.{Next, next_quiet}}
 
 -- a lease that is out was given for what it is stated of
 leased_for : (history : History) (leases number : ℕ) (for : Option ℕ) (lease : Option Lease) → IsLeaseTold history leases for lease → is_leased number lease ≡ true → deck_of_lease number history ≡ for
@@ -92,13 +92,6 @@ module _ (history : History) (by : ℕ) (desk : Desk) (told : IsDeskTold history
       (λ ours. cond_both (not (publication.version == desk.version)) _ _ P (λ old. next_unlinked call _ _ (quiet _ _ _ (λ n. refl) (λ i. refl) (λ n. refl) (λ d. refl)) refl refl refl refl)
       (λ present. cond_both (not (same_decks publication.decks (decks_of desk))) _ _ P (λ other. next_unlinked call _ _ (quiet _ _ _ (λ n. refl) (λ i. refl) (λ n. refl) (λ d. refl)) refl refl refl refl)
       (λ same. next_unlinked call _ _ (quiet _ _ _ (λ n. refl) (λ i. refl) (λ n. refl) (λ d. refl)) refl refl refl refl))))
-      (λ unknown. next_quiet history by desk told call _ (quiet _ _ _ (λ n. refl) (λ i. refl) (λ n. refl) (λ d. refl)))
-
-  pub offer_next : (number place : ℕ) (object : Deck) → Next history by desk told (Do (OfferObject number place object)) (offer_object number desk)
-  offer_next number place object =
-      let call = Do (OfferObject number place object) in
-      cond_both (is_leased number desk.link) _ _ (Next history by desk told call)
-      (λ out. next_quiet history by desk told call _ (quiet _ _ _ (λ n. refl) (λ i. refl) (λ n. refl) (λ d. refl)))
       (λ unknown. next_quiet history by desk told call _ (quiet _ _ _ (λ n. refl) (λ i. refl) (λ n. refl) (λ d. refl)))
 
   pub publish_next : (number : ℕ) → Next history by desk told (Do (Publish number)) (publish number desk)

@@ -3,7 +3,7 @@ use Rattle.std.{proofs.Common.{◌≡◌, ℕ, ◌==◌, false, not, ◌||◌, i
 use Rattle.desk_core.{specs.Desks.{Desk, DeskDeck, Publication, deck_of, deck_named, with_deck, is_leased, is_leased_at}, specs.Joins.Calls.{Question, Changes, CardsAt, Cards, Show, Status, Claim, DeliverDeck, GiveUp, Done, Call, Do, Reply, ChangesAre, CardsBefore, Refused, Refusal, NoDeck}, specs.Past.backs_of, specs.Earlier.{against_since, edits_behind, changes_of, cards_at_of}, specs.Answers.{answers, unless, against_next}, specs.Reading.{cards_reply, show_reply}, specs.Steps.answer_to_question, specs.Claiming.{claim, claim_deck, claim_link, hand_out, hand_out_link, given, is_behind, is_free, is_published}, specs.Delivering.{deliver_deck, deliver_to, take_result, deck_leased, lost, given_back, stored, is_for, is_sound, give_up, give_up_of, unlinked}, specs.Runs.accepts, proofs.DecksSeen.decks_of-kept, proofs.Outcomes.{Comes, Stays, by_staying, unchanged_itself, refused_stays, either_comes, unless_comes}}
 
 -- a reply with the desk as it is
-pub tells : (desk : Desk) (call : Call) (reply : Reply) → accepts reply ≡ false → Comes desk call (answers reply desk)
+tells : (desk : Desk) (call : Call) (reply : Reply) → accepts reply ≡ false → Comes desk call (answers reply desk)
 tells desk call reply silent = by_staying (record { silent = silent; unchanged = unchanged_itself desk })
 
 -- a deck is put in a form with the same name and cards

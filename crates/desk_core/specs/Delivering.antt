@@ -1,6 +1,6 @@
--- Calls that end a lease: DeliverDeck, DeliverLink, Publish, GiveUp; and OfferObject, which comes before Publish (ours).
+-- Calls that end a lease: DeliverDeck, DeliverLink, Publish, GiveUp (ours).
 use Rattle.std.specs.{Prelude.{ℕ, ◌==◌, Bool, true, false, not, ◌&&◌, ◌||◌, List, [], ◌∷◌, find, is_none, Option, Some, None, if◌then◌else◌}, List.list_any}
-use Rattle.desk_core.specs.{Joins.Language.{Card, Deck, same_text}, Desks.{Desk, DeskDeck, Kept, Publication, is_leased, is_leased_at, deck_of, decks_of, with_deck}, Joins.Calls.{Done, Stored, Considered, Published, Cleared, Refused, UnknownJob, Stale, Foreign}, Answers.{Answer, answers}, Claiming.is_behind}
+use Rattle.desk_core.specs.{Joins.Language.{Card, Deck, same_text}, Desks.{Desk, DeskDeck, Kept, Publication, is_leased, is_leased_at, deck_of, decks_of, with_deck}, Joins.Calls.{Done, Stored, Published, Cleared, Refused, UnknownJob, Stale, Foreign}, Answers.{Answer, answers}, Claiming.is_behind}
 
 -- whether cards are the same, one by one
 abbrev pub same_cards : List Card → List Card → Bool
@@ -79,10 +79,6 @@ take_link publication desk =
 -- DeliverLink
 abbrev pub deliver_link : ℕ → Publication → Desk → Answer
 deliver_link number publication desk = if is_leased number desk.link then take_link publication desk else answers (Refused UnknownJob) desk
-
--- OfferObject: what an object adds to one of the same deck is not seen here, so the desk is as it was
-abbrev pub offer_object : ℕ → Desk → Answer
-offer_object number desk = if is_leased number desk.link then answers Considered desk else answers (Refused UnknownJob) desk
 
 -- the publication of a desk as it is
 abbrev pub own_publication : Desk → Publication

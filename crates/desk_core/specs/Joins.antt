@@ -9,3 +9,4 @@ pub mod OwnNames
 pub mod Turns
 pub mod Delivered
 pub mod Pieces
+pub mod Shown

@@ -1,14 +1,14 @@
 -- Rounds of work, each a claim and the call that ends the job that it gives, where memory is found (ours).
 use Rattle.std.specs.Prelude.{ℕ, zero, suc, ◌+◌, ◌*◌, length, is_none, if◌then◌else◌}
-use Rattle.desk_core.specs.{Joins.Edits.first_fault, Desks.Desk, Joins.Calls.{Claim, DeliverDeck, DeliverLink, GiveUp, Call, Do, DeckWork, LinkWork, Reply, DeckJob, LinkJob}, Making.{start_cards, done_of}, Steps.answer}
+use Rattle.desk_core.specs.{Joins.Edits.first_fault, Desks.Desk, Joins.Calls.{Claim, DeliverDeck, Publish, GiveUp, Call, Do, DeckWork, LinkWork, Reply, DeckJob, LinkJob}, Making.{start_cards, done_of}, Steps.answer}
 
 -- the call that ends a deck job: what it makes is delivered; or it is given up, where one of its edits does not apply
 abbrev pub end_of_deck : DeckWork → Call
 end_of_deck work = if is_none (first_fault work.edits (start_cards work.start)) then Do (DeliverDeck (done_of work)) else Do (GiveUp work.lease)
 
--- the call that ends a link job: the objects are delivered under its version
+-- the call that ends a link job: the desk is to publish
 abbrev pub end_of_link : LinkWork → Call
-end_of_link work = Do (DeliverLink work.lease (record { version = work.version; decks = work.objects }))
+end_of_link work = Do (Publish work.lease)
 
 -- the desk after the call that ends the job of a reply; as it is where that gives none
 abbrev pub after_job : Reply → Desk → Desk

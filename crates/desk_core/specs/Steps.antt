@@ -1,6 +1,6 @@
 -- The step of a desk (ours): a function of the call and the desk, and one free choice.
 use Rattle.std.specs.Prelude.{◌≡◌, ◌⊎◌, ℕ, List, Bool, true, false, not, ◌&&◌, IsTrue}
-use Rattle.desk_core.specs.{Desks.Desk, Joins.Calls.{Change, AddDeck, PutDeck, DropDeck, EditDeck, Undo, Question, Changes, CardsAt, Cards, Show, Status, Work, Claim, DeliverDeck, DeliverLink, OfferObject, Publish, GiveUp, Call, Make, Ask, Do, Reply, Changed, Carried, CardsAre, ChangesAre, CardsBefore, Shown, StatusIs, DeckJob, LinkJob, Published, Refused, OutOfMemory}, Answers.Answer, Changing.{add_deck, put_deck, drop_deck}, Reading.{cards, show, status}, Earlier.{changes, cards_at}, Carrying.edit_seen, Undoing.undo, Claiming.claim, Delivering.{deliver_deck, deliver_link, offer_object, publish, give_up}}
+use Rattle.desk_core.specs.{Desks.Desk, Joins.Calls.{Change, AddDeck, PutDeck, DropDeck, EditDeck, Undo, Question, Changes, CardsAt, Cards, Show, Status, Work, Claim, DeliverDeck, DeliverLink, Publish, GiveUp, Call, Make, Ask, Do, Reply, Changed, Carried, CardsAre, ChangesAre, CardsBefore, Shown, StatusIs, DeckJob, LinkJob, Published, Refused, OutOfMemory}, Answers.Answer, Changing.{add_deck, put_deck, drop_deck}, Reading.{cards, show, status}, Earlier.{changes, cards_at}, Carrying.edit_seen, Undoing.undo, Claiming.claim, Delivering.{deliver_deck, deliver_link, publish, give_up, unlinked}}
 
 -- what a change of who has a name is answered
 abbrev pub answer_to_change : List ℕ → Change → Desk → Answer
@@ -23,7 +23,6 @@ abbrev pub answer_to_work : Work → Desk → Answer
 answer_to_work Claim desk = claim desk
 answer_to_work (DeliverDeck done) desk = deliver_deck done desk
 answer_to_work (DeliverLink number publication) desk = deliver_link number publication desk
-answer_to_work (OfferObject number place object) desk = offer_object number desk
 answer_to_work (Publish number) desk = publish number desk
 answer_to_work (GiveUp number) desk = give_up number desk
 
@@ -56,8 +55,13 @@ is_made _ = false
 abbrev pub takes_memory : Call → Reply → Bool
 takes_memory call reply = not (is_drop call) && is_made reply
 
--- a step: the desk gives its answer; or, where that takes memory, it refuses for want of it and is as it was
+-- the desk where there was no memory for a call: as it was, but that the lease of a link ends which it was to publish
+abbrev pub starved : Call → Desk → Desk
+starved (Do (Publish number)) desk = unlinked desk
+starved call desk = desk
+
+-- a step: the desk gives its answer; or, where that takes memory, it refuses for want of it
 abbrev pub Steps : Desk → Call → Reply → Desk → Type 0
 Steps desk call reply next =
     ((reply ≡ (answer call desk).reply) × (next ≡ (answer call desk).desk))
-    ⊎ (IsTrue (takes_memory call (answer call desk).reply) × (reply ≡ Refused OutOfMemory) × (next ≡ desk))
+    ⊎ (IsTrue (takes_memory call (answer call desk).reply) × (reply ≡ Refused OutOfMemory) × (next ≡ starved call desk))

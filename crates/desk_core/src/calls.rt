@@ -91,15 +91,7 @@ pub enum Work {
         lease: u64,
         publication: SharedPublication,
     },
-    /// The object of the deck at a place, from 0, with the section that it has in the link job of this lease:
-    /// where both are of the same cards it takes the place of the deck's own, so that `Publish` finds the section
-    /// made.
-    OfferObject {
-        lease: u64,
-        place: usize,
-        object: ListedObject,
-    },
-    /// The desk links its own objects, as this lease was given for, and publishes them.
+    /// The desk publishes its own decks, as this lease was given for, which ends then in each case.
     Publish(u64),
     /// The lease ends without a result, and the record is lost.
     GiveUp(u64),

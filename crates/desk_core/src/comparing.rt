@@ -6,7 +6,7 @@ ghost use Rattle.desk_core.specs.Delivering.{same_cards, same_decks};
 
 use crate::stored_deck::StoredDeck;
 use cards::{Card, DeckName};
-use deck_listing::{LinkValue, ListedObject};
+use deck_listing::ListedObject;
 use definitions::is_same_text;
 
 pub(crate) fn same_name(name: &DeckName, other: &DeckName) -> bool
@@ -65,32 +65,6 @@ fn all_decks_same(objects: &[ListedObject], decks: &[StoredDeck]) -> bool
 {
     for (place, object) in objects.iter().enumerate() {
         if !decks[place].is_of_object(object) {
-            return false;
-        }
-    }
-    true
-}
-
-/// Whether an object keeps the section that another one of the same deck keeps, known by the places where the two
-/// stood. It saves work, and nothing rests on it: a link looks at the section itself.
-pub(crate) fn is_placed_alike(object: &ListedObject, other: &ListedObject) -> bool {
-    let Some(offered) = other.section() else {
-        return true;
-    };
-    let Some(section) = object.section() else {
-        return false;
-    };
-    section.base() == offered.base()
-        && section.values().len() == offered.values().len()
-        && are_worth_alike(section.values(), offered.values())
-}
-
-/// Whether values are worth the same, one by one.
-fn are_worth_alike(values: &[LinkValue], others: &[LinkValue]) -> bool
-    requires { length values.now ≡ length others.now }
-{
-    for (place, value) in values.iter().enumerate() {
-        if value.value() != others[place].value() {
             return false;
         }
     }

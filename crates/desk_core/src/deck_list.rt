@@ -184,35 +184,6 @@ impl DeckList {
         let deck = &mut self.decks[place];
         deck.store(alloc, kept, object);
     }
-
-    /// An object is offered to the deck at a place, if there is one.
-    pub(crate) fn offer_at(&mut self, place: usize, object: ListedObject)
-        ensures { self.new ≡ self.old }
-    {
-        if place < self.decks.len() {
-            let deck = &mut self.decks[place];
-            deck.offer(object);
-        }
-    }
-
-    /// The decks take their objects once more, with what a link has added to them.
-    pub(crate) fn refresh(&mut self, objects: &[ListedObject])
-        requires { objects.now ≡ map deck_of self.old }
-        ensures { self.new ≡ self.old }
-    {
-        refresh_all(self.decks.as_mut_slice(), objects);
-    }
-}
-
-/// Each deck takes the object at its place once more, with what a link has added to it.
-fn refresh_all(decks: &mut [StoredDeck], objects: &[ListedObject])
-    requires { objects.now ≡ map deck_of decks.old }
-    ensures { decks.new ≡ decks.old }
-{
-    for (place, object) in objects.iter().enumerate() {
-        let deck = &mut decks[place];
-        deck.refresh(object);
-    }
 }
 
 /// Where the deck of a name stands.

@@ -109,8 +109,7 @@ impl Desk {
         }
     }
 
-    /// A publication of these decks under this version is the last one, and the decks share its objects: so what
-    /// a link adds to an object, as the section of its deck, stays with the deck.
+    /// A publication of these decks under this version is the last one.
     fn take_link(&mut self, publication: SharedPublication) -> Reply
         ensures { IsAnswer (take_link publication self.old) result self.new }
     {
@@ -125,7 +124,6 @@ impl Desk {
         if !same_decks(publication.publication().objects(), self.decks.as_slice()) {
             return Reply::Refused(Refusal::Foreign);
         }
-        self.decks.refresh(publication.publication().objects());
         self.publication = Some(publication);
         Reply::Stored
     }

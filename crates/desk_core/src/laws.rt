@@ -59,7 +59,7 @@ pub fn work_is_handed_out()
 {}
 
 /// Work ends: from each desk that is reached and of which no lease is out, rounds of one who works
-/// alone, each a claim and the delivery of what its job makes, come to Idle with the desk's version:
+/// alone, each a claim and the call that ends its job, come to Idle with the desk's version:
 /// after at most two rounds for each deck (one of them may end a record of other cards) and one for
 /// the link. So at most twice as many claims as there are decks, and two, where memory is found and
 /// there are numbers for so many leases.

@@ -1,7 +1,7 @@
 //! The desk: decks that several people edit, jobs for those who assemble and link them, and the
 //! publication that everybody sees. Its definitions, the laws that hold over each run, and the code
-//! that makes each step. Nothing here assembles or reads; nothing is linked but a desk's own decks, where it
-//! publishes them by itself, and nothing is written but what a publication shows (`PublishedTexts`).
+//! that makes each step. Nothing here assembles or reads; nothing is linked or written but what a publication
+//! shows, when somebody asks for it (`PublishedTexts`).
 //!
 //! `specs/Lib.antt` has what a desk may answer: `Changes` the decks that accepted changes leave,
 //! `Past` what is kept of them, `Answers`, `Changing`, `Reading`, `Earlier`, `Carrying`, `Undoing`,
@@ -28,6 +28,7 @@ mod new_deck;
 mod published_texts;
 mod replies;
 mod shared_publication;
+mod shown_text;
 mod told_cards;
 
 // What the desk keeps.
@@ -69,8 +70,9 @@ pub use leases::Lease;
 pub use listed::Listed;
 pub use new_deck::NewDeck;
 pub use past::KeptEdit;
-pub use published_texts::{DeckText, PublishedText, shown_lines, shown_part, write_shown};
+pub use published_texts::{DeckText, PublishedText, show_part, show_text};
 pub use replies::{Refusal, Reply, Row, State};
 pub use shared_publication::{PublicationBefore, SharedPublication};
+pub use shown_text::ShownText;
 pub use stored_deck::StoredDeck;
 pub use told_cards::ToldCards;

@@ -1,40 +1,28 @@
-//! The link of a desk made by the desk itself, in one turn. That is quick where the objects of its decks keep the
-//! sections which they have in the link: who has the link job makes these outside of any turn, and offers them
-//! first. So no turn compares the cards of all decks to find out whose publication it is.
+//! A desk publishes its own decks, in one turn. They have their objects, each with its listing, and no text is made
+//! of them here: so a turn is no longer with many decks of many cards.
 ghost use Rattle.std.specs.Prelude.{◌≡◌, Some, false, IfOk};
 ghost use Rattle.std.specs.List.{list_any};
 ghost use Rattle.desk_core.specs.Desks.{decks_of};
 ghost use Rattle.desk_core.specs.Answers.{answers};
-ghost use Rattle.desk_core.specs.Joins.Calls.{Published, Refused};
+ghost use Rattle.desk_core.specs.Joins.Calls.{Do, Publish, Published, Refused};
 ghost use Rattle.desk_core.specs.Claiming.{is_behind};
-ghost use Rattle.desk_core.specs.Delivering.{offer_object, own_publication, publish, unlinked};
-ghost use Rattle.desk_core.specs.Joins.Turns.{IsAnswer, MayAnswer};
+ghost use Rattle.desk_core.specs.Delivering.{own_publication, unlinked};
+ghost use Rattle.desk_core.specs.Steps.{Steps};
+ghost use Rattle.desk_core.specs.Joins.Turns.{IsAnswer};
 
 use crate::claiming::objects;
 use crate::desk::Desk;
 use crate::leases::is_leased;
 use crate::replies::{Refusal, Reply};
 use crate::shared_publication::{PublicationBefore, SharedPublication};
-use deck_linker::publish;
-use deck_listing::ListedObject;
+use deck_linker::ListedPublication;
 use std::alloc::AllocError;
 use std::mem::replace;
 
 impl Desk {
-    /// An object for the deck at a place, with the section that it has in a link job.
-    pub(crate) fn offer_object(&mut self, lease: u64, place: usize, object: ListedObject) -> Reply
-        ensures { IsAnswer (offer_object lease self.old) result self.new }
-    {
-        if !is_leased(lease, self.link) {
-            return Reply::Refused(Refusal::UnknownJob);
-        }
-        self.decks.offer_at(place, object);
-        Reply::Considered
-    }
-
-    /// The desk links its own objects, and publishes them.
+    /// The desk publishes its decks. The lease ends in each case: where there is no memory for a publication too.
     pub(crate) fn publish(&mut self, lease: u64) -> Reply
-        ensures { MayAnswer self.old (publish lease self.old) result self.new }
+        ensures { Steps self.old (Do (Publish lease)) result self.new }
     {
         if !is_leased(lease, self.link) {
             return Reply::Refused(Refusal::UnknownJob);
@@ -47,7 +35,7 @@ impl Desk {
         }
         match self.own_publication() {
             Ok(publication) => self.put_up(publication),
-            Err(_) => Reply::Refused(Refusal::OutOfMemory),
+            Err(_) => self.end_link(Refusal::OutOfMemory),
         }
     }
 
@@ -65,20 +53,15 @@ impl Desk {
         ensures { IfOk result (λ publication. publication ≡ own_publication self.now) }
     {
         let objects = objects(self.alloc, self.decks())?;
-        SharedPublication::new(
-            self.alloc,
-            publish(self.alloc, self.keys, objects, self.version)?,
-        )
+        SharedPublication::new(self.alloc, ListedPublication::new(self.version, objects))
     }
 
-    /// A publication of its decks is the last one, and they share its objects: so what the link added to an object
-    /// stays with the deck.
+    /// A publication of its decks is the last one.
     fn put_up(&mut self, publication: SharedPublication) -> Reply
         requires { publication.decks ≡ decks_of self.old }
         ensures { IsAnswer (answers (Published self.old.publication) (record (unlinked self.old) { publication = Some publication })) result self.new }
     {
         self.link = None;
-        self.decks.refresh(publication.publication().objects());
         let before = replace(&mut self.publication, Some(publication));
         Reply::Published(PublicationBefore::new(before))
     }

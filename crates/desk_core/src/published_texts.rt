@@ -1,13 +1,14 @@
-//! The texts of a publication: how many lines they have, their bytes to a writer, and those of one of its decks.
-ghost use Rattle.std.specs.Prelude.{◌≡◌, ◌<◌, ◌^◌, option_map, IfErr};
-ghost use Rattle.text_ports.specs.Joins.Sending.{Sends, count_after_sending};
-ghost use Rattle.deck_linker.specs.Publishing.{lines_in};
+//! The texts of a publication, and those of one of its decks, made when somebody asks for them.
+ghost use Rattle.std.specs.Prelude.{◌≡◌, IfOk};
+ghost use Rattle.deck_linker.specs.Publishing.{listing_named};
 ghost use Rattle.desk_core.specs.PublishedTexts.{shown_part, shown_text};
 
+use crate::shown_text::ShownText;
 use cards::DeckName;
-use deck_linker::{ListedPublication, lines_in};
-use std::io::Write;
-use text_ports::{Broken, Counted, put_all};
+use deck_linker::ListedPublication;
+use std::alloc::{AllocError, Global};
+use std::hash::RandomState;
+use text_ports::Text;
 
 /// Which text of a publication is shown.
 #[derive(Clone, Copy)]
@@ -28,44 +29,58 @@ pub enum DeckText {
     Listing,
 }
 
-/// How many lines this text of a publication has.
-pub fn shown_lines(publication: &ListedPublication, text: PublishedText) -> usize
-    ensures { result ≡ lines_in (shown_text text publication.now.decks) }
-{
-    match text {
-        PublishedText::Image => publication.image_lines(),
-        PublishedText::Listing => publication.listing_lines(),
-        PublishedText::Map => lines_in(publication.map()),
-    }
-}
-
-/// Writes this text of a publication, or exactly the first `sent` bytes of it up to the first fault.
-pub fn write_shown<W: Write>(
-    output: &mut Counted<W>,
+/// This text of a publication.
+pub fn show_text(
+    alloc: Global,
+    keys: RandomState,
     publication: &ListedPublication,
     text: PublishedText,
-) -> Result<(), Broken>
-    ensures sends { Sends (W.contents output.old.0) (W.contents output.new.0) (shown_text text publication.now.decks) result }
-    ensures count { output.new.1 ≡ count_after_sending result output.old.1 }
-    ensures few { IfErr result (λ broken. broken.sent < 2 ^ 63) }
+) -> Result<ShownText, AllocError>
+    ensures { IfOk result (λ shown. shown ≡ shown_text text publication.now.decks) }
 {
     match text {
-        PublishedText::Image => publication.write_image(output),
-        PublishedText::Listing => publication.write_listing(output),
-        PublishedText::Map => put_all(output, publication.map()),
+        PublishedText::Image => Ok(ShownText::made(publication.image(alloc, keys)?)),
+        PublishedText::Listing => Ok(ShownText::of_decks(publication.listing(alloc, keys)?)),
+        PublishedText::Map => Ok(ShownText::made(publication.map(alloc, keys)?)),
     }
 }
 
 /// This text of the deck of a name, where a publication has one.
-pub fn shown_part<'a>(
-    publication: &'a ListedPublication,
+pub fn show_part(
+    alloc: Global,
+    keys: RandomState,
+    publication: &ListedPublication,
     text: DeckText,
     name: &DeckName,
-) -> Option<&'a [u8]>
-    ensures { option_map (λ part. part.now) result ≡ shown_part text name.now publication.now.decks }
+) -> Result<Option<ShownText>, AllocError>
+    ensures { IfOk result (λ part. part ≡ shown_part text name.now publication.now.decks) }
 {
     match text {
-        DeckText::Section => publication.section_named(name.as_slice()),
-        DeckText::Listing => publication.listing_named(name.as_slice()),
+        DeckText::Section => {
+            let section = publication.section_named(alloc, keys, name.as_slice())?;
+            Ok(shown_section(section))
+        }
+        DeckText::Listing => shown_listing(publication, name),
+    }
+}
+
+fn shown_section(section: Option<Text>) -> Option<ShownText>
+    ensures { result ≡ section }
+{
+    match section {
+        Some(text) => Some(ShownText::made(text)),
+        None => None,
+    }
+}
+
+fn shown_listing(
+    publication: &ListedPublication,
+    name: &DeckName,
+) -> Result<Option<ShownText>, AllocError>
+    ensures { IfOk result (λ part. part ≡ listing_named name.now publication.now.decks) }
+{
+    match publication.listed_named(name.as_slice()) {
+        Some(object) => Ok(Some(ShownText::of_deck(object)?)),
+        None => Ok(None),
     }
 }

@@ -143,8 +143,6 @@ pub enum Reply {
     AllOut,
     /// The result was taken.
     Stored,
-    /// The object was looked at.
-    Considered,
     /// The desk's decks are published; with the publication before, so that who asked lets it go, and no turn
     /// does.
     Published(PublicationBefore),

@@ -1,8 +1,8 @@
 //! One step of the desk, and the desk as an object that callers take turns at.
 ghost use Rattle.desk_core.specs.Carrying.{edit_by, edit_seen};
 ghost use Rattle.desk_core.specs.Joins.Turns.{MayAnswer};
-ghost use Rattle.desk_core.specs.Steps.{Steps, answer_to_question, answer_to_work};
-ghost use Rattle.desk_core.specs.declared.calls.Call.TheVariants.{Make};
+ghost use Rattle.desk_core.specs.Steps.{Steps, answer_to_question};
+ghost use Rattle.desk_core.specs.declared.calls.Call.TheVariants.{Make, Do};
 
 use crate::calls::{Call, Change, Edits, Question, Work};
 use crate::desk::Desk;
@@ -13,8 +13,8 @@ use turn_office::Sequential;
 
 impl Desk {
     /// Answers a call. The refusals come in a fixed order, want of memory last, and a refused call
-    /// changes no card, version or publication. A drop, a delivery, an offer, a lease given up and a claim that
-    /// gives nothing out take no memory.
+    /// changes no card, version or publication. A drop, a delivery, a lease given up and a claim that gives
+    /// nothing out take no memory.
     pub fn step(&mut self, call: Call) -> Reply
         ensures { Steps self.old call result self.new }
     {
@@ -86,17 +86,12 @@ impl Desk {
 
     /// Answers a worker.
     fn work(&mut self, work: Work) -> Reply
-        ensures { MayAnswer self.old (answer_to_work work self.old) result self.new }
+        ensures { Steps self.old (Do work) result self.new }
     {
         match work {
             Work::Claim => self.claim(),
             Work::DeliverDeck(done) => self.deliver_deck(done),
             Work::DeliverLink { lease, publication } => self.deliver_link(lease, publication),
-            Work::OfferObject {
-                lease,
-                place,
-                object,
-            } => self.offer_object(lease, place, object),
             Work::Publish(lease) => self.publish(lease),
             Work::GiveUp(lease) => self.give_up(lease),
         }

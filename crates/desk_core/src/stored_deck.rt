@@ -15,7 +15,7 @@ ghost use Rattle.desk_core.specs.Reading.{decks_behind_of, row_of, state_of};
 
 use crate::calls::Done;
 use crate::card_pieces::CardPieces;
-use crate::comparing::{is_placed_alike, same_name};
+use crate::comparing::same_name;
 use crate::deck_cards::DeckCards;
 use crate::edit_both::{edit_waiting, wait_all};
 use crate::held::Held;
@@ -375,44 +375,6 @@ impl StoredDeck {
         match &self.object {
             Some(object) => object.share(),
             None => unreachable!(),
-        }
-    }
-
-    /// The same object with what a link has added to it takes the place of its own, where it has one.
-    pub(crate) fn refresh(&mut self, object: &ListedObject)
-        requires { object.now ≡ deck_of self.old }
-        ensures { self.new ≡ self.old }
-    {
-        if let Ok(shared) = object.share() {
-            self.take_object(shared);
-        }
-    }
-
-    /// An object of the same cards takes the place of its own, where it keeps a section for another place in a link
-    /// than its own does.
-    pub(crate) fn offer(&mut self, object: ListedObject)
-        ensures { self.new ≡ self.old }
-    {
-        if self.lacks_section_of(&object) && self.is_of_object(&object) {
-            self.take_object(object);
-        }
-    }
-
-    /// The same object takes the place of its own, where it has one.
-    fn take_object(&mut self, object: ListedObject)
-        requires { object ≡ deck_of self.old }
-        ensures { self.new ≡ self.old }
-    {
-        if self.object.is_some() {
-            drop(replace(&mut self.object, Some(object)));
-        }
-    }
-
-    /// Whether it has an object, which lacks the section that another one keeps.
-    fn lacks_section_of(&self, object: &ListedObject) -> bool {
-        match &self.object {
-            Some(own) => !is_placed_alike(own, object),
-            None => false,
         }
     }
 

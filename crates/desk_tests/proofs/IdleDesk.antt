@@ -60,7 +60,6 @@ idle-claimed (reply.LinkJob work) version e = cc
 idle-claimed (reply.Idle v) version e = cc
 idle-claimed reply.AllOut version e = cc
 idle-claimed reply.Stored version e = cc
-idle-claimed reply.Considered version e = cc
 idle-claimed (reply.Published before) version e = cc
 idle-claimed reply.Cleared version e = cc
 idle-claimed (reply.Refused refusal) version e = cc

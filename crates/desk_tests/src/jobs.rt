@@ -3,13 +3,13 @@
 //! `claim`: the job, which is out then; `deliver`: its result is made and handed in; `giveup LEASE`;
 //! `result LEASE DECK VERSION RECORD OBJECT`: a result made of single cards, the record's deck and a colon
 //! in front of its card, or `-` for no record; `link LEASE VERSION CARD ..`: a publication of decks of a
-//! card each; `offer LEASE PLACE CARD`: an object for the deck at a place; `publish LEASE`; `batch SEEN COUNT`: so
-//! many edits; `settle TURNS`; `image`: the version that is shown, and the last 32 bytes of its image; `meter`: how
-//! many statements were sized and coded; `lost`: a job whose edit does not apply.
+//! card each; `publish LEASE`; `batch SEEN COUNT`: so many edits; `settle TURNS`; `image`: the version that is shown,
+//! and the last 32 bytes of its image; `meter`: how many statements were sized and coded; `lost`: a job whose edit
+//! does not apply.
 
 use crate::settling::settle;
 use cards::{Card, Edit};
-use deck_linker::{ListedPublication, publish};
+use deck_linker::ListedPublication;
 use deck_listing::ListedObject;
 use deck_workers::{Job, Made, Runs, job_in};
 use desk_core::{
@@ -24,7 +24,7 @@ use test_parts::{
     Answer, Got, card_of, cards_of, cut, cut_number, fixed_keys, name_of, number, object_of,
     record_of, small,
 };
-use text_ports::Counted;
+use text_ports::Text;
 use work_meter::Meter;
 
 /// The job that is out, and what was done for all.
@@ -86,8 +86,16 @@ impl Jobs {
             if !made.is_result() {
                 answer.push("lost, ");
             }
-            push_asked(desk, made.into_call(), answer);
+            push_asked(desk, delivery_of(made), answer);
         }
+    }
+}
+
+/// The call that hands in what was made of a job: a publication is delivered, too.
+pub fn delivery_of(made: Made) -> Call {
+    match made {
+        Made::Link { lease, publication } => { Call::Do(Work::DeliverLink { lease, publication }) }
+        other => other.into_call(),
     }
 }
 
@@ -97,7 +105,6 @@ fn call_of(alloc: Global, word: &str, rest: &str) -> Option<Got<Call>> {
         "giveup" => Ok(Call::Do(Work::GiveUp(number(rest)))),
         "result" => result_of(alloc, rest),
         "link" => link_of(alloc, rest),
-        "offer" => offer_of(alloc, rest),
         "publish" => Ok(Call::Do(Work::Publish(number(rest)))),
         "batch" => batch_of(alloc, rest),
         _ => return None,
@@ -137,13 +144,18 @@ pub fn push_asked<D: Called>(desk: &mut D, call: Call, answer: &mut Answer) {
 
 /// The version of a publication, and the last 32 bytes of its image.
 fn push_publication(answer: &mut Answer, publication: &ListedPublication) {
-    let mut output = Counted::new(Vec::new(answer.alloc));
-    let written = publication.write_image(&mut output);
-    answer.keep(written.map_err(|_| AllocError));
-    let image = output.into_inner();
     answer.number("", publication.version());
     answer.push(" ");
-    answer.bytes(image.split_at(image.len().saturating_sub(32)).1);
+    let image = image_of(answer.alloc, publication);
+    if let Some(image) = answer.kept(image) {
+        let bytes = image.as_slice();
+        answer.bytes(bytes.split_at(bytes.len().saturating_sub(32)).1);
+    }
+}
+
+/// Its image.
+fn image_of(alloc: Global, publication: &ListedPublication) -> Got<Text> {
+    publication.image(alloc, fixed_keys()?)
 }
 
 /// The publication that a desk shows.
@@ -164,7 +176,6 @@ pub fn push_reply(answer: &mut Answer, reply: &Reply) {
         Reply::Idle(version) => answer.number("idle ", *version),
         Reply::AllOut => answer.push("all out"),
         Reply::Stored => answer.push("stored"),
-        Reply::Considered => answer.push("considered"),
         Reply::Published(before) => push_before(answer, before),
         Reply::Cleared => answer.push("cleared"),
         Reply::Refused(refusal) => answer.debug(refusal),
@@ -294,21 +305,9 @@ fn objects_of(alloc: Global, lines: &str) -> Got<Vec<ListedObject>> {
 fn link_of(alloc: Global, text: &str) -> Got<Call> {
     let (lease, rest) = cut_number(text);
     let (version, lines) = cut_number(rest);
-    let publication = publish(alloc, fixed_keys()?, objects_of(alloc, lines)?, version)?;
+    let publication = ListedPublication::new(version, objects_of(alloc, lines)?);
     let publication = SharedPublication::new(alloc, publication)?;
     Ok(Call::Do(Work::DeliverLink { lease, publication }))
-}
-
-/// The offer of an object of these cards, for the deck at a place.
-fn offer_of(alloc: Global, text: &str) -> Got<Call> {
-    let (lease, rest) = cut_number(text);
-    let (place, line) = cut_number(rest);
-    let object = listed_of(alloc, line)?;
-    Ok(Call::Do(Work::OfferObject {
-        lease,
-        place: place as usize,
-        object,
-    }))
 }
 
 /// Edits by which the second card of a deck goes and comes again, so many in all.

@@ -95,7 +95,6 @@ fn end_of_delivery(answered: &Reply) -> Option<Settled>
         | Reply::Idle(_)
         | Reply::AllOut
         | Reply::Stored
-        | Reply::Considered
         | Reply::Published(_)
         | Reply::Cleared => None,
     }
@@ -120,7 +119,6 @@ fn end_of_claim(claimed: &Reply) -> Option<Settled>
         | Reply::DeckJob(_)
         | Reply::LinkJob(_)
         | Reply::Stored
-        | Reply::Considered
         | Reply::Published(_)
         | Reply::Cleared => None,
     }

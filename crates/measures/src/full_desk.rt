@@ -4,9 +4,7 @@
 
 use cards::{Card, DeckName, Edit};
 use deck_workers::{Job, Made, Runs, job_in};
-use desk_core::{
-    Call, Change, DeckCards, Desk, Edits, Listed, NewDeck, Question, Reply, SharedPublication, Work,
-};
+use desk_core::{Call, Change, DeckCards, Desk, Edits, Listed, NewDeck, Question, Reply, Work};
 use session_commands::Seen;
 use std::alloc::{AllocError, AllocGlobal, Global};
 use std::hash::RandomState;
@@ -37,7 +35,7 @@ const STATEMENTS: [&str; 5] = [
 ];
 
 /// The kinds of calls that no round asks.
-const KINDS: [&str; 5] = ["deck added", "claim", "delivery", "offer", "publish"];
+const KINDS: [&str; 4] = ["deck added", "claim", "delivery", "publish"];
 
 /// The turns of one kind of calls.
 #[derive(Clone, Copy)]
@@ -128,14 +126,13 @@ impl Timed {
     }
 
     /// Has all decks assembled and published.
-    fn settle<R: CpuClock>(&mut self, rt: &R) -> Result<(), AllocError> {
+    fn settle<R: CpuClock>(&mut self, rt: &R) {
         for _ in 0..MOST_JOBS {
             match self.claim(rt) {
-                Some(job) => self.end(rt, job)?,
-                None => return Ok(()),
+                Some(job) => self.end(rt, job),
+                None => return,
             }
         }
-        Ok(())
     }
 
     /// The job that is due next, if one is.
@@ -145,48 +142,21 @@ impl Timed {
 
     /// Does a job, and hands in what is made of it. What the job began with is held until it is answered, as a
     /// worker does.
-    fn end<R: CpuClock>(&mut self, rt: &R, job: Job) -> Result<(), AllocError> {
+    fn end<R: CpuClock>(&mut self, rt: &R, job: Job) {
         let before = job.cards_before(self.alloc);
         let made = job.run(self.alloc, self.keys, &mut self.meter);
-        let done = self.hand_in(rt, made);
+        self.hand_in(rt, made);
         free_cards(before);
-        done
     }
 
-    /// Hands in what was made of a job.
-    fn hand_in<R: CpuClock>(&mut self, rt: &R, made: Made) -> Result<(), AllocError> {
-        match made {
-            Made::Link { lease, publication } => {
-                let published = self.publish(rt, lease, &publication);
-                publication.free();
-                published
-            }
-            made => {
-                self.ask(rt, "delivery", made.into_call()).free();
-                Ok(())
-            }
-        }
-    }
-
-    /// Offers the objects of a publication, and has the desk publish its own.
-    fn publish<R: CpuClock>(
-        &mut self,
-        rt: &R,
-        lease: u64,
-        publication: &SharedPublication,
-    ) -> Result<(), AllocError> {
-        for (place, object) in publication.publication().objects().iter().enumerate() {
-            let object = object.share()?;
-            let offer = Work::OfferObject {
-                lease,
-                place,
-                object,
-            };
-            self.ask(rt, "offer", Call::Do(offer)).free();
-        }
-        self.ask(rt, "publish", Call::Do(Work::Publish(lease)))
-            .free();
-        Ok(())
+    /// Hands in what was made of a job: a result is delivered, and the desk publishes its own decks.
+    fn hand_in<R: CpuClock>(&mut self, rt: &R, made: Made) {
+        let what = if made.published().is_some() {
+            "publish"
+        } else {
+            "delivery"
+        };
+        self.ask(rt, what, made.into_call()).free();
     }
 }
 
@@ -334,7 +304,7 @@ fn add_all<R: CpuClock>(rt: &R, timed: &mut Timed) -> Result<Vec<u64>, AllocErro
             .free();
         seen.push(timed.desk.version())?;
         if number % 2 == 1 {
-            timed.settle(rt)?;
+            timed.settle(rt);
         }
     }
     Ok(seen)
@@ -358,7 +328,8 @@ fn ask_once<R: CpuClock>(
     if timed.desk.version() != before {
         *version = timed.desk.version();
     }
-    timed.settle(rt)
+    timed.settle(rt);
+    Ok(())
 }
 
 /// Asks of some decks in turn, so often in all.

@@ -14,7 +14,7 @@ use Rattle.session_commands.specs.{declared.words.Seen.TheVariants.{Exactly, Sin
 use Rattle.definitions.specs.{Cards.Card, DeckInput.Deck}
 use Rattle.desk_core.specs.declared.published_texts.DeckText.TheVariants as part
 use Rattle.desk_core.specs.declared.published_texts.PublishedText.TheVariants.{Image, Listing, Map}
-use Rattle.session_line.specs.{declared.tasks.Task.TheVariants.{Make, Ask, AwaitVersion, ShowCards, ShowCardsAt, ShowText, ShowPart, ShowErrors, ShowWords, LoadDeck, LoadAll, ReloadDeck, SaveDeck, SaveAll, ShowFiles, ShowFileStatus, Greet, ShowHelp, Leave, Refuse}, Tasks.{lines_due, task_of}, Answers.{told_of_call, told_of_wait, told_of_greeting, told_of_cards, told_of_cards_at, told_of_publication, told_of_part, told_of_errors, told_text}, FileStatus.marked, ToldDecks.told_deck, DeckCuts.decks_in, Greetings.met, Rights.allowed, declared.rights.Rights.TheVariants.{Edits, Reads}}
+use Rattle.session_line.specs.{declared.tasks.Task.TheVariants.{Make, Ask, AwaitVersion, ShowCards, ShowCardsAt, ShowText, ShowPart, ShowErrors, ShowWords, LoadDeck, LoadAll, ReloadDeck, SaveDeck, SaveAll, ShowFiles, ShowFileStatus, Greet, ShowHelp, Leave, Refuse}, Tasks.{lines_due, task_of}, Answers.{told_of_call, told_of_wait, told_of_greeting, told_of_cards, told_of_cards_at, errors_told, part_told, text_told, told_text}, FileStatus.marked, ToldDecks.told_deck, DeckCuts.decks_in, Greetings.met, Rights.allowed, declared.rights.Rights.TheVariants.{Edits, Reads}}
 use Rattle.session_line.specs.declared.answers.Told.TheVariants as told
 
 -- which call of the desk a line is
@@ -201,10 +201,10 @@ pub forgotten : told_text (told_of_call (reply.Refused (desk.Forgotten 12))) ≡
 forgotten = unfold digits in refl
 
 -- no text of a deck that is not there
-pub no_part_told : told_text (told_of_part part.Listing (codes "M") (reply.Shown (record { version = 0; decks = [] }))) ≡ codes "NO NoDeck\n"
+pub no_part_told : told_text (part_told part.Listing (codes "M") 0 []) ≡ codes "NO NoDeck\n"
 no_part_told = refl
 
-pub no_section_told : told_text (told_of_part part.Section (codes "M") (reply.Shown (record { version = 0; decks = [] }))) ≡ codes "NO NoDeck\n"
+pub no_section_told : told_text (part_told part.Section (codes "M") 0 []) ≡ codes "NO NoDeck\n"
 no_section_told = refl
 
 -- the numbers of the cards that have a text
@@ -226,27 +226,27 @@ two_decks =
     record { name = codes "T"; cards = codes "          IDENT  T" ∷ codes "          EXT    GO" ∷ codes "          SA1    X" ∷ codes "          RJ     GO" ∷ codes "          END" ∷ [] }
     ∷ record { name = codes "U"; cards = codes "          IDENT  U" ∷ codes "          END" ∷ [] } ∷ []
 
-pub all_errors : told_text (told_of_errors Every (reply.Shown (record { version = 2; decks = two_decks }))) ≡ codes "OK 2 3\nERR T 3 U           SA1    X\nLINK U T GO\nEND\n"
+pub all_errors : told_text (errors_told Every 2 two_decks) ≡ codes "OK 2 3\nERR T 3 U           SA1    X\nLINK U T GO\nEND\n"
 all_errors = unfold digits in refl
 
-pub errors_of_one : told_text (told_of_errors (Of (codes "T")) (reply.Shown (record { version = 2; decks = two_decks }))) ≡ codes "OK 2 2\nERR T 3 U           SA1    X\nLINK U T GO\n"
+pub errors_of_one : told_text (errors_told (Of (codes "T")) 2 two_decks) ≡ codes "OK 2 2\nERR T 3 U           SA1    X\nLINK U T GO\n"
 errors_of_one = unfold digits in refl
 
 -- a deck whose cards have another behind its END
 abbrev pub deck_of_two : List Deck
 deck_of_two = record { name = codes "T"; cards = codes "          IDENT  T" ∷ codes "          END" ∷ codes "*" ∷ codes "          IDENT  U" ∷ codes "          END" ∷ [] } ∷ []
 
-pub more_decks : told_text (told_of_errors Every (reply.Shown (record { version = 1; decks = deck_of_two }))) ≡ codes "OK 1 2\nMORE T 4           IDENT  U\nEND\n"
+pub more_decks : told_text (errors_told Every 1 deck_of_two) ≡ codes "OK 1 2\nMORE T 4           IDENT  U\nEND\n"
 more_decks = unfold digits in refl
 
 -- the section of one of them
-pub section_of_one : told_text (told_of_part part.Section (codes "U") (reply.Shown (record { version = 2; decks = two_decks }))) ≡ codes "OK 2 1\nDECK U REL 000101\n"
+pub section_of_one : told_text (part_told part.Section (codes "U") 2 two_decks) ≡ codes "OK 2 1\nDECK U REL 000101\n"
 section_of_one = unfold digits in refl
 
-pub no_errors : told_text (told_of_errors (Of (codes "U")) (reply.Shown (record { version = 2; decks = two_decks }))) ≡ codes "OK 2 0\n"
+pub no_errors : told_text (errors_told (Of (codes "U")) 2 two_decks) ≡ codes "OK 2 0\n"
 no_errors = unfold digits in refl
 
-pub errors_of_none : told_text (told_of_errors (Of (codes "V")) (reply.Shown (record { version = 2; decks = two_decks }))) ≡ codes "NO NoDeck\n"
+pub errors_of_none : told_text (errors_told (Of (codes "V")) 2 two_decks) ≡ codes "NO NoDeck\n"
 errors_of_none = refl
 
 pub status : told_text (told_of_call (reply.StatusIs 1 None (record { name = codes "M"; version = 1; cards = 0; state = Behind; decks_behind = 0 } ∷ []))) ≡ codes "OK 1 2\nPUBLISHED NONE\nM 1 0 BEHIND\n"
@@ -360,13 +360,13 @@ greeted_in_vain = unfold digits in refl
 pub greeted_foreign : told_text (told_of_greeting (met (reply.Changed 4) [])) ≡ codes "NO Foreign\n"
 greeted_foreign = unfold digits in refl
 
-pub published : told_text (told_of_publication Image (reply.Shown (record { version = 0; decks = [] }))) ≡ codes "OK 0 1\nEND\n"
+pub published : told_text (text_told Image 0 []) ≡ codes "OK 0 1\nEND\n"
 published = unfold digits in refl
 
-pub listed : told_text (told_of_publication Listing (reply.Shown (record { version = 0; decks = [] }))) ≡ codes "OK 0 2\nMAP\nEND\n"
+pub listed : told_text (text_told Listing 0 []) ≡ codes "OK 0 2\nMAP\nEND\n"
 listed = unfold digits in refl
 
-pub mapped : told_text (told_of_publication Map (reply.Shown (record { version = 3; decks = [] }))) ≡ codes "OK 3 2\nMAP\nEND\n"
+pub mapped : told_text (text_told Map 3 []) ≡ codes "OK 3 2\nMAP\nEND\n"
 mapped = unfold digits in refl
 
 pub old_version : told_text (told_of_call (reply.Refused (desk.OldVersion 4))) ≡ codes "NO OldVersion 4\n"

@@ -94,17 +94,48 @@ has_backs _ = false
 abbrev pub IsToldAt : Reply → Told → Type 0
 IsToldAt reply what = (what ≡ told_of_cards_at reply) ⊎ (IsTrue (has_backs reply) × (what ≡ told.Refused refusal.OutOfMemory))
 
+-- what is shown of the publication that a reply shows; or why it shows none
+abbrev pub IsToldBy : (Publication → Told → Type 0) → Result Publication Refusal → Told → Type 0
+IsToldBy telling (Ok publication) what = telling publication what
+IsToldBy telling (Err reason) what = what ≡ told.Refused reason
+
+-- the publication, if it has no more decks than a desk may have
+abbrev pub few_decks : Result Publication Refusal → Result Publication Refusal
+few_decks (Ok publication) = if nat_le (length publication.decks) most_decks then Ok publication else Err refusal.Foreign
+few_decks (Err reason) = Err reason
+
+-- what is shown, or that there was no memory for it
+abbrev pub IsMade : Told → Told → Type 0
+IsMade made what = (what ≡ made) ⊎ (what ≡ told.Refused refusal.OutOfMemory)
+
+-- a text of the decks that are published under a version
+abbrev pub text_told : PublishedText → ℕ → List Deck → Told
+text_told text version decks = told.Published version (shown_text text decks)
+
+-- a text of a deck; without one there is no such deck
+abbrev pub told_where : ℕ → Option (List ℕ) → Told
+told_where version (Some part) = told.Published version part
+told_where version None = told.Refused refusal.NoDeck
+
+-- this text of the one of a name
+abbrev pub part_told : DeckText → List ℕ → ℕ → List Deck → Told
+part_told text name version decks = told_where version (shown_part text name decks)
+
+-- their flagged statements and LINK lines; where none of them is the deck that is asked for, there is no such deck
+abbrev pub errors_told : ErrorsView → ℕ → List Deck → Told
+errors_told view version decks = if shows_any view decks then told.Errors version decks view else told.Refused refusal.NoDeck
+
 -- what is shown of the reply to a call for the publication, of which this text is shown
-abbrev pub told_of_publication : PublishedText → Reply → Told
-told_of_publication text reply = told_by (λ (publication : Publication). told.Published publication text) (shown_in reply)
+abbrev pub IsToldText : PublishedText → Reply → Told → Type 0
+IsToldText text reply what = IsToldBy (λ publication. IsMade (text_told text publication.version publication.decks)) (shown_in reply) what
 
 -- what is shown of the reply to a call for the publication, of which this text of the deck of a name is shown
-abbrev pub told_of_part : DeckText → List ℕ → Reply → Told
-told_of_part text name reply = told_by (λ (publication : Publication). told.Part publication text name) (shown_in reply)
+abbrev pub IsToldPart : DeckText → List ℕ → Reply → Told → Type 0
+IsToldPart text name reply what = IsToldBy (λ publication. IsMade (part_told text name publication.version publication.decks)) (shown_in reply) what
 
 -- what is shown of the reply to a call for the publication, of which the flagged statements and LINK lines are shown; no more decks than a desk may have
-abbrev pub told_of_errors : ErrorsView → Reply → Told
-told_of_errors view reply = told_by (λ (publication : Publication). if nat_le (length publication.decks) most_decks then told.Errors publication view else foreign) (shown_in reply)
+abbrev pub IsToldErrors : ErrorsView → Reply → Told → Type 0
+IsToldErrors view reply what = IsToldBy (λ publication. IsMade (errors_told view publication.version publication.decks)) (few_decks (shown_in reply)) what
 
 -- a first line, and what follows it
 abbrev pub with_body : List ℕ → List ℕ → List ℕ
@@ -118,16 +149,9 @@ refused_text reason = with_body (codes "NO " ++ refusal_text reason) []
 abbrev pub lines_text : ℕ → List ℕ → List ℕ
 lines_text version lines = with_body (counted_text version (lines_in lines)) lines
 
--- the text of a deck that is shown; without one there is no such deck
-abbrev pub part_text : ℕ → Option (List ℕ) → List ℕ
-part_text version (Some lines) = lines_text version lines
-part_text version None = refused_text refusal.NoDeck
-
--- the text of what is flagged; where none of the decks is the one that is asked for, there is no such deck
+-- the text of what is flagged
 abbrev pub errors_text : ℕ → ErrorsView → List Deck → List ℕ → List ℕ
-errors_text version view decks map =
-    if shows_any view decks then with_body (counted_text version (length (error_lines view decks map))) (text_of_lines (error_lines view decks map))
-    else refused_text refusal.NoDeck
+errors_text version view decks map = with_body (counted_text version (length (error_lines view decks map))) (text_of_lines (error_lines view decks map))
 
 -- the text of cards that are shown
 abbrev pub cards_text : ℕ → List Card → List ℕ
@@ -149,9 +173,8 @@ told_text (told.Done version) = with_body (ok_text version) []
 told_text (told.Unkept version) = with_body (unkept_text version) []
 told_text (told.Cards version cards view) = view_text version view cards
 told_text (told.Changes version kept) = with_body (counted_text version (length (change_lines kept))) (text_of_lines (change_lines kept))
-told_text (told.Published publication text) = lines_text publication.version (shown_text text publication.decks)
-told_text (told.Part publication text name) = part_text publication.version (shown_part text name publication.decks)
-told_text (told.Errors publication view) = errors_text publication.version view publication.decks (map_of publication.decks)
+told_text (told.Published version shown) = lines_text version shown
+told_text (told.Errors version decks view) = errors_text version view decks (map_of decks)
 told_text (told.Lines version lines) = lines_text version lines
 told_text (told.Status version published rows) = status_text version published rows
 told_text (told.FileStatus version published decks) = with_body (counted_text version (length decks + 1)) (line_of (published_text published) ++ marks_text decks)
@@ -172,7 +195,7 @@ is_bye _ = false
 abbrev pub IsTellable : Told → Type 0
 IsTellable (told.Cards version cards view) = length cards ≤ most_cards
 IsTellable (told.Changes version kept) = length kept ≤ most_kept
-IsTellable (told.Errors publication view) = length publication.decks ≤ most_decks
+IsTellable (told.Errors version decks view) = length decks ≤ most_decks
 IsTellable (told.Status version published rows) = length rows ≤ most_decks
 IsTellable (told.FileStatus version published decks) = length decks ≤ most_decks
 IsTellable (told.Decks version decks) = length decks ≤ most_decks

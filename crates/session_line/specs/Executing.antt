@@ -3,7 +3,7 @@ use Rattle.std.specs.Prelude.{ℕ, ◌≡◌, List, Result, Ok, Err}
 use Rattle.definitions.specs.Cards.{Card}
 use Rattle.deck_files.specs.{declared.deck_shelf.ShelfLoadFault.ShelfLoadFault, ShelfRelations.ShelfRelations}
 use Rattle.desk_core.specs.declared.{calls.Change.Change, calls.Change.TheVariants.AddDeck, calls.Question.Question, calls.Question.TheVariants.{Cards, CardsAt, Show, Status}, replies.Reply.Reply}
-use Rattle.session_line.specs.{declared.tasks.Task.Task, declared.tasks.Task.TheVariants.{Make, Ask, AwaitVersion, ShowCards, ShowCardsAt, ShowText, ShowPart, ShowErrors, ShowWords, ShowNames, ShowSymbols, LoadDeck, LoadAll, ReloadDeck, SaveDeck, SaveAll, ShowFiles, ShowFileStatus, Greet, ShowHelp, Leave, Refuse}, declared.answers.Told.Told, declared.answers.Answer.Answer, Reasons.load_reason, declared.greetings.Greeting.Greeting, FileTasks.ShowsFiles, Messages.{IsToldNames, IsToldSymbols, IsToldWords}, FileStatus.ShowsFileStatus, SavingDecks.SavesDeck, SavingAll.SavesAll, LoadingAll.LoadsAll, Asking.{Asks, NotesTold, ShelfLoads}, Reloading.ReloadsDeck, Answers.{told_of_call, told_of_wait, told_of_greeting, told_of_help, told_of_cards, told_of_publication, told_of_part, told_of_errors, IsToldAt, called, uncalled}, DeskRelations.DeskRelations}
+use Rattle.session_line.specs.{declared.tasks.Task.Task, declared.tasks.Task.TheVariants.{Make, Ask, AwaitVersion, ShowCards, ShowCardsAt, ShowText, ShowPart, ShowErrors, ShowWords, ShowNames, ShowSymbols, LoadDeck, LoadAll, ReloadDeck, SaveDeck, SaveAll, ShowFiles, ShowFileStatus, Greet, ShowHelp, Leave, Refuse}, declared.answers.Told.Told, declared.answers.Answer.Answer, Reasons.load_reason, declared.greetings.Greeting.Greeting, FileTasks.ShowsFiles, Messages.{IsToldNames, IsToldSymbols, IsToldWords}, FileStatus.ShowsFileStatus, SavingDecks.SavesDeck, SavingAll.SavesAll, LoadingAll.LoadsAll, Asking.{Asks, NotesTold, ShelfLoads}, Reloading.ReloadsDeck, Answers.{told_of_call, told_of_wait, told_of_greeting, told_of_help, told_of_cards, IsToldAt, IsToldErrors, IsToldPart, IsToldText, called, uncalled}, DeskRelations.DeskRelations}
 use Rattle.session_line.specs.declared.answers.Told.TheVariants as told
 
 module _ {C : Type 0} (asks : C → Question → Reply → C → Type 0) where
@@ -15,7 +15,7 @@ module _ {C : Type 0} (asks : C → Question → Reply → C → Type 0) where
     pub told : IsToldAt reply what
     pub answered : answer ≡ called what
 
-  -- ERRORS WORDS and SYMBOLS: one call of the desk for the publication, and what is shown of that
+  -- IMAGE, LIST, MAP, ERRORS, ERRORS WORDS and SYMBOLS: one call of the desk for the publication, and what is shown of that
   pub record AsksShown (telling : Reply → Told → Type 0) (desk next : C) (answer : Answer) : Type 0 where
     pub reply : Reply
     pub made : asks desk Show reply next
@@ -64,9 +64,9 @@ module _ {C S : Type 0} (calls : DeskRelations C) (files : ShelfRelations S) whe
   Executes (AwaitVersion version) desk next shelf after answer = AwaitsVersion calls.awaits version desk next answer × (after ≡ shelf)
   Executes (ShowCards name view) desk next shelf after answer = Asks calls.asks (Cards name) (told_of_cards view) desk next answer × (after ≡ shelf)
   Executes (ShowCardsAt name version) desk next shelf after answer = AsksAt calls.asks name version desk next answer × (after ≡ shelf)
-  Executes (ShowText text) desk next shelf after answer = Asks calls.asks Show (told_of_publication text) desk next answer × (after ≡ shelf)
-  Executes (ShowPart text name) desk next shelf after answer = Asks calls.asks Show (told_of_part text name) desk next answer × (after ≡ shelf)
-  Executes (ShowErrors view) desk next shelf after answer = Asks calls.asks Show (told_of_errors view) desk next answer × (after ≡ shelf)
+  Executes (ShowText text) desk next shelf after answer = AsksShown calls.asks (IsToldText text) desk next answer × (after ≡ shelf)
+  Executes (ShowPart text name) desk next shelf after answer = AsksShown calls.asks (IsToldPart text name) desk next answer × (after ≡ shelf)
+  Executes (ShowErrors view) desk next shelf after answer = AsksShown calls.asks (IsToldErrors view) desk next answer × (after ≡ shelf)
   Executes (ShowWords name) desk next shelf after answer = AsksShown calls.asks (IsToldWords name) desk next answer × (after ≡ shelf)
   Executes ShowNames desk next shelf after answer = AsksShown calls.asks IsToldNames desk next answer × (after ≡ shelf)
   Executes (ShowSymbols name) desk next shelf after answer = AsksShown calls.asks (IsToldSymbols name) desk next answer × (after ≡ shelf)

@@ -1,10 +1,9 @@
 -- What is shown of a publication that no definition fixes whole (ours): what is said of the flagged statements of a deck, and symbols. Of a flagged statement there is a line for each letter. Which of the statement's cards it is about, in which column, and the words are those of `card_messages`; no definition fixes them.
-use Rattle.std.specs.Prelude.{ℕ, ◌≡◌, ◌+◌, ◌≤◌, ◌&&◌, ◌⊎◌, List, [], ◌∷◌, ◌++◌, Option, Some, None, Result, Ok, Err, codes, decimal, flat_map, map, nat_le, if◌then◌else◌}
+use Rattle.std.specs.Prelude.{ℕ, ◌≡◌, ◌+◌, ◌≤◌, ◌&&◌, ◌⊎◌, List, [], ◌∷◌, ◌++◌, Option, Some, None, codes, decimal, flat_map, map, nat_le, if◌then◌else◌}
 use Rattle.definitions.specs.{Characters.line_feed, DeckInput.Deck}
-use Rattle.desk_core.specs.{Desks.Publication, declared.replies.Reply.Reply}
-use Rattle.session_line.specs.{Errors.{Flag, Flagged, Begins, deck_named, flags_of}, Replied.shown_in, Replies.line_of, declared.answers.Told.Told}
+use Rattle.desk_core.specs.declared.replies.Reply.{Reply}
+use Rattle.session_line.specs.{Answers.IsToldBy, Errors.{Flag, Flagged, Begins, deck_named, flags_of}, Replied.shown_in, Replies.line_of, declared.answers.Told.Told}
 use Rattle.session_line.specs.declared.answers.Told.TheVariants as told
-use Rattle.session_commands.specs.declared.refusals.Refusal.{Refusal}
 use Rattle.session_commands.specs.declared.refusals.Refusal.TheVariants as refusal
 
 -- a letter of a flagged statement, with the number of that statement's first card
@@ -70,11 +69,6 @@ IsSaid version deck _ = ⊥
 abbrev pub IsSaidOf : ℕ → Option Deck → Told → Type 0
 IsSaidOf version (Some deck) what = IsSaid version deck what
 IsSaidOf version None what = what ≡ told.Refused refusal.NoDeck
-
--- what is shown of the publication that a reply shows; or why it shows none
-abbrev pub IsToldBy : (Publication → Told → Type 0) → Result Publication Refusal → Told → Type 0
-IsToldBy telling (Ok publication) what = telling publication what
-IsToldBy telling (Err reason) what = what ≡ told.Refused reason
 
 -- what is shown of the reply to a call for the publication, of whose deck of this name it is asked what is said
 abbrev pub IsToldWords : List ℕ → Reply → Told → Type 0

@@ -1,12 +1,12 @@
 //! What a command is answered, and how the session is answered.
-ghost use Rattle.std.specs.Prelude.{◌≡◌, ◌≤◌, ◌⊎◌, length};
+ghost use Rattle.std.specs.Prelude.{◌≡◌, ◌≤◌, ◌⊎◌, length, IfOk};
 ghost use Rattle.session_line.specs.Replies.{text_of_reply, IsWithinLimits};
 ghost use Rattle.deck_linker.specs.Publishing.{map_of};
 ghost use Rattle.desk_core.specs.declared.replies.Reply.TheVariants.{CardsAre};
-ghost use Rattle.session_line.specs.Answers.{foreign, told_of_call, told_of_wait, told_of_greeting, told_of_help, told_of_sessions, told_of_cards, told_of_backs, told_of_part, told_of_errors, told_of_publication, part_text, errors_text, status_text, view_text, told_text, is_bye, IsTellable, IsToldAt};
+ghost use Rattle.session_line.specs.Answers.{foreign, told_of_call, told_of_wait, told_of_greeting, told_of_help, told_of_sessions, told_of_cards, told_of_backs, errors_told, few_decks, part_told, text_told, errors_text, status_text, view_text, told_text, is_bye, IsMade, IsTellable, IsToldAt, IsToldErrors, IsToldPart, IsToldText};
 ghost use Rattle.session_line.specs.Errors.{deck_named};
+ghost use Rattle.session_line.specs.Replied.{shown_in};
 ghost use Rattle.session_line.specs.Messages.{IsLinesOf, IsSaidOf, IsToldNames, IsToldSymbols, IsToldWords};
-ghost use Rattle.desk_core.specs.PublishedTexts.{shown_part};
 
 use crate::errors::shows_any;
 use crate::greetings::{Connected, Greeting};
@@ -20,9 +20,10 @@ use crate::told_decks::ToldDeck;
 use crate::views::cards_from;
 use cards::{Card, DeckName, Edit, MOST_CARDS, edited_copy, first_fault};
 use deck_files::FileRow;
-use deck_linker::ListedPublication;
+use deck_linker::{ListedPublication, PublishedListing};
 use desk_core::{
-    DeckText, KeptEdit, Listed, PublishedText, Reply, Row, SharedPublication, shown_part,
+    DeckText, KeptEdit, Listed, PublishedText, Reply, Row, SharedPublication, ShownText, show_part,
+    show_text,
 };
 use session_commands::{CardsView, ErrorsView, Refusal};
 use std::alloc::Global;
@@ -49,12 +50,11 @@ pub(crate) enum Told {
     Cards(u64, Listed<Card>, CardsView),
     /// A deck's version, and its edits behind the one that was asked for.
     Changes(u64, Listed<KeptEdit>),
-    /// Of the publication, this text.
-    Published(SharedPublication, PublishedText),
-    /// Of the publication, this text of the deck of this name.
-    Part(SharedPublication, DeckText, DeckName),
-    /// Of the publication, the flagged statements and LINK lines, those of all decks or of one.
-    Errors(SharedPublication, ErrorsView),
+    /// The version of the publication, and a text of it.
+    Published(u64, ShownText),
+    /// The version of the publication, its objects and its map, of which the flagged statements and LINK lines are
+    /// shown, those of all decks or of one.
+    Errors(u64, PublishedListing, ErrorsView),
     /// A version, and the lines of a text.
     Lines(u64, Text),
     /// The desk's version, the published one, and a row for each deck.
@@ -241,43 +241,124 @@ pub(crate) fn told_of_cards_at(alloc: Global, reply: Reply) -> Told
     }
 }
 
-/// What is shown of the reply to a call for the publication, of which this text is shown.
-pub(crate) fn told_of_publication(text: PublishedText, reply: Reply) -> Told
-    ensures told { result ≡ told_of_publication text reply }
+/// What is shown of a text of a publication, where there is memory for it.
+fn text_told(
+    alloc: Global,
+    keys: RandomState,
+    publication: &ListedPublication,
+    text: PublishedText,
+) -> Told
+    ensures told { IsMade (text_told text publication.now.version publication.now.decks) result }
+    ensures fits { IsTellable result }
+{
+    match show_text(alloc, keys, publication, text) {
+        Ok(shown) => Told::Published(publication.version(), shown),
+        Err(_) => Told::Refused(Refusal::OutOfMemory),
+    }
+}
+
+/// What is shown of the reply to a call for the publication, of which this text is shown, where there is memory
+/// for it.
+pub(crate) fn told_of_text(
+    alloc: Global,
+    keys: RandomState,
+    text: PublishedText,
+    reply: Reply,
+) -> Told
+    ensures told { IsToldText text reply result }
     ensures fits { IsTellable result }
 {
     match shown_in(reply) {
-        Ok(publication) => Told::Published(publication, text),
+        Ok(shared) => text_told(alloc, keys, shared.publication(), text),
         Err(refusal) => Told::Refused(refusal),
+    }
+}
+
+/// What is shown of a text of the deck of a name in a publication, where there is memory for it. Without one there
+/// is no such deck.
+fn part_told(
+    alloc: Global,
+    keys: RandomState,
+    publication: &ListedPublication,
+    text: DeckText,
+    name: &DeckName,
+) -> Told
+    ensures told { IsMade (part_told text name.now publication.now.version publication.now.decks) result }
+    ensures fits { IsTellable result }
+{
+    match show_part(alloc, keys, publication, text, name) {
+        Ok(Some(shown)) => Told::Published(publication.version(), shown),
+        Ok(None) => Told::Refused(Refusal::NoDeck),
+        Err(_) => Told::Refused(Refusal::OutOfMemory),
     }
 }
 
 /// What is shown of the reply to a call for the publication, of which this text of the deck of a name is
-/// shown.
-pub(crate) fn told_of_part(text: DeckText, name: DeckName, reply: Reply) -> Told
-    ensures told { result ≡ told_of_part text name reply }
+/// shown, where there is memory for it.
+pub(crate) fn told_of_part(
+    alloc: Global,
+    keys: RandomState,
+    text: DeckText,
+    name: &DeckName,
+    reply: Reply,
+) -> Told
+    ensures told { IsToldPart text name.now reply result }
     ensures fits { IsTellable result }
 {
     match shown_in(reply) {
-        Ok(publication) => Told::Part(publication, text, name),
+        Ok(shared) => part_told(alloc, keys, shared.publication(), text, name),
         Err(refusal) => Told::Refused(refusal),
     }
 }
 
-/// What is shown of the reply to a call for the publication, of which the flagged statements and LINK lines
-/// are shown.
-pub(crate) fn told_of_errors(view: ErrorsView, reply: Reply) -> Told
-    ensures told { result ≡ told_of_errors view reply }
+/// The publication that a reply shows, if it has no more decks than a desk may have.
+fn few_decks(reply: Reply) -> Result<SharedPublication, Refusal>
+    ensures is { result ≡ few_decks (shown_in reply) }
+    ensures few { IfOk result (λ shared. length shared.decks ≤ 64) }
+{
+    let shared = shown_in(reply)?;
+    if shared.publication().objects().len() <= MOST_DECKS {
+        Ok(shared)
+    } else {
+        shared.free();
+        Err(Refusal::Foreign)
+    }
+}
+
+/// What is shown of the flagged statements and LINK lines of a publication, where there is memory for them. Without
+/// the deck that is asked for there is no such deck.
+fn errors_told(
+    alloc: Global,
+    keys: RandomState,
+    publication: &ListedPublication,
+    view: ErrorsView,
+) -> Told
+    requires { length publication.now.decks ≤ 64 }
+    ensures told { IsMade (errors_told view publication.now.version publication.now.decks) result }
     ensures fits { IsTellable result }
 {
-    match shown_in(reply) {
-        Ok(publication) => {
-            if publication.publication().objects().len() <= MOST_DECKS {
-                Told::Errors(publication, view)
-            } else {
-                foreign()
-            }
-        }
+    if !shows_any(&view, publication.objects()) {
+        return Told::Refused(Refusal::NoDeck);
+    }
+    match publication.listing(alloc, keys) {
+        Ok(listing) => Told::Errors(publication.version(), listing, view),
+        Err(_) => Told::Refused(Refusal::OutOfMemory),
+    }
+}
+
+/// What is shown of the reply to a call for the publication, of which the flagged statements and LINK lines
+/// are shown, where there is memory for them.
+pub(crate) fn told_of_errors(
+    alloc: Global,
+    keys: RandomState,
+    view: ErrorsView,
+    reply: Reply,
+) -> Told
+    ensures told { IsToldErrors view reply result }
+    ensures fits { IsTellable result }
+{
+    match few_decks(reply) {
+        Ok(shared) => errors_told(alloc, keys, shared.publication(), view),
         Err(refusal) => Told::Refused(refusal),
     }
 }
@@ -363,40 +444,21 @@ pub(crate) fn told_of_names(alloc: Global, reply: Reply) -> Told
     }
 }
 
-/// The reply with this text of the deck of a name, as a publication has it. Without one there is no such deck.
-fn part_reply<'a>(
-    publication: &'a ListedPublication,
-    text: DeckText,
-    name: &DeckName,
+/// The reply with what is flagged in a publication of a version.
+fn errors_reply<'a>(
+    version: u64,
+    listing: &'a PublishedListing,
+    view: &'a ErrorsView,
 ) -> crate::Reply<'a>
-    ensures text { text_of_reply result ≡ part_text publication.now.version (shown_part text name.now publication.now.decks) }
+    requires { length listing.now ≤ 64 }
+    ensures text { text_of_reply result ≡ errors_text version view.now listing.now (map_of listing.now) }
     ensures limits { IsWithinLimits result }
 {
-    match shown_part(publication, text, name) {
-        Some(lines) => crate::Reply::Text {
-            version: publication.version(),
-            text: lines,
-        },
-        None => crate::Reply::Refused(Refusal::NoDeck),
-    }
-}
-
-/// The reply with what is flagged in a publication. Without the deck that is asked for there is no such
-/// deck.
-fn errors_reply<'a>(publication: &'a ListedPublication, view: &'a ErrorsView) -> crate::Reply<'a>
-    requires { length publication.now.decks ≤ 64 }
-    ensures text { text_of_reply result ≡ errors_text publication.now.version view.now publication.now.decks (map_of publication.now.decks) }
-    ensures limits { IsWithinLimits result }
-{
-    let decks = publication.objects();
-    if !shows_any(view, decks) {
-        return crate::Reply::Refused(Refusal::NoDeck);
-    }
     crate::Reply::Errors {
-        version: publication.version(),
+        version,
         view,
-        decks,
-        map: publication.map(),
+        decks: listing.objects(),
+        map: listing.map(),
     }
 }
 
@@ -448,9 +510,11 @@ impl Told {
                 version: *version,
                 kept: kept.as_slice(),
             },
-            Told::Published(shared, text) => crate::Reply::Published(shared.publication(), *text),
-            Told::Part(shared, text, name) => part_reply(shared.publication(), *text, name),
-            Told::Errors(shared, view) => errors_reply(shared.publication(), view),
+            Told::Published(version, shown) => crate::Reply::Published {
+                version: *version,
+                shown,
+            },
+            Told::Errors(version, listing, view) => errors_reply(*version, listing, view),
             Told::Lines(version, lines) => crate::Reply::Text {
                 version: *version,
                 text: lines.as_slice(),
@@ -495,8 +559,8 @@ impl Told {
     /// Frees what it shows.
     pub(crate) fn free(self) {
         match self {
-            Told::Published(shared, _) | Told::Part(shared, ..) => shared.free(),
-            Told::Errors(shared, _) => shared.free(),
+            Told::Published(_, shown) => shown.free(),
+            Told::Errors(_, listing, _) => drop(listing),
             Told::Cards(_, cards, _) => drop(cards),
             Told::Changes(_, kept) => drop(kept),
             Told::Lines(_, lines) => drop(lines),

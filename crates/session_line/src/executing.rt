@@ -1,6 +1,6 @@
 //! Executes a task once.
 ghost use Rattle.std.specs.Prelude.{◌≡◌, ◌≤◌, length};
-ghost use Rattle.session_line.specs.Answers.{IsTellable, called, most_cards, told_of_call, told_of_cards, told_of_errors, told_of_greeting, told_of_help, told_of_part, told_of_publication, told_of_wait, uncalled};
+ghost use Rattle.session_line.specs.Answers.{IsTellable, called, most_cards, told_of_call, told_of_cards, told_of_greeting, told_of_help, told_of_wait, uncalled, IsToldErrors, IsToldPart, IsToldText};
 ghost use Rattle.session_line.specs.Asking.{Asks, NotesTold};
 ghost use Rattle.session_line.specs.Executing.{AsksAt, AsksShown, AwaitsVersion, Executes, Greets, LoadsDeck};
 ghost use Rattle.session_line.specs.Messages.{IsToldNames, IsToldSymbols, IsToldWords};
@@ -9,7 +9,7 @@ ghost use Rattle.desk_core.specs.declared.calls.Question.TheVariants.{Cards, Sho
 
 use crate::answers::{
     Answer, Told, told_of_call, told_of_cards, told_of_cards_at, told_of_errors, told_of_greeting,
-    told_of_help, told_of_names, told_of_part, told_of_publication, told_of_symbols, told_of_wait,
+    told_of_help, told_of_names, told_of_part, told_of_symbols, told_of_text, told_of_wait,
     told_of_words,
 };
 use crate::calls::Calls;
@@ -104,28 +104,39 @@ fn show_cards_at<C: Calls>(alloc: Global, desk: &mut C, name: DeckName, version:
     called(told_of_cards_at(alloc, reply))
 }
 
-/// The desk is asked for the publication.
-fn show_text<C: Calls>(desk: &mut C, text: PublishedText) -> Answer
-    ensures asks { Asks C.relations.asks Show (told_of_publication text) desk.old desk.new result }
+/// The desk is asked for the publication, and a text of it is shown.
+fn show_text<C: Calls>(
+    alloc: Global,
+    keys: RandomState,
+    desk: &mut C,
+    text: PublishedText,
+) -> Answer
+    ensures asks { AsksShown C.relations.asks (IsToldText text) desk.old desk.new result }
     ensures fits { IsTellable result.told }
 {
-    called(told_of_publication(text, desk.ask(Question::Show)))
+    called(told_of_text(alloc, keys, text, desk.ask(Question::Show)))
 }
 
 /// The desk is asked for the publication, and a text of one deck is shown.
-fn show_part<C: Calls>(desk: &mut C, text: DeckText, name: DeckName) -> Answer
-    ensures asks { Asks C.relations.asks Show (told_of_part text name) desk.old desk.new result }
+fn show_part<C: Calls>(
+    alloc: Global,
+    keys: RandomState,
+    desk: &mut C,
+    text: DeckText,
+    name: &DeckName,
+) -> Answer
+    ensures asks { AsksShown C.relations.asks (IsToldPart text name.now) desk.old desk.new result }
     ensures fits { IsTellable result.told }
 {
-    called(told_of_part(text, name, desk.ask(Question::Show)))
+    called(told_of_part(alloc, keys, text, name, desk.ask(Question::Show)))
 }
 
 /// The desk is asked for the publication, and what is flagged in it is shown.
-fn show_errors<C: Calls>(desk: &mut C, view: ErrorsView) -> Answer
-    ensures asks { Asks C.relations.asks Show (told_of_errors view) desk.old desk.new result }
+fn show_errors<C: Calls>(alloc: Global, keys: RandomState, desk: &mut C, view: ErrorsView) -> Answer
+    ensures asks { AsksShown C.relations.asks (IsToldErrors view) desk.old desk.new result }
     ensures fits { IsTellable result.told }
 {
-    called(told_of_errors(view, desk.ask(Question::Show)))
+    called(told_of_errors(alloc, keys, view, desk.ask(Question::Show)))
 }
 
 /// The desk is asked for the publication, and what is said of what is flagged in one deck is shown.
@@ -231,9 +242,9 @@ pub(crate) fn execute<C: Calls, S: Shelf>(
         Task::AwaitVersion(version) => await_version(desk, version),
         Task::ShowCards(name, view) => show_cards(desk, name, view),
         Task::ShowCardsAt(name, version) => show_cards_at(alloc, desk, name, version),
-        Task::ShowText(text) => show_text(desk, text),
-        Task::ShowPart(text, name) => show_part(desk, text, name),
-        Task::ShowErrors(view) => show_errors(desk, view),
+        Task::ShowText(text) => show_text(alloc, keys, desk, text),
+        Task::ShowPart(text, name) => show_part(alloc, keys, desk, text, &name),
+        Task::ShowErrors(view) => show_errors(alloc, keys, desk, view),
         Task::ShowWords(name) => show_words(alloc, keys, desk, &name),
         Task::ShowNames => show_names(alloc, desk),
         Task::ShowSymbols(name) => show_symbols(alloc, keys, desk, &name),

@@ -5,7 +5,8 @@
 //! All lines of a batch or a put are read before the first is looked at, so a fault or an end among them
 //! makes no call. A `Task` is what a command asks for: a change, a question, a load, a save, the
 //! end, or nothing, for a reason; only SAVEALL, LOADALL and RELOAD call the desk more than once. LOAD reads the shelf
-//! first, so that a file that is no deck adds none; SAVE asks the desk first. A reply borrows its cards and texts, and takes no memory. What
+//! first, so that a file that is no deck adds none; SAVE asks the desk first. The texts of a publication are made
+//! when they are asked for. A reply borrows its cards and texts, and takes no memory. What
 //! a change or a question makes of a desk is named by the trait `Calls`, and what one call makes by `Called`: a
 //! `Desk` meets that with its own clause, `SeatCalls` with that of `Seat::call`.
 #![tactic(auto)]

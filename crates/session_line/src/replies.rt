@@ -5,9 +5,8 @@ use crate::marked_rows::MarkedRow;
 use crate::told_decks::ToldDeck;
 use cards::Card;
 use deck_files::FileRow;
-use deck_linker::ListedPublication;
 use deck_listing::ListedObject;
-use desk_core::{KeptEdit, PublishedText, Row};
+use desk_core::{KeptEdit, Row, ShownText};
 use session_commands::{ErrorsView, Refusal};
 
 /// The reply to one command.
@@ -43,8 +42,11 @@ pub enum Reply<'a> {
         version: u64,
         text: &'a [u8],
     },
-    /// `OK version n`, then the `n` lines of this text of what is published.
-    Published(&'a ListedPublication, PublishedText),
+    /// `OK version n`, then the `n` lines of a text of what is published.
+    Published {
+        version: u64,
+        shown: &'a ShownText,
+    },
     /// `OK version n`, then a line for each flagged statement of these decks, and those LINK lines of the
     /// map, that are shown.
     Errors {

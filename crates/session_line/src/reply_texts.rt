@@ -2,7 +2,6 @@
 ghost use Rattle.std.specs.Prelude.{◌≡◌, ◌+◌, ◌≤◌, ◌++◌, length};
 ghost use Rattle.session_line.specs.Greetings.{connected_text, service_text, session_word};
 ghost use Rattle.deck_linker.specs.Publishing.{lines_in};
-ghost use Rattle.desk_core.specs.PublishedTexts.{shown_text};
 ghost use Rattle.session_line.specs.Replies.{IsWithinLimits, behind_text, line_of, counted_text, ok_text, unkept_text, head_text, numbers_text, published_text, row_text, state_text, status_text};
 ghost use Rattle.session_line.specs.Views.{number_where};
 ghost use Rattle.session_commands.specs.Sought.{has_text};
@@ -16,8 +15,8 @@ use crate::reply_line::ReplyLine;
 use crate::rights::Rights;
 use crate::views::count_with;
 use cards::Card;
-use deck_linker::{ListedPublication, lines_in};
-use desk_core::{PublishedText, Row, State, shown_lines};
+use deck_linker::lines_in;
+use desk_core::{Row, State};
 use session_commands::{Refusal, has_text};
 
 /// `OK version`
@@ -76,13 +75,6 @@ fn refusal_line(refusal: &Refusal) -> ReplyLine
     line
 }
 
-/// `OK version n`, where this text of what is published has `n` lines.
-fn shown_line(publication: &ListedPublication, text: PublishedText) -> ReplyLine
-    ensures { result ≡ line_of (counted_text publication.now.version (lines_in (shown_text text publication.now.decks))) }
-{
-    counted_line(publication.version(), shown_lines(publication, text))
-}
-
 /// The first line of a reply.
 pub(crate) fn head_line(reply: &Reply<'_>) -> ReplyLine
     requires { IsWithinLimits reply.now }
@@ -99,7 +91,7 @@ pub(crate) fn head_line(reply: &Reply<'_>) -> ReplyLine
             text,
         } => counted_line(*version, count_with(text, cards)),
         Reply::Text { version, text } => counted_line(*version, lines_in(text)),
-        Reply::Published(publication, text) => shown_line(publication, *text),
+        Reply::Published { version, shown } => counted_line(*version, shown.lines()),
         Reply::Errors {
             version,
             view,

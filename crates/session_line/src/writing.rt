@@ -13,7 +13,7 @@ use crate::reply_texts::{found_line, head_line, published_line, row_line};
 use crate::session_writing::write_sessions;
 use cards::Card;
 use deck_files::save;
-use desk_core::{Row, write_shown};
+use desk_core::Row;
 use std::alloc::{AllocError, Global};
 use std::io::Write;
 use text_ports::{Broken, Counted, put_all};
@@ -77,7 +77,7 @@ fn write_body<W: Write>(output: &mut Counted<W>, reply: &Reply<'_>) -> Result<()
         Reply::Changes { kept, .. } => write_changes(output, kept),
         Reply::Found { cards, text, .. } => write_found(output, cards, text),
         Reply::Text { text, .. } => put_all(output, text),
-        Reply::Published(publication, text) => write_shown(output, publication, *text),
+        Reply::Published { shown, .. } => shown.write(output),
         Reply::Errors {
             view,
             decks,

@@ -1,14 +1,16 @@
 -- The sections of an image.
-use Rattle.std.specs.Prelude.{ℕ, ◌+◌, List, [], ◌++◌, Option, codes, flat_map, unwrap_or}
+use Rattle.std.specs.Prelude.{ℕ, ◌+◌, List, ◌++◌, Option, Some, None, codes, flat_map}
 use Rattle.definitions.specs.{Numerals.octal_of, Listing.line, Layout.{Layout, Based}, Image.{section_by, word_line}, Words.StoredWord, declared.deck_kind.DeckKind.TheVariants.Rel}
+use Rattle.deck_linker.specs.Publishing.{section_of}
 
 -- the section of a deck, where it has one
 abbrev pub deck_section : Layout → Based → List ℕ
 deck_section layout based = section_by based.object.kind based.is_past layout based
 
--- the text of a section; one that is not there has none
-abbrev pub section_text : Option (List ℕ) → List ℕ
-section_text section = unwrap_or section []
+-- the section of a deck that was found, if one was
+abbrev pub section_found : Layout → Option Based → Option (List ℕ)
+section_found layout None = None
+section_found layout (Some based) = section_of layout based
 
 -- the first line of the section of a common block
 unfoldable pub common_head : List ℕ → ℕ → List ℕ

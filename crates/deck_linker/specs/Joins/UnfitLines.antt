@@ -4,7 +4,6 @@ use Rattle.definitions.specs.{Kinds.unit_bits, Lengths.BlockRow, Layout.{Layout,
 use Rattle.statement_coder.specs.declared.items.Item as code
 use Rattle.deck_objects.specs.{Joins.LineItems.{kept_items, AreKept}, declared.lines.Line.Line}
 use Rattle.deck_objects.specs.declared.lines.CodedLine as lines
-use Rattle.deck_listing.specs.KeptSections.{DoAllFit}
 
 -- the lines of a statement in this block
 abbrev pub unfit_in : Layout → Based → List code.Item → lines.CodedLine → Option BlockRow → List (List ℕ)
@@ -32,7 +31,3 @@ IsKept kind items (Some line) = AreKept kind items line line.fields
 abbrev pub AllAreKept : DeckKind → List code.Item → List Line → Type 0
 AllAreKept kind items [] = ⊤
 AllAreKept kind items (line ∷ lines) = IsKept kind items line.coded × AllAreKept kind items lines
-
--- of some of these decks it is known that all their fields fit: of those at whose places `true` stands
-abbrev pub AreKnownToFit : Layout → List Based → List Bool → Type 0
-AreKnownToFit layout decks fits = (i : ℕ) (based : Based) → slice_get decks i ≡ Some based → slice_get fits i ≡ Some true → DoAllFit layout based

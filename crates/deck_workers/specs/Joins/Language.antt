@@ -10,11 +10,11 @@ pub use Rattle.edit_core.specs.declared.faults.RecordFault.TheVariants.{OutOfMem
 pub use Rattle.desk_core.specs.declared.calls.Done.{Done}
 pub use Rattle.desk_core.specs.declared.calls.Call.{Call}
 pub use Rattle.desk_core.specs.declared.calls.Call.TheVariants.{Do}
-pub use Rattle.desk_core.specs.declared.calls.Work.TheVariants.{Claim, DeliverDeck, DeliverLink, OfferObject, Publish, GiveUp}
+pub use Rattle.desk_core.specs.declared.calls.Work.TheVariants.{Claim, DeliverDeck, Publish, GiveUp}
 pub use Rattle.desk_core.specs.declared.jobs.Start.{Start}
 pub use Rattle.desk_core.specs.declared.jobs.Start.TheVariants.{FromRecord, FromCards}
 pub use Rattle.desk_core.specs.declared.jobs.DeckWork.{DeckWork}
 pub use Rattle.desk_core.specs.declared.jobs.LinkWork.{LinkWork}
 pub use Rattle.desk_core.specs.declared.replies.Refusal.{Refusal}
 pub use Rattle.desk_core.specs.declared.replies.Reply.{Reply}
-pub use Rattle.desk_core.specs.declared.replies.Reply.TheVariants.{DeckJob, LinkJob, Stored, Published, Refused}
+pub use Rattle.desk_core.specs.declared.replies.Reply.TheVariants.{DeckJob, LinkJob, Published, Refused}

@@ -1,7 +1,8 @@
 -- What a worker does behind a round, by what the round was and what its sleep gave (ours).
 use Rattle.std.specs.Prelude.{ℕ, ◌*◌, Bool, true, false, ◌&&◌, not, min, Result, Ok, Err}
 use Rattle.crossbeam_channel.specs.declared.err.RecvTimeoutError.{RecvTimeoutError, TheVariants.{Timeout, Disconnected}}
-use Rattle.deck_workers.specs.{declared.bells.Bell.Bell, declared.bells.Next.Next, declared.bells.Next.TheVariants.{Claims, SleepsFor, SleepsUntilBell}, declared.bells.Round.Round, declared.bells.Round.TheVariants.{Delivered, GaveUp, NoJob}, Joins.Language.{Reply, Refused}, Jobs.is_result, WorkerRounds.{WorkerRound, AtOnce, ByDesk, Unshared, is_starved}}
+use Rattle.deck_workers.specs.{declared.bells.Bell.Bell, declared.bells.Next.Next, declared.bells.Next.TheVariants.{Claims, SleepsFor, SleepsUntilBell}, declared.bells.Round.Round, declared.bells.Round.TheVariants.{Delivered, GaveUp, NoJob}, Joins.Language.{Reply, Refused}, Jobs.is_result}
+use Rattle.desk_core.specs.declared.replies.Refusal.TheVariants as refusal
 use Rattle.deck_workers.specs.declared.bells.Bell.TheVariants as bell
 use Rattle.deck_workers.specs.Rounds as rounds
 
@@ -15,6 +16,11 @@ abbrev pub round_without_job : Bool → Round
 round_without_job true = GaveUp
 round_without_job false = NoJob
 
+-- whether a reply shows want of memory
+abbrev pub is_starved : Reply → Bool
+is_starved (Refused refusal.OutOfMemory) = true
+is_starved _ = false
+
 -- whether something was made of a job, and the desk had the memory that it takes to publish
 abbrev pub went_well : Bool → Reply → Bool
 went_well is_made answered = is_made && not (is_starved answered)
@@ -25,11 +31,9 @@ is_refused (Refused refusal) = true
 is_refused _ = false
 
 -- what the round of a worker is shown as
-abbrev pub told_as : WorkerRound → Round
-told_as (AtOnce (rounds.Resting claimed)) = round_without_job (is_refused claimed)
-told_as (AtOnce (rounds.Working claimed result answered)) = round_with_job (went_well (is_result result) answered)
-told_as (ByDesk claimed lease publication offers answered given_up) = round_with_job (went_well true answered)
-told_as (Unshared claimed lease publication offers freed) = GaveUp
+abbrev pub told_as : rounds.Round → Round
+told_as (rounds.Resting claimed) = round_without_job (is_refused claimed)
+told_as (rounds.Working claimed result answered) = round_with_job (went_well (is_result result) answered)
 
 -- what a worker does behind a round, where it sleeps for so many milliseconds if it does for a while
 abbrev pub next_behind : Round → ℕ → Next

@@ -9,7 +9,7 @@ pub use Rattle.desk_core.specs.declared.calls.Change.TheVariants.{AddDeck, PutDe
 pub use Rattle.desk_core.specs.declared.calls.Question.{Question}
 pub use Rattle.desk_core.specs.declared.calls.Question.TheVariants.{Changes, CardsAt, Cards, Show, Status}
 pub use Rattle.desk_core.specs.declared.calls.Work.{Work}
-pub use Rattle.desk_core.specs.declared.calls.Work.TheVariants.{Claim, DeliverDeck, DeliverLink, OfferObject, Publish, GiveUp}
+pub use Rattle.desk_core.specs.declared.calls.Work.TheVariants.{Claim, DeliverDeck, DeliverLink, Publish, GiveUp}
 pub use Rattle.desk_core.specs.declared.calls.Call.{Call}
 pub use Rattle.desk_core.specs.declared.calls.Call.TheVariants.{Make, Ask, Do}
 pub use Rattle.desk_core.specs.declared.jobs.Start.{Start}
@@ -22,4 +22,4 @@ pub use Rattle.desk_core.specs.declared.replies.Row.{Row}
 pub use Rattle.desk_core.specs.declared.replies.Refusal.{Refusal}
 pub use Rattle.desk_core.specs.declared.replies.Refusal.TheVariants.{OutOfMemory, NoSuchCard, DeckFull, NameTaken, NoDeck, OldVersion, TooManyDecks, UnknownJob, Stale, Foreign, NoPublication, VersionsSpent, BadEdit, BatchSize, NotKept, Forgotten, TouchedCard, NoChange}
 pub use Rattle.desk_core.specs.declared.replies.Reply.{Reply}
-pub use Rattle.desk_core.specs.declared.replies.Reply.TheVariants.{Changed, Carried, Unkept, CardsAre, ChangesAre, CardsBefore, Shown, StatusIs, DeckJob, LinkJob, Idle, AllOut, Stored, Considered, Published, Cleared, Refused}
+pub use Rattle.desk_core.specs.declared.replies.Reply.TheVariants.{Changed, Carried, Unkept, CardsAre, ChangesAre, CardsBefore, Shown, StatusIs, DeckJob, LinkJob, Idle, AllOut, Stored, Published, Cleared, Refused}

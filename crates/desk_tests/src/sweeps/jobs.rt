@@ -1,13 +1,13 @@
 //! Jobs of a desk: claimed, run, delivered and given up, and made again where they find no memory.
 
-use crate::jobs::ask;
+use crate::jobs::{ask, delivery_of};
 use crate::sweeps::scene::Scene;
 use deck_workers::{Job, Made, Runs, job_in};
-use desk_core::{Call, Desk, Refusal, Reply, SharedPublication, Work};
+use desk_core::{Call, Refusal, Reply, Work};
 use edit_core::RecordFault;
 
 /// How what ends a job is shown.
-const HAND_IN: &str = "DeliverDeck, OfferObject with Publish, or GiveUp";
+const HAND_IN: &str = "DeliverDeck, Publish or GiveUp";
 
 /// What a reply of the desk shows, but for what it gives.
 #[derive(Clone, Copy, PartialEq, Eq)]
@@ -76,50 +76,13 @@ fn claim(scene: &mut Scene) -> Option<Job> {
     }
 }
 
-/// Has a desk publish its decks; where memory lacks for that the lease is given up. What the desk answered last, and
-/// whether memory lacked.
-fn publish(desk: &mut Desk, lease: u64) -> (Told, bool) {
-    let told = told_of(ask(desk, Call::Do(Work::Publish(lease))));
-    if told == LACKING {
-        (told_of(ask(desk, Call::Do(Work::GiveUp(lease)))), true)
-    } else {
-        (told, false)
-    }
-}
-
-/// Offers the objects of a publication, if there is memory to share them, and has the desk publish its decks.
-fn offer_all(desk: &mut Desk, lease: u64, publication: &SharedPublication) -> (Told, bool) {
-    for (place, object) in publication.publication().objects().iter().enumerate() {
-        if let Ok(object) = object.share() {
-            let offered = Work::OfferObject {
-                lease,
-                place,
-                object,
-            };
-            ask(desk, Call::Do(offered)).free();
-        }
-    }
-    publish(desk, lease)
-}
-
-/// Ends a job: the objects of a publication are offered and the desk publishes, as a worker has it do with one of
-/// many cards.
-fn end_made(desk: &mut Desk, made: Made) -> (Told, bool) {
-    match made {
-        Made::Link { lease, publication } => {
-            let ended = offer_all(desk, lease, &publication);
-            publication.free();
-            ended
-        }
-        other => (told_of(ask(desk, other.into_call())), false),
-    }
-}
-
-/// Notes what a desk answered at the end of a job: names, versions and cards are as before whatever that is.
-fn note_end(scene: &mut Scene, told: Told, before: &[u8], is_foreign: bool) {
+/// Notes what a desk answered at the end of a job: names, versions and cards are as before whatever that is. Only a
+/// publication that the desk makes may find no memory.
+fn note_end(scene: &mut Scene, told: Told, before: &[u8], is_link: bool, is_foreign: bool) {
     let is_kept = scene.state().as_slice() == before;
     let is_wanted = match told {
         Told::Refused(Refusal::Foreign) => is_foreign,
+        Told::Refused(Refusal::OutOfMemory) => is_link && !is_foreign,
         Told::Refused(_) => false,
         _ => !is_foreign,
     };
@@ -129,13 +92,16 @@ fn note_end(scene: &mut Scene, told: Told, before: &[u8], is_foreign: bool) {
 /// Hands in what was made of a job, or gives up its lease. Whether memory lacked to publish it.
 fn hand_in(scene: &mut Scene, made: Made, is_foreign: bool) -> bool {
     let before = scene.state();
-    let (told, is_given_up) = if is_foreign {
-        (told_of(ask(&mut scene.desk, made.into_call())), false)
+    let is_link = made.published().is_some();
+    // a publication that is not of its lease is delivered; else the desk makes its own
+    let call = if is_foreign {
+        delivery_of(made)
     } else {
-        end_made(&mut scene.desk, made)
+        made.into_call()
     };
-    note_end(scene, told, &before, is_foreign);
-    is_given_up
+    let told = told_of(ask(&mut scene.desk, call));
+    note_end(scene, told, &before, is_link, is_foreign);
+    told == LACKING
 }
 
 /// A job whose result is not one of its lease: it has another version.
@@ -181,8 +147,8 @@ fn end_once(scene: &mut Scene, job: Job, end: End) -> bool {
         _ => false,
     };
     let is_foreign = end == End::Foreign && !is_lost;
-    let is_given_up = hand_in(scene, made, is_foreign);
-    !is_lost && !is_given_up
+    let is_lacking = hand_in(scene, made, is_foreign);
+    !is_lost && !is_lacking
 }
 
 /// Claims a job and ends it, once more where memory lacks for it; whether there was one.

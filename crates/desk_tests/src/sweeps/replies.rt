@@ -46,7 +46,7 @@ fn is_within(reply: &Reply<'_>) -> bool
         Reply::Files { files, .. } => files.len() <= MOST_FILES,
         Reply::Sessions { sessions, .. } => sessions.len() <= 64,
         Reply::Done { .. } | Reply::Unkept { .. } => true,
-        Reply::Text { .. } | Reply::Published(_, _) => true,
+        Reply::Text { .. } | Reply::Published { .. } => true,
         Reply::Bye | Reply::Refused(_) => true,
     }
 }

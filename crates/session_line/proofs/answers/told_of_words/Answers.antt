@@ -1,7 +1,7 @@
 use Rattle.std.proofs.Common.{Result, sym, subst, ◌∙◌}
 use Rattle.desk_core.specs.Desks.{Publication}
 use Rattle.session_commands.specs.declared.refusals.Refusal.{Refusal}
-use Rattle.session_line.specs.{Errors.deck_named, Messages.{IsSaidOf, IsToldBy}}
+use Rattle.session_line.specs.{Answers.IsToldBy, Errors.deck_named, Messages.IsSaidOf}
 use Rattle.session_line.proofs.answers.told_of_words.Goals as goal
 
 -- the publication is shown

@@ -1,0 +1,116 @@
+//! A text of a publication that somebody is shown: one that was made when it was asked for, or listings that several
+//! hold and that are written from where they lie.
+ghost use Rattle.std.specs.Prelude.{◌≡◌, ◌<◌, ◌^◌, IfOk, IfErr};
+ghost use Rattle.definitions.specs.Build.{listing_of};
+ghost use Rattle.text_ports.specs.Joins.Sending.{Sends, count_after_sending};
+ghost use Rattle.deck_linker.specs.Joins.InPieces.{deck_text};
+ghost use Rattle.deck_linker.specs.Publishing.{lines_in};
+ghost use Rattle.desk_core.specs.Joins.Shown.{shown_bytes};
+
+use deck_linker::{PublishedListing, lines_in};
+use deck_listing::ListedObject;
+use std::alloc::AllocError;
+use std::io::Write;
+use std::marker::Model;
+use text_ports::{Broken, Counted, Text, put_all};
+
+/// Where the bytes of a text come from.
+#[derive(Drop)]
+enum Source {
+    /// A text alone.
+    Made(Text),
+    /// The listing of this deck.
+    OfDeck(ListedObject),
+    /// The listing of a publication.
+    OfDecks(PublishedListing),
+}
+
+impl Source {
+    fn lines(&self) -> usize
+        ensures { result ≡ lines_in (shown_bytes self.now) }
+    {
+        match self {
+            Source::Made(text) => lines_in(text.as_slice()),
+            Source::OfDeck(object) => lines_in(object.listing()),
+            Source::OfDecks(listing) => listing.lines(),
+        }
+    }
+
+    fn write<W: Write>(&self, output: &mut Counted<W>) -> Result<(), Broken>
+        ensures sends { Sends (W.contents output.old.0) (W.contents output.new.0) (shown_bytes self.now) result }
+        ensures count { output.new.1 ≡ count_after_sending result output.old.1 }
+        ensures few { IfErr result (λ broken. broken.sent < 2 ^ 63) }
+    {
+        match self {
+            Source::Made(text) => put_all(output, text.as_slice()),
+            Source::OfDeck(object) => put_all(output, object.listing()),
+            Source::OfDecks(listing) => listing.write(output),
+        }
+    }
+}
+
+/// A text of a publication. Contracts see its bytes.
+#[derive(Drop)]
+pub struct ShownText {
+    source: Source,
+}
+
+impl Model for ShownText {
+    ghost use Rattle.std.specs.Prelude.{ℕ, List};
+    ghost use Rattle.desk_core.specs.Joins.Shown.{shown_bytes};
+
+    ghost Value = { List ℕ };
+
+    ghost view = { λ s. shown_bytes s.source };
+}
+
+impl ShownText {
+    /// This text.
+    pub(crate) fn made(text: Text) -> ShownText
+        ensures { result ≡ text }
+    {
+        ShownText {
+            source: Source::Made(text),
+        }
+    }
+
+    /// The listing of the deck of an object.
+    pub(crate) fn of_deck(object: &ListedObject) -> Result<ShownText, AllocError>
+        ensures { IfOk result (λ shown. shown ≡ deck_text object.now) }
+    {
+        let object = object.share()?;
+        Ok(ShownText {
+            source: Source::OfDeck(object),
+        })
+    }
+
+    /// The listing of a publication.
+    pub(crate) fn of_decks(listing: PublishedListing) -> ShownText
+        ensures { result ≡ listing_of listing }
+    {
+        ShownText {
+            source: Source::OfDecks(listing),
+        }
+    }
+
+    /// How many lines it has.
+    pub fn lines(&self) -> usize
+        ensures { result ≡ lines_in self.now }
+    {
+        self.source.lines()
+    }
+
+    /// Writes it, or exactly the first `sent` bytes of it up to the first fault. Takes no memory.
+    pub fn write<W: Write>(&self, output: &mut Counted<W>) -> Result<(), Broken>
+        ensures sends { Sends (W.contents output.old.0) (W.contents output.new.0) self.now result }
+        ensures count { output.new.1 ≡ count_after_sending result output.old.1 }
+        ensures few { IfErr result (λ broken. broken.sent < 2 ^ 63) }
+    {
+        self.source.write(output)
+    }
+
+    /// Frees it. Crates above call this in place of `drop` (CONTRIBUTING).
+    pub fn free(self) {
+        drop(self);
+    }
+}
