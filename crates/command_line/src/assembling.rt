@@ -355,7 +355,7 @@ where
     R: AllocGlobal + Print + Files,
     R::File: AsFd,
 {
-    match decks_at(rt, rt.alloc(), named.keys, name, named.version) {
+    match decks_at(rt, rt.alloc(), name, named.version) {
         Ok(decks) => from_decks(rt, named, decks),
         Err(DecksFault::Asm(fault)) => Err(RunFault::Asm(fault)),
         Err(DecksFault::Journal(error)) => Err(RunFault::Journal { name, error }),

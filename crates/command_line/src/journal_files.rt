@@ -13,7 +13,6 @@ use journal::{
 };
 use std::alloc::{AllocError, Global};
 use std::fs;
-use std::hash::RandomState;
 use std::io::{self, BufReader, Read, Write};
 use std::process::ExitCode;
 use std::rt::Files;
@@ -107,7 +106,6 @@ fn decks_in(
 pub(crate) fn decks_at<R: Files>(
     rt: &R,
     alloc: Global,
-    keys: RandomState,
     path: &str,
     version: Option<u64>,
 ) -> Result<Vec<Deck>, DecksFault> {
@@ -116,7 +114,7 @@ pub(crate) fn decks_at<R: Files>(
         return Err(DecksFault::from(AsmFault::OutOfMemory));
     };
     let last = version.unwrap_or(u64::MAX);
-    let Replayed { desk, ending } = replay(alloc, keys, &mut Counted::new(reader), last)?;
+    let Replayed { desk, ending } = replay(alloc, &mut Counted::new(reader), last)?;
     let decks = decks_in(alloc, &desk, ending, version);
     desk.free();
     decks

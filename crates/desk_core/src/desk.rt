@@ -11,19 +11,16 @@ use crate::shared_publication::SharedPublication;
 use crate::stored_deck::StoredDeck;
 use cards::DeckName;
 use std::alloc::Global;
-use std::hash::RandomState;
 use std::marker::Model;
 
 /// The greatest version, and the greatest number of a lease.
 const GREATEST_NUMBER: u64 = 4_611_686_018_427_387_904;
 
 /// The desk: the version that its last change made, how many leases it gave, its decks in order of addition, the
-/// lease of a link, and the last publication. It keeps where its memory comes from, and the keys of the tables that
-/// are made for it.
+/// lease of a link, and the last publication. It keeps where its memory comes from.
 #[derive(Drop)]
 pub struct Desk {
     pub(crate) alloc: Global,
-    pub(crate) keys: RandomState,
     pub(crate) version: u64,
     pub(crate) leases: u64,
     pub(crate) decks: DeckList,
@@ -41,19 +38,18 @@ impl Model for Desk {
 
 impl Desk {
     /// A new desk.
-    pub fn new(alloc: Global, keys: RandomState) -> Desk
+    pub fn new(alloc: Global) -> Desk
         ensures { result ≡ new_desk_at 0 }
     {
-        Desk::behind(alloc, keys, 0)
+        Desk::behind(alloc, 0)
     }
 
     /// A new desk that goes on behind a version: its first change makes the next one.
-    pub fn behind(alloc: Global, keys: RandomState, version: u64) -> Desk
+    pub fn behind(alloc: Global, version: u64) -> Desk
         ensures { result ≡ new_desk_at version }
     {
         Desk {
             alloc,
-            keys,
             version,
             leases: 0,
             decks: DeckList::new(alloc),

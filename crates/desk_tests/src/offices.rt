@@ -238,7 +238,7 @@ fn add_and_show<R: Wait>(
 
 /// An office over a desk, whose seats meet; closed with one of them, and with both.
 fn meet_at_desk<R: AllocGlobal + Wait>(rt: &R, answer: &mut Answer) -> Got<()> {
-    let desk = Desk::new(rt.alloc(), fixed_keys()?);
+    let desk = Desk::new(rt.alloc());
     let (office, mut first, mut second) = open_two(rt.alloc(), desk)?;
     let done = add_and_show(rt, &office, &mut first, &mut second, answer);
     answer.keep(done);
@@ -251,7 +251,7 @@ fn meet_at_desk<R: AllocGlobal + Wait>(rt: &R, answer: &mut Answer) -> Got<()> {
 /// Says commands of a session on a desk, each from the second seat of its office: the number of the seat.
 fn say_all<R: AllocGlobal + Wait>(rt: &R, lines: &str, answer: &mut Answer) -> Got<()> {
     let keys = fixed_keys()?;
-    let desk = Desk::new(rt.alloc(), keys);
+    let desk = Desk::new(rt.alloc());
     let (office, _, seat) = open_two(rt.alloc(), desk)?;
     let mut shelf = MemoryShelf::new(rt.alloc(), keys);
     let mut desk = SeatCalls::new(rt, &office, seat);

@@ -38,7 +38,7 @@ impl Place {
     pub fn new(alloc: Global, keys: RandomState) -> Place {
         Place {
             alloc,
-            desk: Desk::new(alloc, keys),
+            desk: Desk::new(alloc),
             shelf: MemoryShelf::new(alloc, keys),
             jobs: Jobs::new(alloc, keys),
             file: Vec::new(alloc),

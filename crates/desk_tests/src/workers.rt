@@ -115,7 +115,7 @@ fn work_at_seats<R: Threads + Wait + Clock + Sync>(
 fn open_three(alloc: Global) -> Got<(Office<Desk>, Seat<Desk>, Seat<Desk>, Seat<Desk>)>
     ensures { IfOk result (λ r. (r.1.office ≡ r.0.id) × (r.2.office ≡ r.0.id) × (r.3.office ≡ r.0.id)) }
 {
-    let desk = Desk::new(alloc, fixed_keys()?);
+    let desk = Desk::new(alloc);
     let (office, mut seats) = open(alloc, desk, 3)?;
     match (seats.pop(), seats.pop(), seats.pop()) {
         (Some(third), Some(second), Some(first)) => Ok((office, first, second, third)),

@@ -9,7 +9,6 @@ use crate::records::{Entry, Record};
 use cards::DeckName;
 use desk_core::{Call, Change, Desk, Refusal, Reply};
 use std::alloc::Global;
-use std::hash::RandomState;
 use std::io::Read;
 use std::mem::replace;
 use text_ports::Counted;
@@ -85,7 +84,6 @@ fn make_again(
 /// Takes the record at a place: the first may show where the journal begins, and each other has a change.
 fn take_record(
     alloc: Global,
-    keys: RandomState,
     desk: &mut Desk,
     is_first: bool,
     found: Record,
@@ -106,7 +104,7 @@ fn take_record(
     } = found;
     match entry {
         Entry::Begun if is_first => {
-            replace(desk, Desk::behind(alloc, keys, version)).free();
+            replace(desk, Desk::behind(alloc, version)).free();
             Ok(())
         }
         Entry::Begun => Err(unmade),
@@ -118,7 +116,6 @@ fn take_record(
 /// where the desk has this version before.
 fn make_all<R: Read>(
     alloc: Global,
-    keys: RandomState,
     input: &mut Counted<R>,
     last: u64,
     desk: &mut Desk,
@@ -136,7 +133,7 @@ fn make_all<R: Read>(
         }
         let begin = place;
         match next_record(alloc, input, &mut place)? {
-            Next::Found(record) => take_record(alloc, keys, desk, is_first, record, &begin)?,
+            Next::Found(record) => take_record(alloc, desk, is_first, record, &begin)?,
             Next::Ended(ending) => return Ok(Some(ending)),
         }
         is_first = false;
@@ -149,7 +146,6 @@ fn make_all<R: Read>(
 /// by its number and its first byte.
 pub fn replay<R: Read>(
     alloc: Global,
-    keys: RandomState,
     input: &mut Counted<R>,
     last: u64,
 ) -> Result<Replayed, ReplayFault>
@@ -157,8 +153,8 @@ pub fn replay<R: Read>(
     ensures stops { IfErr result (StopsReplay (R.remaining input.old.0) (R.remaining input.new.0) input.old.1 input.new.1) }
     ensures sound { OnOk result (input.new.1 ≡ input.old.1) }
 {
-    let mut desk = Desk::new(alloc, keys);
-    match make_all(alloc, keys, input, last, &mut desk) {
+    let mut desk = Desk::new(alloc);
+    match make_all(alloc, input, last, &mut desk) {
         Ok(ending) => Ok(Replayed { desk, ending }),
         Err(fault) => {
             desk.free();

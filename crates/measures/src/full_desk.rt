@@ -101,7 +101,7 @@ impl Timed {
         Ok(Timed {
             alloc,
             keys,
-            desk: Desk::new(alloc, keys),
+            desk: Desk::new(alloc),
             meter: work_meter::begin(),
             rows,
         })

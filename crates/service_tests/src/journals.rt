@@ -13,7 +13,7 @@ use journal::{
 use moments::Moment;
 use std::alloc::{AllocError, Global};
 use std::io::Read;
-use test_parts::{Answer, FaultyReader, fixed_keys, name_of, number};
+use test_parts::{Answer, FaultyReader, name_of, number};
 use text_ports::{Counted, Text};
 
 /// Makes a step of this word, if it is one of journals, and answers whether it is.
@@ -73,12 +73,8 @@ fn push_journal(answer: &mut Answer, file: &[u8], fails_at: u64) {
 
 /// Makes the changes of a journal again, up to a version.
 fn replayed(alloc: Global, file: &[u8], last: u64) -> Result<Replayed, ReplayFault> {
-    let Ok(keys) = fixed_keys() else {
-        return Err(ReplayFault::OutOfMemory);
-    };
     replay(
         alloc,
-        keys,
         &mut Counted::new(FaultyReader::new(file, 7, 0)),
         last,
     )

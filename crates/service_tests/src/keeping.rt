@@ -20,7 +20,7 @@ use std::io;
 use std::io::{ErrorKind, Seek, SeekFrom, Write};
 use std::sync::{Mutex, Wait};
 use std::time::Clock;
-use test_parts::{Answer, FaultyReader, card_of, fixed_keys, name_of, number};
+use test_parts::{Answer, FaultyReader, card_of, name_of, number};
 use text_ports::Counted;
 
 /// Makes a step of this word, if it is one of what is kept, and answers whether it is.
@@ -192,7 +192,7 @@ fn make_on_disk<R: Wait + Clock + Eprint>(
     let file = JournalFile::new(DiskFile { rt, disk }, Mark::first(), 1);
     let journal = Journal::new(alloc, file, 1)?;
     let ends = SessionEnds::new(rt, alloc, Some(&journal), 0);
-    let mut desk = Door::new(rt, Desk::new(alloc, fixed_keys()?), ends);
+    let mut desk = Door::new(rt, Desk::new(alloc), ends);
     let mut versions = Versions {
         seen: 0,
         made: 0,
@@ -212,10 +212,7 @@ fn make_on_disk<R: Wait + Clock + Eprint>(
 fn has_kept(alloc: Global, bytes: &[u8], versions: Versions) -> bool {
     let mut input = Counted::new(FaultyReader::new(bytes, 7, 0));
     let made = versions.made;
-    let Ok(keys) = fixed_keys() else {
-        return false;
-    };
-    match replay(alloc, keys, &mut input, u64::MAX) {
+    match replay(alloc, &mut input, u64::MAX) {
         Ok(again) => {
             let is_whole = again.ending == Some(Ending::Whole) && !versions.is_strange;
             let version = again.desk.version();

@@ -18,7 +18,7 @@ use turn_office::{Office, Seat, SeatList};
 fn open_once(scene: &mut Scene) -> Got<(Office<Desk>, SeatList<Desk>)>
     ensures { IfOk result (λ opened. opened.1.items ≡ new_seats opened.0.id 2) }
 {
-    let desk = mem::replace(&mut scene.desk, Desk::new(scene.alloc, scene.keys));
+    let desk = mem::replace(&mut scene.desk, Desk::new(scene.alloc));
     match Office::open(scene.alloc, desk, 2) {
         Ok(opened) => Ok(opened),
         Err(failed) => {

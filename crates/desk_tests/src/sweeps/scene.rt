@@ -59,7 +59,7 @@ impl Scene {
             alloc,
             keys,
             journal: Journal::new(alloc),
-            desk: Desk::new(alloc, keys),
+            desk: Desk::new(alloc),
             shelf: MemoryShelf::new(alloc, keys),
         }
     }
