@@ -1,6 +1,6 @@
-//! What `service_tests` does that asks for no socket and no journal: the steps of its transcripts at a
-//! desk, at its jobs, sessions and files, at folders, offices and workers, each of which writes down what
-//! comes of it. It is proved beside the journal and the service, and not behind them.
+//! What `service_tests` does that asks for no socket and no service: the steps of its transcripts at a desk, at its
+//! jobs, sessions, replies and files, at journals, folders, offices and workers, each of which writes down what comes
+//! of it. It is proved beside the service, and not behind it.
 #![tactic(auto)]
 
 // A shelf in memory; a desk whose jobs are all done by the one who holds it.
@@ -15,25 +15,28 @@ mod refusing;
 mod faults;
 mod files;
 mod jobs;
+mod journals;
 mod lines;
 mod offices;
 mod place;
+mod replies;
+mod reply_texts;
 mod shelves;
 mod workers;
 
-// Scenarios, in which any request for memory, read or write may fail.
-mod sweeps;
-
 use deck_files::KnownFiles;
-pub use jobs::push_asked;
-pub use place::Place;
+pub use jobs::{addition, ask, delivery_of};
+pub use memory_shelf::MemoryShelf;
+pub use offices::{ask_from, closed};
+pub use place::{Place, put_file, serve, serve_up_to};
+pub use reply_texts::{is_within, text_of};
+pub use settling::{Settled, settle};
 use std::alloc::AllocGlobal;
 use std::fs::File;
 use std::rt::Files;
 use std::sync::Wait;
 use std::thread::Threads;
 use std::time::Clock;
-pub use sweeps::{Ended, run_chosen, text_of};
 use test_parts::Answer;
 
 /// Makes a step, and answers whether there is one of this word.
@@ -48,6 +51,8 @@ pub fn make<R: AllocGlobal + Threads + Wait + Sync + Files<File = File> + Clock 
     place.make(word, rest, answer)
         || files::make(place.file.as_slice(), word, rest, answer)
         || lines::make(word, rest, answer)
+        || replies::make(word, rest, answer)
+        || journals::make(&mut place.file, word, rest, answer)
         || faults::make(rt.alloc(), word, answer)
         || shelves::make(rt, known, word, rest, answer)
         || offices::make(rt, word, rest, answer)

@@ -2,12 +2,12 @@
 //! once its clients have spoken.
 //!
 //! `host FOLDER JOURNAL WORKERS SESSIONS [READERS] LINES`: as `serve`, whose lines clients say. A line `page LINES`
-//! is said to the page, whose status and replies are shown.
+//! is said to the page, whose status and replies are shown. `serve_faults`: the faults of a service, as texts.
 ghost use Rattle.std.specs.Prelude.{◌≡◌, true};
 ghost use Rattle.desk_service.specs.Services.{AreInRange};
 
 use crate::sockets::{ADDRESS, Addresses, Client, are_in_range, gather, say_all, settings_of};
-use desk_service::{Settings, serve, stop};
+use desk_service::{ServeFault, Settings, serve, stop};
 use std::alloc::{AllocGlobal, Global};
 use std::fs::File;
 use std::net::{Net, SocketAddr, TcpListener, TcpStream};
@@ -21,6 +21,23 @@ use test_parts::Answer;
 
 /// How often it is looked whether a service listens: a thousandth of a second lies between two looks.
 const LOOKS: u64 = 1_000;
+
+/// Faults of a service.
+const SERVE_FAULTS: [ServeFault; 6] = [
+    ServeFault::SocketFault,
+    ServeFault::OutOfMemory,
+    ServeFault::NoFolder,
+    ServeFault::FolderTaken,
+    ServeFault::NoJournal,
+    ServeFault::BadVersions,
+];
+
+fn push_faults(answer: &mut Answer) {
+    for fault in &SERVE_FAULTS {
+        answer.shown(fault);
+        answer.line("");
+    }
+}
 
 /// Two ports that are free.
 fn free_addresses<R: Net<Stream = TcpStream, Listener = TcpListener>>(
@@ -114,6 +131,10 @@ where
     R::File: Send,
     R::Dir: Send,
 {
+    if word == "serve_faults" {
+        push_faults(answer);
+        return true;
+    }
     if word != "host" {
         return false;
     }

@@ -1,8 +1,7 @@
 //! Goes through transcripts of the service: histories of desks and sessions as people write them down,
 //! with each reply, and threads, sockets and files as they run. A line shows how many steps a transcript
 //! has and that what comes of them is what stands there, or where the first line stands that differs;
-//! the status is 1 where one differs, and 2 where one can't be read. Then, or alone where the one argument
-//! names one, it goes through the scenarios of `desk_tests`, whose status it then has.
+//! the status is 1 where one differs, and 2 where one can't be read.
 //!
 //! A transcript is a file of `data/`. A line that begins with `> ` is a step, and the lines below it are
 //! what comes of it. A line that begins with `# ` says something of the steps below, which have a new desk
@@ -11,23 +10,21 @@
 #![tactic(auto)]
 
 mod hosting;
-mod journals;
 mod keeping;
-mod replies;
 mod sockets;
 
 use deck_files::KnownFiles;
-use desk_tests::{Place, run_chosen};
+use desk_tests::Place;
 use std::alloc::AllocGlobal;
 use std::fs::File;
 use std::net::{Net, TcpListener, TcpStream};
 use std::process::ExitCode;
 use std::random::RandomSource;
-use std::rt::{Env, Files};
+use std::rt::Files;
 use std::sync::Wait;
 use std::thread::Threads;
 use std::time::Clock;
-use std::{env, fs, io, mem};
+use std::{fs, io, mem};
 use test_parts::{Answer, cut, fixed_keys, plain_text};
 
 /// The transcripts, lowest first.
@@ -61,8 +58,6 @@ where
 {
     let (word, rest) = cut(step);
     let is_made = desk_tests::make(rt, place, known, word, rest, answer)
-        || journals::make(&mut place.file, word, rest, answer)
-        || replies::make(word, rest, answer)
         || keeping::make(rt, word, rest, answer)
         || sockets::make(rt, rt.alloc(), word, rest, answer)
         || hosting::make(rt, rt.alloc(), word, rest, answer);
@@ -193,62 +188,10 @@ where
     Ok(are_same)
 }
 
-/// Goes through all transcripts, and all scenarios but the large ones: the status.
-fn run_all<R>(rt: &R) -> io::Result<u8>
-where
-    R: AllocGlobal
-        + Threads
-        + Wait
-        + Sync
-        + Files<File = File>
-        + Drop
-        + Clone
-        + Clock
-        + Print
-        + Eprint
-        + RandomSource
-        + Net<Stream = TcpStream, Listener = TcpListener>,
-    R::File: Send,
-    R::Dir: Send,
-{
-    let are_same = run_transcripts(rt)?;
-    let ended = run_chosen(rt, "")?;
-    Ok(if are_same {
-        ended.status()
-    } else {
-        DIFFERS_STATUS
-    })
-}
-
-/// Goes through the scenarios that the argument names, or all where there is none: the status.
-fn run<R>(rt: &R) -> io::Result<u8>
-where
-    R: AllocGlobal
-        + Env
-        + Threads
-        + Wait
-        + Sync
-        + Files<File = File>
-        + Drop
-        + Clone
-        + Clock
-        + Print
-        + Eprint
-        + RandomSource
-        + Net<Stream = TcpStream, Listener = TcpListener>,
-    R::File: Send,
-    R::Dir: Send,
-{
-    let words: Vec<String> = env::args(rt)?.collect(rt.alloc())?;
-    match words.get(1) {
-        Some(word) => Ok(run_chosen(rt, word.as_str())?.status()),
-        None => run_all(rt),
-    }
-}
-
 fn main(rt: HostRuntime) -> ExitCode {
-    match run(&rt) {
-        Ok(status) => ExitCode::from(status),
+    match run_transcripts(&rt) {
+        Ok(true) => ExitCode::SUCCESS,
+        Ok(false) => ExitCode::from(DIFFERS_STATUS),
         Err(error) => {
             let _ = eprintln!(&rt; "service_tests: {error}");
             ExitCode::from(NOTHING_STATUS)

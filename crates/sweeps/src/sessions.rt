@@ -1,9 +1,9 @@
 //! Scenarios of sessions: lines that are served where there is no memory, and where each read and each
 //! write fails in turn.
 
-use crate::place::serve_up_to;
-use crate::sweeps::pieces::{Came, Tries, fail_all, held};
-use crate::sweeps::scene::{COMMAND, LACKING, Scene, lines_of};
+use crate::pieces::{Came, Tries, fail_all, held};
+use crate::scene::{COMMAND, LACKING, Scene, lines_of};
+use desk_tests::serve_up_to;
 use session_line::Outcome;
 use std::alloc::Global;
 use test_parts::{Failing, Got, fixed_keys};

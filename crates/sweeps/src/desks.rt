@@ -1,8 +1,8 @@
 //! Scenarios of a desk: every call of it, jobs delivered, given up and handed in wrong, and a desk that
 //! is settled.
 
-use crate::sweeps::jobs::{End, do_jobs};
-use crate::sweeps::scene::Scene;
+use crate::jobs::{End, do_jobs};
+use crate::scene::Scene;
 use test_parts::Got;
 
 /// How many jobs a desk of the three decks has at most.

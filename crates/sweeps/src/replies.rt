@@ -1,14 +1,11 @@
 //! A scenario of replies: each as a text in memory, and as it is written.
-ghost use Rattle.std.specs.Prelude.{◌≡◌, true};
-ghost use Rattle.session_line.specs.Replies.{IsWithinLimits};
-
-use crate::sweeps::decks::DECKS;
-use crate::sweeps::scene::Scene;
-use cards::{CardFault, MOST_CARDS};
-use deck_files::MOST_FILES;
+use crate::decks::DECKS;
+use crate::scene::Scene;
+use cards::CardFault;
 use desk_core::{Row, State};
+use desk_tests::{is_within, text_of};
 use session_commands::Refusal;
-use session_line::{Connected, Reply, Rights, reply_text, write_reply};
+use session_line::{Connected, Reply, Rights, write_reply};
 use std::alloc::{AllocError, Global};
 use test_parts::{Got, cards_of, name_of};
 use text_ports::Counted;
@@ -31,26 +28,6 @@ const FEW: [Reply<'static>; 5] = [
     }),
 ];
 
-/// Whether a reply has no more cards and no more decks than it may have.
-fn is_within(reply: &Reply<'_>) -> bool
-    ensures { result ≡ true → IsWithinLimits reply.now }
-{
-    match reply {
-        Reply::Cards { cards, .. } => cards.len() <= MOST_CARDS,
-        Reply::Found { cards, .. } => cards.len() <= MOST_CARDS,
-        Reply::Changes { kept, .. } => kept.len() <= 2_000,
-        Reply::Errors { decks, .. } => decks.len() <= 64,
-        Reply::Status { decks, .. } => decks.len() <= 64,
-        Reply::FileStatus { decks, .. } => decks.len() <= 64,
-        Reply::Decks { decks, .. } => decks.len() <= 64,
-        Reply::Files { files, .. } => files.len() <= MOST_FILES,
-        Reply::Sessions { sessions, .. } => sessions.len() <= 64,
-        Reply::Done { .. } | Reply::Unkept { .. } => true,
-        Reply::Text { .. } | Reply::Published { .. } => true,
-        Reply::Bye | Reply::Refused(_) => true,
-    }
-}
-
 /// A reply as it is written.
 fn written(alloc: Global, reply: &Reply<'_>) -> Got<Vec<u8>> {
     if !is_within(reply) {
@@ -59,14 +36,6 @@ fn written(alloc: Global, reply: &Reply<'_>) -> Got<Vec<u8>> {
     let mut output = Counted::new(Vec::with_capacity(alloc, ROOM)?);
     write_reply(&mut output, reply).map_err(|_| AllocError)?;
     Ok(output.into_inner())
-}
-
-/// A reply as a text.
-pub fn text_of(alloc: Global, reply: &Reply<'_>) -> Got<Vec<u8>> {
-    if !is_within(reply) {
-        return Err(AllocError);
-    }
-    reply_text(alloc, reply)
 }
 
 /// A reply as a text and as it is written, which are the same.

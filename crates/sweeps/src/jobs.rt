@@ -1,9 +1,9 @@
 //! Jobs of a desk: claimed, run, delivered and given up, and made again where they find no memory.
 
-use crate::jobs::{ask, delivery_of};
-use crate::sweeps::scene::Scene;
+use crate::scene::Scene;
 use deck_workers::{Job, Made, Runs, job_in};
 use desk_core::{Call, Refusal, Reply, Work};
+use desk_tests::{ask, delivery_of};
 use edit_core::RecordFault;
 
 /// How what ends a job is shown.

@@ -1,10 +1,10 @@
 //! Scenarios of decks whose texts are long, so that a run makes and sends them part by part: what goes
 //! out is held against the texts that are made whole.
 
-use crate::sweeps::decks::DeckText;
-use crate::sweeps::pieces::{Came, Tries, fail_each, held, written};
-use crate::sweeps::ports::{AsmRun, try_whole, went_out};
-use crate::sweeps::scene::Scene;
+use crate::decks::DeckText;
+use crate::pieces::{Came, Tries, fail_each, held, written};
+use crate::ports::{AsmRun, try_whole, went_out};
+use crate::scene::Scene;
 use asm_main::{AsmFault, Built, Chosen, asm_build, write_chosen};
 use deck_linker::{Publication, link};
 use deck_objects::SharedObject;

@@ -2,12 +2,11 @@
 ghost use Rattle.std.specs.Prelude.{◌≡◌, IfOk};
 ghost use Rattle.turn_office.specs.Seats.{new_seats};
 
-use crate::jobs::addition;
-use crate::offices::{ask_from, closed};
-use crate::sweeps::decks::{DECKS, DeckText};
-use crate::sweeps::jobs::{Told, told_of};
-use crate::sweeps::scene::Scene;
+use crate::decks::{DECKS, DeckText};
+use crate::jobs::{Told, told_of};
+use crate::scene::Scene;
 use desk_core::{Call, Desk, Question, Refusal};
+use desk_tests::{addition, ask_from, closed};
 use std::alloc::AllocError;
 use std::mem;
 use std::sync::Wait;

@@ -1,9 +1,9 @@
 //! Scenarios of records and of texts: a record that is edited is spent for want of memory, and its
 //! cards are as they were; texts and links are made of them.
 
-use crate::sweeps::decks::{DECKS, DeckText, are_same, push_lines};
-use crate::sweeps::notes::Called;
-use crate::sweeps::scene::Scene;
+use crate::decks::{DECKS, DeckText, are_same, push_lines};
+use crate::notes::Called;
+use crate::scene::Scene;
 use cards::{Card, Edit, copied_cards};
 use deck_linker::{Publication, link};
 use deck_listing::{image, listing};

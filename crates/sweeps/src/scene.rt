@@ -1,12 +1,10 @@
 //! What a scenario goes through: a desk and a shelf, the commands that a session says there, and the
 //! desk settled as `asm_run` has it.
 
-use crate::memory_shelf::MemoryShelf;
-use crate::place::{put_file, serve};
-use crate::settling::{Settled, settle};
-use crate::sweeps::decks::DECKS;
-use crate::sweeps::notes::{Called, Journal, called};
+use crate::decks::DECKS;
+use crate::notes::{Called, Journal, called};
 use desk_core::Desk;
+use desk_tests::{MemoryShelf, Settled, put_file, serve, settle};
 use session_line::Rights;
 use std::alloc::{AllocError, Global};
 use std::hash::RandomState;

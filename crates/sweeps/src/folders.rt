@@ -1,7 +1,7 @@
 //! A scenario of a folder: decks that are saved there and loaded, by reads and writes of the system.
 
-use crate::sweeps::decks::{DECKS, DeckText, are_same};
-use crate::sweeps::scene::Scene;
+use crate::decks::{DECKS, DeckText, are_same};
+use crate::scene::Scene;
 use cards::{Card, DeckName, MOST_CARDS};
 use deck_files::{FolderShelf, KnownFiles, SaveOver, Shelf, ShelfLoadFault, ShelfSaveFault};
 use std::alloc::{AllocGlobal, Global};

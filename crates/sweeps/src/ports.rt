@@ -1,10 +1,10 @@
 //! Scenarios of ports: each read and each write of a run, of a file that is loaded and of one that is
 //! saved fails in turn.
 
-use crate::sweeps::decks::DECKS;
-use crate::sweeps::notes::Called;
-use crate::sweeps::pieces::{Came, Tries, fail_all, held, try_twice, written};
-use crate::sweeps::scene::Scene;
+use crate::decks::DECKS;
+use crate::notes::Called;
+use crate::pieces::{Came, Tries, fail_all, held, try_twice, written};
+use crate::scene::Scene;
 use asm_main::AsmFault;
 use cards::{Card, MOST_CARDS};
 use deck_files::{LoadFault, load, save};

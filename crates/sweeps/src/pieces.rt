@@ -1,7 +1,7 @@
 //! Each read and each write of what is tried fails in turn, in pieces.
 
-use crate::sweeps::notes::Called;
-use crate::sweeps::scene::Scene;
+use crate::notes::Called;
+use crate::scene::Scene;
 use std::alloc::Global;
 use test_parts::{Failing, Got};
 

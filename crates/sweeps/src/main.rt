@@ -3,9 +3,10 @@
 //! what it is to leave, and is asked for once more; so standard output is the same whatever was
 //! refused, and standard error prints on a line what was, and whether all was as it is to be then.
 //!
-//! A word names a scenario; an empty one stands for all but the large ones. The status is 0 where all
-//! checks held, 1 where one failed, and 2 where a scenario's own memory was refused twice or there is no
+//! The one argument names a scenario; where there is none, it goes through all but the large ones. The status is 0
+//! where all checks held, 1 where one failed, and 2 where a scenario's own memory was refused twice or there is no
 //! such scenario.
+#![tactic(auto)]
 
 // What scenarios are made of.
 mod decks;
@@ -25,15 +26,15 @@ mod records;
 mod replies;
 mod sessions;
 
-use crate::sweeps::jobs::End;
-use crate::sweeps::notes::Journal;
-use crate::sweeps::scene::Scene;
-pub use replies::text_of;
+use crate::jobs::End;
+use crate::notes::Journal;
+use crate::scene::Scene;
 use std::alloc::AllocGlobal;
 use std::fs::File;
-use std::io;
-use std::rt::Files;
+use std::process::ExitCode;
+use std::rt::{Env, Files};
 use std::sync::Wait;
+use std::{env, io};
 use test_parts::{Got, fixed_keys};
 
 /// The scenarios that are gone through where none is named: all but the large ones.
@@ -42,7 +43,7 @@ const SMALL: &str =
 
 /// How what was gone through ended.
 #[derive(Clone, Copy)]
-pub enum Ended {
+enum Ended {
     AsWanted,
     /// A check failed.
     Failed,
@@ -53,7 +54,7 @@ pub enum Ended {
 }
 
 impl Ended {
-    pub fn status(self) -> u8 {
+    fn status(self) -> u8 {
         match self {
             Ended::AsWanted => 0,
             Ended::Failed => 1,
@@ -163,17 +164,34 @@ fn run_one<R: AllocGlobal + Files<File = File> + Clone + Drop + Wait + Print + E
     }
 }
 
-/// Goes through the scenarios that a word chooses.
-pub fn run_chosen<R: AllocGlobal + Files<File = File> + Clone + Drop + Wait + Print + Eprint>(
+/// Goes through all scenarios but the large ones.
+fn run_all<R: AllocGlobal + Files<File = File> + Clone + Drop + Wait + Print + Eprint>(
     rt: &R,
-    word: &str,
 ) -> io::Result<Ended> {
-    if !word.is_empty() {
-        return run_one(rt, word);
-    }
     let mut ended = Ended::Unknown;
     for name in SMALL.split_whitespace() {
         ended = run_one(rt, name)?.behind(ended);
     }
     Ok(ended)
+}
+
+/// Goes through the scenario that the argument names, or all where there is none.
+fn run<R: AllocGlobal + Env + Files<File = File> + Clone + Drop + Wait + Print + Eprint>(
+    rt: &R,
+) -> io::Result<Ended> {
+    let words: Vec<String> = env::args(rt)?.collect(rt.alloc())?;
+    match words.get(1) {
+        Some(word) => run_one(rt, word.as_str()),
+        None => run_all(rt),
+    }
+}
+
+fn main(rt: HostRuntime) -> ExitCode {
+    match run(&rt) {
+        Ok(ended) => ExitCode::from(ended.status()),
+        Err(error) => {
+            let _ = eprintln!(&rt; "sweeps: {error}");
+            ExitCode::from(Ended::Lacking.status())
+        }
+    }
 }

@@ -4,11 +4,10 @@
 //! cards; `status`, `saved`: replies that show two decks, and what became of them; `broken`: a reply whose
 //! writer fails at each byte in turn; `moment SECONDS`.
 
+use crate::reply_texts::text_of;
 use cards::{Card, CardFault, EditFault};
 use deck_files::LoadFault;
 use desk_core::{Row, State};
-use desk_service::ServeFault;
-use desk_tests::text_of;
 use moments::Moment;
 use session_commands::Refusal;
 use session_line::{DeckOutcome, MarkedRow, Reply, ToldDeck, write_reply};
@@ -248,22 +247,8 @@ const LOAD_FAULTS: [LoadFault; 5] = [
     LoadFault::OutOfMemory,
 ];
 
-/// Faults of a service.
-const SERVE_FAULTS: [ServeFault; 6] = [
-    ServeFault::SocketFault,
-    ServeFault::OutOfMemory,
-    ServeFault::NoFolder,
-    ServeFault::FolderTaken,
-    ServeFault::NoJournal,
-    ServeFault::BadVersions,
-];
-
 fn push_faults(answer: &mut Answer) {
     for fault in &LOAD_FAULTS {
-        answer.shown(fault);
-        answer.line("");
-    }
-    for fault in &SERVE_FAULTS {
         answer.shown(fault);
         answer.line("");
     }

@@ -4,8 +4,8 @@
 //! records are shown as they are written again; `replay VERSION`: its changes are made again up to a version;
 //! `compact`: it becomes the one that begins with its decks.
 
+use crate::jobs::push_asked;
 use desk_core::{Call, Question};
-use desk_tests::push_asked;
 use journal::{
     Ending, JournalFault, Next, Place, Record, ReplayFault, Replayed, compacted_text, next_record,
     record_text, replay,

@@ -1,8 +1,8 @@
 //! Scenarios of much: a hundred edits that go with one job, and a desk with as many decks as it may
 //! have.
 
-use crate::sweeps::jobs::{End, do_jobs};
-use crate::sweeps::scene::Scene;
+use crate::jobs::{End, do_jobs};
+use crate::scene::Scene;
 use std::alloc::Global;
 use test_parts::Got;
 
