@@ -1,5 +1,5 @@
 -- Answers by what speaks against a call.
-use Rattle.std.proofs.Common.{◌≡◌, Bool, true, false, List, ◌∷◌, inr, Option, Some, None, option_map, refl, ap, IsTrue}
+use Rattle.std.{proofs.Common.{◌≡◌, Bool, true, false, List, [], ◌∷◌, inr, Option, Some, None, option_map, refl, ap, IsTrue}, specs.List.AllByRecursion}
 use Rattle.desk_core.specs.{Joins.Causes.{when, first_cause}, Desks.Desk, Joins.Calls.{Reply, Refused, Refusal, OutOfMemory}, Answers.{Answer, unless}, Steps.is_made, Joins.Turns.{IsAnswer, MayAnswer}}
 
 -- a cause that is shown
@@ -29,9 +29,10 @@ module _ {A : Type 0} where
   no-reason false cause e = refl
 
   -- none of the causes is present
-  pub head-clear : (cause : Option A) (causes : List (Option A)) → first_cause (cause ∷ causes) ≡ None → (cause ≡ None) × (first_cause causes ≡ None)
-  head-clear None causes e = (refl, e)
-  head-clear (Some a) causes e = cc
+  pub all-clear : (causes : List (Option A)) → first_cause causes ≡ None → AllByRecursion (λ cause. cause ≡ None) causes
+  all-clear [] e = tt
+  all-clear (None ∷ causes) e = (refl, all-clear causes e)
+  all-clear (Some a ∷ causes) e = cc
 
   pub map-clear : {B : Type 0} (f : A → B) (cause : Option A) → option_map f cause ≡ None → cause ≡ None
   map-clear f None e = refl

@@ -1,7 +1,7 @@
 -- What is kept of a deck brings back the cards that it had at each version, and what is stated of it is that, in every run.
 use Rattle.std.proofs.{Common.{◌≡◌, ℕ, ◌+◌, ◌-◌, ◌≤◌, nat_lt, Bool, true, false, cond, List, [], ◌∷◌, ◌++◌, length, take, map, find, inl, inr, Option, Some, None, refl, sym, ap, ap₂, ◌∙◌, subst, arith}, lemmas.Bool.ltb-false, lemmas.Bool.Decides.leb_tells, lemmas.List.{take_all, take-append-le}, Math.Seq.take-length}
 use Rattle.turn_office.specs.Histories.{Leads}
-use Rattle.desk_core.{specs.Joins.Language.{Card, Deck, same_text}, specs.Joins.Causes.when, specs.Joins.Edits.{Edit, edited_by}, specs.Changes.{Change, decks_after}, specs.Past.{Past, KeptEdit, behind, backs_of}, specs.Led.HaveLed, specs.Desks.{Desk, DeskDeck, new_desk_at, deck_of, decks_of, is_named, deck_named}, specs.Joins.Calls.{Changes, CardsAt, Call, Ask, Reply, ChangesAre, CardsBefore, Refused, OutOfMemory, NoDeck, OldVersion, Forgotten}, specs.Answers.Answer, specs.Earlier.{against_since, edits_behind, changes_of, cards_at_of}, specs.Carrying.cards_of, specs.Steps.Steps, specs.Runs.{History, LedSince, Runs, changes_in, decks_at, cards_named}, proofs.AnswerLaws.{unrefused, no-reason, head-clear}, proofs.Outcomes.{Outcome, by_staying, by_changing, by_publishing}, proofs.Publishing.step_comes, proofs.Told.{IsTold, told_first}, proofs.EveryRun.{next_told, told_last}, proofs.TellingDecks.{found_told, all_next}, proofs.EachDeck.{OfDeck, IsKept, AllSo, so-next, named-found}, proofs.PastRises.{none-behind, since-after, cards-after}, proofs.PastAlways.{HasPast, past-kept, led_there}}
+use Rattle.desk_core.{specs.Joins.Language.{Card, Deck, same_text}, specs.Joins.Causes.when, specs.Joins.Edits.{Edit, edited_by}, specs.Changes.{Change, decks_after}, specs.Past.{Past, KeptEdit, behind, backs_of}, specs.Led.HaveLed, specs.Desks.{Desk, DeskDeck, new_desk_at, deck_of, decks_of, is_named, deck_named}, specs.Joins.Calls.{Changes, CardsAt, Call, Ask, Reply, ChangesAre, CardsBefore, Refused, OutOfMemory, NoDeck, OldVersion, Forgotten}, specs.Answers.Answer, specs.Earlier.{against_since, edits_behind, changes_of, cards_at_of}, specs.Carrying.cards_of, specs.Steps.Steps, specs.Runs.{History, LedSince, Runs, changes_in, decks_at, cards_named}, proofs.AnswerLaws.{unrefused, no-reason, all-clear}, proofs.Outcomes.{Outcome, by_staying, by_changing, by_publishing}, proofs.Publishing.step_comes, proofs.Told.{IsTold, told_first}, proofs.EveryRun.{next_told, told_last}, proofs.TellingDecks.{found_told, all_next}, proofs.EachDeck.{OfDeck, IsKept, AllSo, so-next, named-found}, proofs.PastRises.{none-behind, since-after, cards-after}, proofs.PastAlways.{HasPast, past-kept, led_there}}
 
 -- the cards of a deck that is found among the desk's
 cards-head : (name : List ℕ) (d deck : DeskDeck) (decks : List DeskDeck) (named : Bool) → cond named (Some d) (find (is_named name) decks) ≡ Some deck →
@@ -107,9 +107,8 @@ cards_then begun history desk name deck version runs found since =
 module _ (begun : ℕ) (history : History) (desk next : Desk) (name : List ℕ) (version : ℕ) (runs : Runs begun history desk) where
   since-told : (deck : DeskDeck) → against_since version deck ≡ None → deck.past.since ≤ version
   since-told deck clear =
-      let a = head-clear (when (nat_lt deck.version version) (OldVersion deck.version)) (when (nat_lt version deck.past.since) (Forgotten deck.past.since) ∷ []) clear in
-      let b = head-clear (when (nat_lt version deck.past.since) (Forgotten deck.past.since)) [] a.1 in
-      ltb-false version deck.past.since (no-reason (nat_lt version deck.past.since) (Forgotten deck.past.since) b.0)
+      let none = all-clear (when (nat_lt deck.version version) (OldVersion deck.version) ∷ when (nat_lt version deck.past.since) (Forgotten deck.past.since) ∷ []) clear in
+      ltb-false version deck.past.since (no-reason (nat_lt version deck.past.since) (Forgotten deck.past.since) none.1.0)
 
   shown-of : (told : ℕ) (cards : List Card) (backs : List Edit) (found : Option DeskDeck) → deck_named name desk ≡ found → CardsBefore told cards backs ≡ (cards_at_of version desk found).reply →
       cards_named name (decks_at begun version history) ≡ Some (edited_by backs cards)

@@ -1,7 +1,7 @@
 -- What the code does to the deck at a place with edits that were carried is what the answer says of the deck of its name.
 use Rattle.std.{proofs.Common.{◌≡◌, ℕ, ◌+◌, Bool, List, [], ◌∷◌, refl, sym, ap, ◌∙◌, subst, inl, not, true, Option, Some, None, option_map, Result, Ok}, specs.Prelude.slice_get, specs.Option.ForSome}
 use Rattle.cards.specs.declared.carrying.Touched.{Touched}
-use Rattle.desk_core.{specs.Joins.Edits.{Edit, first_fault}, specs.Desks.{Desk, DeskDeck, is_named}, specs.Joins.OwnNames.{IsPlaceOf, changed_at}, specs.Joins.Calls.{Refused, Refusal, Carried, BatchSize, OutOfMemory}, specs.Joins.Causes.when, specs.Earlier.against_since, specs.Answers.{Answer, against_next}, specs.Changing.{edited_deck, is_batch, bad_edit, shown}, specs.Carrying.{cards_of, carried_since, against_carried, against_carry, accept_carried, edit_since, edit_since_of}, specs.Steps.is_made, specs.Joins.Turns.{IsAnswer, MayAnswer}, proofs.AnswerLaws.{told, done, lacking, head-clear, map-clear}, proofs.PlaceLaws.element-at, proofs.ChangeDone.{next_with, edited-same}}
+use Rattle.desk_core.{specs.Joins.Edits.{Edit, first_fault}, specs.Desks.{Desk, DeskDeck, is_named}, specs.Joins.OwnNames.{IsPlaceOf, changed_at}, specs.Joins.Calls.{Refused, Refusal, Carried, BatchSize, OutOfMemory}, specs.Joins.Causes.when, specs.Earlier.against_since, specs.Answers.{Answer, against_next}, specs.Changing.{edited_deck, is_batch, bad_edit, shown}, specs.Carrying.{cards_of, carried_since, against_carried, against_carry, accept_carried, edit_since, edit_since_of}, specs.Steps.is_made, specs.Joins.Turns.{IsAnswer, MayAnswer}, proofs.AnswerLaws.{told, done, lacking, all-clear, map-clear}, proofs.PlaceLaws.element-at, proofs.ChangeDone.{next_with, edited-same}}
 
 -- where nothing speaks against edits, they apply to the cards that were seen, and as they were carried; and there is a version more
 pub record IsClear (seen : ℕ) (edits moved : List Edit) (desk : Desk) (deck : DeskDeck) : Type 0 where
@@ -11,19 +11,13 @@ pub record IsClear (seen : ℕ) (edits moved : List Edit) (desk : Desk) (deck : 
 
 pub carry-clear : (seen : ℕ) (edits moved : List Edit) (desk : Desk) (deck : DeskDeck) → against_carry seen edits desk deck ≡ None → carried_since seen edits deck ≡ Ok moved → IsClear seen edits moved desk deck
 carry-clear seen edits moved desk deck clear carried =
-    let next : List (Option Refusal) = against_next desk.version ∷ [] in
     let now : Option Refusal = against_carried (carried_since seen edits deck) deck.cards in
     let before : Option Refusal = option_map bad_edit (first_fault edits (cards_of seen deck)) in
-    let size : Option Refusal = when (not (is_batch edits)) BatchSize in
-    let a = head-clear (against_since seen deck) (size ∷ before ∷ now ∷ next) clear in
-    let b = head-clear size (before ∷ now ∷ next) a.1 in
-    let c = head-clear before (now ∷ next) b.1 in
-    let d = head-clear now next c.1 in
-    let e = head-clear (against_next desk.version) [] d.1 in
+    let none = all-clear (against_since seen deck ∷ when (not (is_batch edits)) BatchSize ∷ before ∷ now ∷ against_next desk.version ∷ []) clear in
     record {
-      apply = map-clear bad_edit (first_fault edits (cards_of seen deck)) c.0;
-      apply_now = map-clear bad_edit (first_fault moved deck.cards) (sym (ap (λ (r : Result (List Edit) Touched). against_carried r deck.cards) carried) ∙ d.0);
-      room = e.0;
+      apply = map-clear bad_edit (first_fault edits (cards_of seen deck)) none.1.1.0;
+      apply_now = map-clear bad_edit (first_fault moved deck.cards) (sym (ap (λ (r : Result (List Edit) Touched). against_carried r deck.cards) carried) ∙ none.1.1.1.0);
+      room = none.1.1.1.1.0;
     }
 
 module _ (single : Bool) (name who : List ℕ) (seen : ℕ) (desk : Desk) (place : ℕ) (is : IsPlaceOf (is_named name) (Some place) desk.decks) where

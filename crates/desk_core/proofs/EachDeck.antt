@@ -1,8 +1,7 @@
 -- What holds of each deck after each step: a property of its name, cards and past that the changes of a desk keep.
-use Rattle.std.{proofs.Common.{◌≡◌, ℕ, ◌+◌, ◌≤◌, ◌==◌, nat_le, nat_lt, Bool, true, false, cond, not, ◌||◌, is_none, List, [], ◌∷◌, length, map, find, is_some, Option, Some, None, Result, Ok, Err, option_map, refl, sym, ap, ◌∙◌, subst, inl, inr}, specs.List.{list_any, AllByRecursion}, proofs.lemmas.Bool.{cond_both, ltb-false}}
-use Rattle.cards.specs.declared.carrying.Touched.{Touched}
+use Rattle.std.{proofs.Common.{◌≡◌, ℕ, ◌+◌, ◌≤◌, Bool, true, false, cond, not, List, [], ◌∷◌, length, map, find, Some, None, refl, sym, ap, ◌∙◌, subst}, specs.List.AllByRecursion}
 use Rattle.turn_office.specs.Histories.{Leads}
-use Rattle.desk_core.{specs.Joins.Language.{Card, Deck}, specs.Joins.Causes.when, specs.Joins.Edits.{Edit, most_cards, first_fault, edited_by}, specs.Past.{Past, begun_at, past_after}, specs.Desks.{Desk, DeskDeck, Publication, most_decks, is_named, deck_named, put_if_named, is_leased, is_leased_at, decks_of}, specs.Joins.Calls.{Exactly, Since, AddDeck, PutDeck, DropDeck, EditDeck, Undo, Changes, CardsAt, Cards, Show, Status, Claim, DeliverDeck, DeliverLink, Publish, GiveUp, Call, Make, Ask, Do, Done, Reply, Refusal, NameTaken, TooManyDecks, DeckFull, NoDeck, BatchSize}, specs.Answers.{Answer, unless, against_next}, specs.Changing.{accepted, against_add, added_deck, added, against_put, replaced_deck, put, put_where, against_drop, dropped, edited_deck, edited, against_edits, is_batch, bad_edit, shown, against_seen}, specs.Carrying.{carried_since, against_carry, accept_carried, edit_since_of, is_alone, edits_of}, specs.Undoing.{backs_at, against_change, undo_where}, specs.Earlier.{against_since, changes_of, cards_at_of}, specs.Claiming.{claim, claim_deck, claim_link, hand_out, hand_out_link, given, is_behind, is_free, is_published}, specs.Delivering.{deliver_to, take_result, deck_leased, lost, given_back, stored, is_for, is_sound, same_decks, deliver_link, publish, give_up_of}, specs.Joins.OwnNames.HaveOwnNames, specs.Steps.{answer, Steps}, specs.Runs.History, proofs.AnswerLaws.{no-reason, head-clear, map-clear}, proofs.CarryDone.carry-clear, proofs.OwnAlways.own-answer, proofs.Same.equal_texts, proofs.Starved.starved_has, proofs.TellingDecks.{none_found, all_next, all_weaker, all_filtered, all_added, all_put}}
+use Rattle.desk_core.{specs.Joins.Language.{Card, Deck}, specs.Joins.Edits.{Edit, first_fault, edited_by}, specs.Past.{Past, begun_at, past_after}, specs.Desks.{Desk, DeskDeck, new_desk_at, is_named, deck_named, put_if_named}, specs.Joins.Calls.{Call, Reply}, specs.Changing.{added_deck, added, replaced_deck, edited_deck, edited}, specs.Claiming.given, specs.Delivering.{lost, given_back, stored}, specs.Joins.OwnNames.HaveOwnNames, specs.Steps.Steps, specs.Runs.{History, Runs}, proofs.OwnAlways.own-kind, proofs.Same.equal_texts, proofs.StepKinds.{Kind, hands_deck, gives_deck_up, is_foreign, gives_back, stores, adds, puts_new, puts_over, drops, edits_deck, step-kind}, proofs.TellingDecks.{none_found, all_next, all_weaker, all_filtered, all_added, all_put}}
 
 named-head : (name : List ℕ) (d : DeskDeck) (decks : List DeskDeck) (named : Bool) → is_named name d ≡ named → find (is_named d.name) decks ≡ None →
     AllByRecursion (λ (x : DeskDeck). is_named name x ≡ true → find (is_named name) decks ≡ Some x) decks →
@@ -31,49 +30,18 @@ pub record IsKept (R : ℕ → List ℕ → List Card → Past → Type 0) (vers
       R (version + 1) name (edited_by made cards) (past_after (version + 1) by made cards past)
   pub later : (name : List ℕ) (cards : List Card) (past : Past) → R version name cards past → R (version + 1) name cards past
 
-not-full : (cards : List Card) (refusal : Refusal) → when (nat_lt most_cards (length cards)) refusal ≡ None → length cards ≤ 20000
-not-full cards refusal none = ltb-false 20000 (length cards) (no-reason (nat_lt most_cards (length cards)) refusal none)
-
 module _ (R : ℕ → List ℕ → List Card → Past → Type 0) (desk : Desk) (keeps : IsKept R desk.version) (own : HaveOwnNames desk.decks) (all : AllByRecursion (OfDeck R desk.version) desk.decks) where
-  abbrev Told : Answer → Type 0
-  Told a = AllByRecursion (OfDeck R a.desk.version) a.desk.decks
-
-  told-unless : (against : Option Refusal) (a : Answer) → (against ≡ None → Told a) → Told (unless against desk a)
-  told-unless None a next = next refl
-  told-unless (Some refusal) a next = all
+  abbrev Told : Desk → Type 0
+  Told next = AllByRecursion (OfDeck R next.version) next.decks
 
   -- the decks that are as they were, at the next version
   all-later : AllByRecursion (OfDeck R (desk.version + 1)) desk.decks
   all-later = all_weaker (OfDeck R desk.version) (OfDeck R (desk.version + 1)) (λ d so. keeps.later d.name d.cards d.past so) desk.decks all
 
-  told-added : (deck : Deck) → length deck.cards ≤ 20000 → Told (accepted (added deck desk))
+  told-added : (deck : Deck) → length deck.cards ≤ 20000 → Told (added deck desk)
   told-added deck few = all_added (OfDeck R (desk.version + 1)) desk.decks (added_deck (desk.version + 1) deck) all-later (keeps.begins deck.name deck.cards few)
 
-  few-added : (deck : Deck) → against_add deck desk ≡ None → length deck.cards ≤ 20000
-  few-added deck clear =
-      let next : List (Option Refusal) = against_next desk.version ∷ [] in
-      let full : Option Refusal = when (nat_lt most_cards (length deck.cards)) DeckFull in
-      let many : Option Refusal = when (nat_le most_decks (length desk.decks)) TooManyDecks in
-      let a = head-clear (when (is_some (deck_named deck.name desk)) NameTaken) (many ∷ full ∷ next) clear in
-      let b = head-clear many (full ∷ next) a.1 in
-      let c = head-clear full next b.1 in
-      not-full deck.cards DeckFull c.0
-
-  few-put : (new : Deck) (zero : Bool) → cond zero (against_add new desk) (Some NoDeck) ≡ None → length new.cards ≤ 20000
-  few-put new true clear = few-added new clear
-  few-put new false clear = cc
-
-  told-put : (new : Deck) (seen : ℕ) (found : Option DeskDeck) → Told (put_where new seen desk found)
-  told-put new seen None = told-unless (against_put seen new desk None) (accepted (put new desk None)) (λ clear. told-added new (few-put new (seen == 0) clear))
-  told-put new seen (Some deck) = told-unless (against_put seen new desk (Some deck)) (accepted (put new desk (Some deck)))
-      (λ clear.
-      let next : List (Option Refusal) = against_next desk.version ∷ [] in
-      let full : Option Refusal = when (nat_lt most_cards (length new.cards)) DeckFull in
-      let a = head-clear (against_seen seen deck) (full ∷ next) clear in
-      let b = head-clear full next a.1 in
-      all_put (OfDeck R desk.version) (OfDeck R (desk.version + 1)) new.name (replaced_deck (desk.version + 1) new.cards) (λ d so named. keeps.begins d.name new.cards (not-full new.cards DeckFull b.0)) (λ d so other. keeps.later d.name d.cards d.past so) desk.decks all)
-
-  told-edited : (name who : List ℕ) (edits : List Edit) (deck : DeskDeck) → deck_named name desk ≡ Some deck → first_fault edits deck.cards ≡ None → Told (accepted (edited name who edits desk))
+  told-edited : (name who : List ℕ) (edits : List Edit) (deck : DeskDeck) → deck_named name desk ≡ Some deck → first_fault edits deck.cards ≡ None → Told (edited name who edits desk)
   told-edited name who edits deck found none =
       let Found : DeskDeck → Type 0 = λ d. is_named name d ≡ true → find (is_named name) desk.decks ≡ Some d in
       all_put (λ (d : DeskDeck). OfDeck R desk.version d × Found d) (OfDeck R (desk.version + 1)) name (edited_deck (desk.version + 1) who edits)
@@ -83,105 +51,24 @@ module _ (R : ℕ → List ℕ → List Card → Past → Type 0) (desk : Desk) 
       (λ d both other. keeps.later d.name d.cards d.past both.0)
       desk.decks (all_next (OfDeck R desk.version) Found (λ (d : DeskDeck). OfDeck R desk.version d × Found d) (λ d so is. (so, is)) desk.decks all (named-found name desk.decks own))
 
-  told-edit : (single : Bool) (name : List ℕ) (seen : ℕ) (edits : List Edit) (who : List ℕ) (found : Option DeskDeck) → deck_named name desk ≡ found →
-      Told (unless (option_map (shown single) (against_edits seen edits desk found)) desk (accepted (edited name who edits desk)))
-  told-edit single name seen edits who None none = all
-  told-edit single name seen edits who (Some deck) found = told-unless (option_map (shown single) (against_edits seen edits desk (Some deck))) (accepted (edited name who edits desk))
-      (λ clear.
-      let next : List (Option Refusal) = against_next desk.version ∷ [] in
-      let fault : Option Refusal = option_map bad_edit (first_fault edits deck.cards) in
-      let size : Option Refusal = when (not (is_batch edits)) BatchSize in
-      let a = head-clear (against_seen seen deck) (size ∷ fault ∷ next) (map-clear (shown single) (against_edits seen edits desk (Some deck)) clear) in
-      let b = head-clear size (fault ∷ next) a.1 in
-      let c = head-clear fault next b.1 in
-      told-edited name who edits deck found (map-clear bad_edit (first_fault edits deck.cards) c.0))
-
-  told-carried : (name who : List ℕ) (seen : ℕ) (edits : List Edit) (deck : DeskDeck) (moved : Result (List Edit) Touched) → deck_named name desk ≡ Some deck → against_carry seen edits desk deck ≡ None →
-      carried_since seen edits deck ≡ moved → Told (accept_carried name who desk deck moved)
-  told-carried name who seen edits deck (Ok made) found clear is = told-edited name who made deck found (carry-clear seen edits made desk deck clear is).apply_now
-  told-carried name who seen edits deck (Err touched) found clear is = all
-
-  told-edit-since : (single : Bool) (name : List ℕ) (seen : ℕ) (edits : List Edit) (who : List ℕ) (found : Option DeskDeck) → deck_named name desk ≡ found → Told (edit_since_of single name seen edits who desk found)
-  told-edit-since single name seen edits who None none = all
-  told-edit-since single name seen edits who (Some deck) found = told-unless (option_map (shown single) (against_carry seen edits desk deck)) _
-      (λ clear. told-carried name who seen edits deck (carried_since seen edits deck) found (map-clear (shown single) (against_carry seen edits desk deck) clear) refl)
-
-  told-undo : (name : List ℕ) (version : ℕ) (who : List ℕ) (found : Option DeskDeck) → deck_named name desk ≡ found → Told (undo_where name version who desk found)
-  told-undo name version who None none = all
-  told-undo name version who (Some deck) found = told-unless (against_change version deck) _ (λ clear. told-edit-since false name version (backs_at version deck) who (Some deck) found)
-
-  told-changes : (since : ℕ) (found : Option DeskDeck) → Told (changes_of since desk found)
-  told-changes since None = all
-  told-changes since (Some deck) = told-unless (against_since since deck) _ (λ clear. all)
-
-  told-cards-at : (version : ℕ) (found : Option DeskDeck) → Told (cards_at_of version desk found)
-  told-cards-at version None = all
-  told-cards-at version (Some deck) = told-unless (against_since version deck) _ (λ clear. all)
-
   -- a form under the same name, with the same cards and past
   told-form : (name : List ℕ) (form : DeskDeck → DeskDeck) → ((d : DeskDeck) → OfDeck R desk.version d → OfDeck R desk.version (form d)) → AllByRecursion (OfDeck R desk.version) (map (put_if_named name form) desk.decks)
   told-form name form same = all_put (OfDeck R desk.version) (OfDeck R desk.version) name form (λ d so named. same d so) (λ d so other. so) desk.decks all
 
-  told-claim-deck : (found : Option DeskDeck) → Told (claim_deck desk found)
-  told-claim-deck None = all
-  told-claim-deck (Some deck) = told-unless (against_next desk.leases) (hand_out deck desk) (λ clear. told-form deck.name (given (desk.leases + 1)) (λ d so. so))
-
-  told-claim-link : Told (claim_link desk)
-  told-claim-link =
-      cond_both (is_published desk.version desk.publication) _ _ Told (λ shown. all)
-      (λ behind. cond_both (is_leased_at desk.version desk.link) _ _ Told (λ out. all) (λ free. told-unless (against_next desk.leases) (hand_out_link desk) (λ clear. all)))
-
-  told-claim : Told (claim desk)
-  told-claim = cond_both (list_any is_behind desk.decks) _ _ Told (λ behind. told-claim-deck (find is_free desk.decks)) (λ built. told-claim-link)
-
-  told-result : (done : Done) (deck : DeskDeck) → Told (take_result done desk deck)
-  told-result done deck =
-      cond_both (not (is_for done deck) || is_none done.kept) _ _ Told (λ other. told-form deck.name lost (λ d so. so))
-      (λ ours. cond_both (not (done.version == deck.version)) _ _ Told (λ stale. told-form deck.name (given_back done.kept) (λ d so. so))
-      (λ present. cond_both (not (is_sound done deck)) _ _ Told (λ other. told-form deck.name lost (λ d so. so))
-      (λ sound. told-form deck.name (stored done.kept) (λ d so. so))))
-
-  told-deliver-to : (done : Done) (found : Option DeskDeck) → Told (deliver_to done desk found)
-  told-deliver-to done None = all
-  told-deliver-to done (Some deck) = told-result done deck
-
-  told-link : (number : ℕ) (publication : Publication) → Told (deliver_link number publication desk)
-  told-link number publication =
-      cond_both (is_leased number desk.link) _ _ Told
-      (λ out. cond_both (not (is_leased_at publication.version desk.link)) _ _ Told (λ other. all)
-      (λ ours. cond_both (not (publication.version == desk.version)) _ _ Told (λ old. all)
-      (λ present. cond_both (not (same_decks publication.decks (decks_of desk))) _ _ Told (λ other. all) (λ same. all))))
-      (λ unknown. all)
-
-  told-publish : (number : ℕ) → Told (publish number desk)
-  told-publish number =
-      cond_both (is_leased number desk.link) _ _ Told
-      (λ out. cond_both (not (is_leased_at desk.version desk.link)) _ _ Told (λ old. all)
-      (λ present. cond_both (list_any is_behind desk.decks) _ _ Told (λ behind. all) (λ built. all)))
-      (λ unknown. all)
-
-  told-give-up : (number : ℕ) (found : Option DeskDeck) → Told (give_up_of number desk found)
-  told-give-up number None = cond_both (is_leased number desk.link) _ _ Told (λ out. all) (λ unknown. all)
-  told-give-up number (Some deck) = told-form deck.name lost (λ d so. so)
-
-  -- after each answer
-  pub told-answer : (call : Call) → Told (answer call desk)
-  told-answer (Make who (AddDeck deck)) = told-unless (against_add deck desk) (accepted (added deck desk)) (λ clear. told-added deck (few-added deck clear))
-  told-answer (Make who (PutDeck deck seen)) = told-put deck seen (deck_named deck.name desk)
-  told-answer (Make who (DropDeck name seen)) = told-unless (against_drop seen desk (deck_named name desk)) (accepted (dropped name desk)) (λ clear. all_filtered (OfDeck R (desk.version + 1)) (λ deck. not (is_named name deck)) desk.decks all-later)
-  told-answer (Make who (EditDeck name (Exactly seen) edits)) = told-edit (is_alone edits) name seen (edits_of edits) who (deck_named name desk) refl
-  told-answer (Make who (EditDeck name (Since seen) edits)) = told-edit-since (is_alone edits) name seen (edits_of edits) who (deck_named name desk) refl
-  told-answer (Make who (Undo name version)) = told-undo name version who (deck_named name desk) refl
-  told-answer (Ask (Changes name since)) = told-changes since (deck_named name desk)
-  told-answer (Ask (CardsAt name version)) = told-cards-at version (deck_named name desk)
-  told-answer (Ask (Cards name)) = all
-  told-answer (Ask Show) = all
-  told-answer (Ask Status) = all
-  told-answer (Do Claim) = told-claim
-  told-answer (Do (DeliverDeck done)) = told-deliver-to done (deck_leased done.lease desk)
-  told-answer (Do (DeliverLink number publication)) = told-link number publication
-  told-answer (Do (Publish number)) = told-publish number
-  told-answer (Do (GiveUp number)) = told-give-up number (deck_leased number desk)
+  -- after each kind of step
+  pub told-kind : (call : Call) (reply : Reply) (next : Desk) → Kind desk call reply next → Told next
+  told-kind call reply next (hands_deck deck free) = told-form deck.name (given (desk.leases + 1)) (λ d so. so)
+  told-kind call reply next (gives_deck_up number deck out) = told-form deck.name lost (λ d so. so)
+  told-kind call reply next (is_foreign done deck out) = told-form deck.name lost (λ d so. so)
+  told-kind call reply next (gives_back done deck out there) = told-form deck.name (given_back done.kept) (λ d so. so)
+  told-kind call reply next (stores done deck out there) = told-form deck.name (stored done.kept) (λ d so. so)
+  told-kind call reply next (adds who deck none few) = told-added deck few
+  told-kind call reply next (puts_new who deck seen none few) = told-added deck few
+  told-kind call reply next (puts_over who deck seen before found few) =
+      all_put (OfDeck R desk.version) (OfDeck R (desk.version + 1)) deck.name (replaced_deck (desk.version + 1) deck.cards) (λ d so named. keeps.begins d.name deck.cards few) (λ d so other. keeps.later d.name d.cards d.past so) desk.decks all
+  told-kind call reply next (drops who name seen) = all_filtered (OfDeck R (desk.version + 1)) (λ deck. not (is_named name deck)) desk.decks all-later
+  told-kind call reply next (edits_deck c r name who edits deck found applied is) = told-edited name who edits deck found applied
+  told-kind call reply next _ = all
 
 -- decks with names of their own, of each of which it holds
 pub record AllSo (R : ℕ → List ℕ → List Card → Past → Type 0) (desk : Desk) : Type 0 where
@@ -190,10 +77,17 @@ pub record AllSo (R : ℕ → List ℕ → List Card → Past → Type 0) (desk 
 
 -- after each step
 pub so-next : (R : ℕ → List ℕ → List Card → Past → Type 0) (desk : Desk) (call : Call) (reply : Reply) (next : Desk) → Steps desk call reply next → IsKept R desk.version → AllSo R desk → AllSo R next
-so-next R desk call reply next (inl gave) keeps so = subst (AllSo R) (sym gave.1) (record { own = own-answer desk so.own call; all = told-answer R desk keeps so.own so.all call })
-so-next R desk call reply next (inr left) keeps so = subst (AllSo R) (sym left.2) (starved_has (AllSo R) call desk so (record { own = so.own; all = so.all }))
+so-next R desk call reply next step keeps so =
+    let kind = step-kind desk call reply next step in
+    record { own = own-kind desk call reply next kind so.own; all = told-kind R desk keeps so.own so.all call reply next kind }
 
 -- what the changes at each version keep holds on each desk that is reached
 pub so-through : (R : ℕ → List ℕ → List Card → Past → Type 0) (desk last : Desk) (history : History) → ((version : ℕ) → IsKept R version) → Leads Steps desk history last → AllSo R desk → AllSo R last
 so-through R desk last [] keeps leads so = subst (AllSo R) leads so
 so-through R desk last (entry ∷ more) keeps leads so = so-through R leads.0 last more keeps leads.2 (so-next R desk entry.call entry.reply leads.0 leads.1 (keeps desk.version) so)
+
+-- the decks of each desk that is reached have names of their own
+pub own-last : (begun : ℕ) (history : History) (desk : Desk) → Runs begun history desk → HaveOwnNames desk.decks
+own-last begun history desk runs =
+    let any : (version : ℕ) → IsKept (λ version name cards past. Unit {0}) version = λ version. record { begins = λ name cards few. tt; edits = λ name by made cards past so none. tt; later = λ name cards past so. tt } in
+    (so-through (λ version name cards past. Unit {0}) (new_desk_at begun) desk history any runs (record { own = tt; all = tt })).own

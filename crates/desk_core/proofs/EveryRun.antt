@@ -33,7 +33,7 @@ next_told begun changes desk next entry more told (by_changing by) = record {
 }
 next_told begun changes desk next entry more told (by_publishing by) = record {
   changes_now = changes;
-  told = told_publication begun changes desk next entry.reply told by;
+  told = told_publication begun changes desk next entry.call entry.reply told by;
   same = same_when_silent changes entry more (silent_entry entry by.silent);
 }
 

@@ -49,17 +49,17 @@ pub record IsDeskTold (history : History) (desk : Desk) : Type 0 where
 pub desk_told_first : (begun : ℕ) → IsDeskTold [] (new_desk_at begun)
 desk_told_first begun = record { decks = tt; link = tt; unreached = λ identity beyond. refl }
 
--- an entry that adds no deck
-pub record AddsNone (entry : Entry Call Reply) : Type 0 where
-  pub identities : (name : List ℕ) → identity_in name entry.call entry.reply ≡ None
-  pub names : (identity : ℕ) → name_in identity entry.call entry.reply ≡ None
+-- a call with its reply that adds no deck
+pub record AddsNone (call : Call) (reply : Reply) : Type 0 where
+  pub identities : (name : List ℕ) → identity_in name call reply ≡ None
+  pub names : (identity : ℕ) → name_in identity call reply ≡ None
 
 -- an entry that gives no lease that was given before
 abbrev pub LeasesNone : Entry Call Reply → ℕ → Type 0
 LeasesNone entry leases = (number : ℕ) → number ≤ leases → leased_in number entry.call entry.reply ≡ None
 
 -- names and identities are as before where no deck is added
-pub meant_still : (history : History) (entry : Entry Call Reply) (name : List ℕ) (identity : ℕ) → AddsNone entry → IsMeant history name identity → IsMeant (entry ∷ history) name identity
+pub meant_still : (history : History) (entry : Entry Call Reply) (name : List ℕ) (identity : ℕ) → AddsNone entry.call entry.reply → IsMeant history name identity → IsMeant (entry ∷ history) name identity
 meant_still history entry name identity none meant = record {
   identity_is = ap (λ (o : Option ℕ). option_or o (identity_of name history)) (none.identities name) ∙ meant.identity_is;
   name_is = ap (λ (o : Option (List ℕ)). option_or o (name_of identity history)) (none.names identity) ∙ meant.name_is;

@@ -1,9 +1,7 @@
 pub mod Same
 pub mod DecksSeen
+pub mod StepKinds
 pub mod Outcomes
-pub mod Staying
-pub mod Starved
-pub mod Accepting
 pub mod Publishing
 pub mod OwnPublication
 pub mod Told
@@ -16,7 +14,6 @@ pub mod TellingDecks
 pub mod QuietSteps
 pub mod TouchedSteps
 pub mod ChangeSteps
-pub mod ClaimSteps
 pub mod ResultSteps
 pub mod JobsOnce
 pub mod Parts

@@ -1,6 +1,6 @@
 -- The three kinds of outcome that a step has for what everybody sees: it stays, a change is accepted, or the desk's decks are published.
-use Rattle.std.proofs.Common.{◌≡◌, ◌+◌, Bool, true, false, cond, Option, Some, None, refl}
-use Rattle.desk_core.specs.{Changes.{Change, changed}, Desks.{Desk, Publication, decks_of}, Joins.Calls.{Call, Reply, Stored, Published, Refused, Refusal}, Answers.{Answer, answers, unless}, Runs.{IsUnchanged, change_asked, accepts}}
+use Rattle.std.proofs.Common.{◌≡◌, ◌+◌, true, false, Some, refl}
+use Rattle.desk_core.{specs.Changes.{Change, changed}, specs.Desks.{Desk, Publication, decks_of}, specs.Joins.Calls.{Call, Reply}, specs.Runs.{IsUnchanged, change_asked, accepts}, proofs.StepKinds.publishes}
 
 -- nothing that is seen has changed, and no change is accepted
 pub record Stays (desk : Desk) (reply : Reply) (next : Desk) : Type 0 where
@@ -16,15 +16,9 @@ pub record Changes (desk : Desk) (call : Call) (reply : Reply) (next : Desk) : T
   pub decks : decks_of next ≡ changed (decks_of desk) change
   pub publication : next.publication ≡ desk.publication
 
--- whether a reply shows that decks are published
-abbrev pub publishes : Reply → Bool
-publishes Stored = true
-publishes (Published before) = true
-publishes _ = false
-
 -- the publication is of the desk's version and decks
-pub record Publishes (desk : Desk) (reply : Reply) (next : Desk) : Type 0 where
-  pub stored : publishes reply ≡ true
+pub record Publishes (desk : Desk) (call : Call) (reply : Reply) (next : Desk) : Type 0 where
+  pub stored : publishes call reply ≡ true
   pub silent : accepts reply ≡ false
   pub version : next.version ≡ desk.version
   pub decks : decks_of next ≡ decks_of desk
@@ -36,26 +30,8 @@ pub record Publishes (desk : Desk) (reply : Reply) (next : Desk) : Type 0 where
 pub data Outcome (desk : Desk) (call : Call) (reply : Reply) (next : Desk) : Type 0 where
   by_staying : Stays desk reply next → Outcome desk call reply next
   by_changing : Changes desk call reply next → Outcome desk call reply next
-  by_publishing : Publishes desk reply next → Outcome desk call reply next
-
--- the outcome of an answer
-abbrev pub Comes : Desk → Call → Answer → Type 0
-Comes desk call answer = Outcome desk call answer.reply answer.desk
+  by_publishing : Publishes desk call reply next → Outcome desk call reply next
 
 -- a desk is unchanged by nothing
 pub unchanged_itself : (desk : Desk) → IsUnchanged desk desk
 unchanged_itself desk = record { version = refl; decks = refl; publication = refl }
-
--- a refusal with the desk as it is
-pub refused_stays : (desk : Desk) (call : Call) (refusal : Refusal) → Comes desk call (answers (Refused refusal) desk)
-refused_stays desk call refusal = by_staying (record { silent = refl; unchanged = unchanged_itself desk })
-
--- either way
-pub either_comes : (desk : Desk) (call : Call) (test : Bool) (x y : Answer) → Comes desk call x → Comes desk call y → Comes desk call (cond test x y)
-either_comes desk call true x y cx cy = cx
-either_comes desk call false x y cx cy = cy
-
--- refused or accepted
-pub unless_comes : (desk : Desk) (call : Call) (against : Option Refusal) (accepted : Answer) → Comes desk call accepted → Comes desk call (unless against desk accepted)
-unless_comes desk call None accepted comes = comes
-unless_comes desk call (Some refusal) accepted comes = refused_stays desk call refusal

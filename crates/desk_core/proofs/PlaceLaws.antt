@@ -3,7 +3,7 @@ use Rattle.std.{proofs.Common.{◌≡◌, ℕ, ◌<◌, ◌≤◌, nat_lt, suc, 
 use Rattle.desk_core.{specs.Joins.Language.same_text, specs.Desks.{DeskDeck, is_named, put_if_named}, specs.Joins.OwnNames.{HaveOwnNames, IsPlaceOf, with_at}, proofs.Same.{equal_texts, same_text-itself}, proofs.TellingDecks.{none_found, found_told}}
 
 -- texts that differ differ the other way round
-differ-both : (a b : List ℕ) → same_text a b ≡ false → same_text b a ≡ false
+pub differ-both : (a b : List ℕ) → same_text a b ≡ false → same_text b a ≡ false
 differ-both a b differ = elim (cases_Bool (same_text b a)) [
   | inl same ↦ absurd (let e = equal_texts b a same in let itself = same_text-itself a in let told : same_text a a ≡ false = ap (λ (t : List ℕ). same_text a t) (sym e) ∙ differ in cc)
   | inr other ↦ other

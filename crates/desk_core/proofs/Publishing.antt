@@ -1,77 +1,60 @@
--- The call whose outcome may be a publication, and the outcome of each step.
-use Rattle.std.{proofs.Common.{◌≡◌, inl, inr, ℕ, List, ◌==◌, true, false, not, refl, sym, ap, ◌∙◌, eqb-true}, specs.List.list_any, proofs.lemmas.Bool.{cond_both, not-false}}
-use Rattle.desk_core.{specs.Desks.{Desk, Publication, decks_of, is_leased, is_leased_at}, specs.Joins.Calls.{Change, Question, Work, Claim, DeliverDeck, DeliverLink, Publish, GiveUp, Call, Make, Ask, Do, Reply, Refused, OutOfMemory}, specs.Joins.Language.Deck, specs.Claiming.is_behind, specs.Delivering.{deliver_link, take_link, same_decks, publish, own_publication}, specs.Steps.{answer_to_work, answer, Steps}, specs.Runs.{accepts, IsUnchanged}, proofs.Same.equal_lists, proofs.Outcomes.{Outcome, Comes, Stays, by_staying, by_changing, by_publishing, publishes, unchanged_itself, refused_stays, either_comes}, proofs.Staying.{leaves, question_leaves, claim_stays, deliver_deck_stays, give_up_stays, unlinks}, proofs.Starved.starved_has, proofs.Accepting.{change_comes, change_unpublished}}
+-- What each step has of an outcome for what everybody sees.
+use Rattle.std.proofs.{Common.{◌≡◌, ℕ, ◌+◌, List, false, true, refl, sym, ◌∙◌}, lemmas.Bool.{and_parts, or_parts}}
+use Rattle.desk_core.{specs.Desks.{Desk, decks_of}, specs.Joins.Calls.{Change, Question, Call, Make, Ask, Reply}, specs.Claiming.given, specs.Delivering.{lost, given_back, stored}, specs.Steps.Steps, specs.Runs.{accepts, IsUnchanged}, proofs.DecksSeen.{decks_of-kept, decks_of-added, decks_of-put_new, decks_of-put_over, decks_of-dropped, decks_of-edited}, proofs.StepKinds.{Kind, leaves_desk, ends_link, publishes_decks, hands_deck, gives_deck_up, is_foreign, gives_back, stores, adds, puts_new, puts_over, drops, edits_deck, does, shows_decks, is_work, step-kind}, proofs.Outcomes.{Outcome, Stays, by_staying, by_changing, by_publishing}}
+use Rattle.desk_core.specs.Changes as changes
 
-take_link_comes : (number : ℕ) (publication : Publication) (desk : Desk) → Comes desk (Do (DeliverLink number publication)) (take_link publication desk)
-take_link_comes number publication desk =
-    let call = Do (DeliverLink number publication) in
-    either_comes desk call (not (is_leased_at publication.version desk.link)) _ _ (unlinks desk call _ refl)
-    (cond_both (not (publication.version == desk.version)) _ _ (Comes desk call) (λ old. unlinks desk call _ refl)
-    (λ present. cond_both (not (same_decks publication.decks (decks_of desk))) _ _ (Comes desk call) (λ other. unlinks desk call _ refl)
-    (λ same. by_publishing (record {
-      stored = refl;
-      silent = refl;
-      version = refl;
-      decks = refl;
-      publication = publication;
-      shown = refl;
-      version_of = eqb-true publication.version desk.version (not-false (publication.version == desk.version) present);
-      decks_are = equal_lists publication.decks (decks_of desk) (not-false (same_decks publication.decks (decks_of desk)) same);
-    }))))
+stays : (desk next : Desk) (call : Call) (reply : Reply) → accepts reply ≡ false → next.version ≡ desk.version → decks_of next ≡ decks_of desk → next.publication ≡ desk.publication → Outcome desk call reply next
+stays desk next call reply silent version decks publication = by_staying (record { silent = silent; unchanged = record { version = version; decks = decks; publication = publication } })
 
-link_comes : (number : ℕ) (publication : Publication) (desk : Desk) → Comes desk (Do (DeliverLink number publication)) (deliver_link number publication desk)
-link_comes number publication desk = either_comes desk (Do (DeliverLink number publication)) (is_leased number desk.link) _ _ (take_link_comes number publication desk) (refused_stays desk (Do (DeliverLink number publication)) _)
-
--- the desk's own decks, published by the desk
-publish_comes : (number : ℕ) (desk : Desk) → Comes desk (Do (Publish number)) (publish number desk)
-publish_comes number desk =
-    let call = Do (Publish number) in
-    either_comes desk call (is_leased number desk.link) _ _
-    (either_comes desk call (not (is_leased_at desk.version desk.link)) _ _ (unlinks desk call _ refl)
-    (either_comes desk call (list_any is_behind desk.decks) _ _ (unlinks desk call _ refl)
-    (by_publishing (record {
-      stored = refl;
-      silent = refl;
-      version = refl;
-      decks = refl;
-      publication = own_publication desk;
-      shown = refl;
-      version_of = refl;
-      decks_are = refl;
-    }))))
-    (refused_stays desk call _)
-
--- the outcome of what workers do
-work_comes : (work : Work) (desk : Desk) → Comes desk (Do work) (answer_to_work work desk)
-work_comes Claim desk = claim_stays desk
-work_comes (DeliverDeck done) desk = deliver_deck_stays done desk
-work_comes (DeliverLink number publication) desk = link_comes number publication desk
-work_comes (Publish number) desk = publish_comes number desk
-work_comes (GiveUp number) desk = give_up_stays number desk
-
--- the outcome of each answer
-pub answer_comes : (call : Call) (desk : Desk) → Comes desk call (answer call desk)
-answer_comes (Make by change) desk = change_comes by change desk
-answer_comes (Ask question) desk = by_staying (question_leaves question desk)
-answer_comes (Do work) desk = work_comes work desk
+-- the outcome of each kind of step
+outcome : (desk : Desk) (call : Call) (reply : Reply) (next : Desk) → Kind desk call reply next → Outcome desk call reply next
+outcome desk call reply next (leaves_desk c r silent) = stays desk _ c r (or_parts (accepts r) (does c r) silent).0 refl refl refl
+outcome desk call reply next (ends_link c r silent) = stays desk _ c r (or_parts (accepts r) (does c r) silent).0 refl refl refl
+outcome desk call reply next (publishes_decks c r publication silent stored version decks) = by_publishing (record {
+  stored = stored;
+  silent = (or_parts (accepts r) (does c r) silent).0;
+  version = refl;
+  decks = refl;
+  publication = publication;
+  shown = refl;
+  version_of = version;
+  decks_are = decks;
+})
+outcome desk call reply next (hands_deck deck free) = stays desk _ _ _ refl refl (decks_of-kept deck.name (given (desk.leases + 1)) (λ d. refl) desk.decks) refl
+outcome desk call reply next (gives_deck_up number deck out) = stays desk _ _ _ refl refl (decks_of-kept deck.name lost (λ d. refl) desk.decks) refl
+outcome desk call reply next (is_foreign done deck out) = stays desk _ _ _ refl refl (decks_of-kept deck.name lost (λ d. refl) desk.decks) refl
+outcome desk call reply next (gives_back done deck out there) = stays desk _ _ _ refl refl (decks_of-kept deck.name (given_back done.kept) (λ d. refl) desk.decks) refl
+outcome desk call reply next (stores done deck out there) = stays desk _ _ _ refl refl (decks_of-kept deck.name (stored done.kept) (λ d. refl) desk.decks) refl
+outcome desk call reply next (adds who deck none few) =
+    by_changing (record { change = changes.Added deck; asked = refl; told = refl; version = refl; decks = decks_of-added (desk.version + 1) deck desk.decks; publication = refl })
+outcome desk call reply next (puts_new who deck seen none few) =
+    by_changing (record { change = changes.Put deck; asked = refl; told = refl; version = refl; decks = decks_of-put_new (desk.version + 1) deck desk.decks none; publication = refl })
+outcome desk call reply next (puts_over who deck seen before found few) =
+    by_changing (record { change = changes.Put deck; asked = refl; told = refl; version = refl; decks = decks_of-put_over (desk.version + 1) deck desk.decks before found; publication = refl })
+outcome desk call reply next (drops who name seen) =
+    by_changing (record { change = changes.Dropped name; asked = refl; told = refl; version = refl; decks = decks_of-dropped name desk.decks; publication = refl })
+outcome desk call reply next (edits_deck c r name who edits deck found applied is) =
+    by_changing (record { change = changes.Edited name edits; asked = is.asked; told = is.told; version = refl; decks = decks_of-edited name (desk.version + 1) who edits desk.decks; publication = refl })
+outcome desk call reply next _ = stays desk _ _ _ refl refl refl refl
 
 -- the outcome of each step
 pub step_comes : (desk : Desk) (call : Call) (reply : Reply) (next : Desk) → Steps desk call reply next → Outcome desk call reply next
-step_comes desk call reply next (inl given) = rw (given.0, given.1) (answer_comes call desk)
-step_comes desk call reply next (inr left) = rw (left.1, left.2) (starved_has (Outcome desk call (Refused OutOfMemory)) call desk (refused_stays desk call OutOfMemory) (unlinks desk call (Refused OutOfMemory) refl))
+step_comes desk call reply next step = outcome desk call reply next (step-kind desk call reply next step)
 
 -- a question leaves what everybody sees
+asked : (desk next : Desk) (question : Question) (reply : Reply) → Outcome desk (Ask question) reply next → Stays desk reply next
+asked desk next question reply (by_staying by) = by
+asked desk next question reply (by_changing by) = let none = by.asked in cc
+asked desk next question reply (by_publishing by) = let none = (and_parts (shows_decks reply) (is_work (Ask question)) by.stored).1 in cc
+
 pub asked_leaves : (desk next : Desk) (question : Question) (reply : Reply) → Steps desk (Ask question) reply next → Stays desk reply next
-asked_leaves desk next question reply (inl given) = rw (given.0, given.1) (question_leaves question desk)
-asked_leaves desk next question reply (inr starved) = rw (starved.1, starved.2) (leaves desk (Refused OutOfMemory) refl)
+asked_leaves desk next question reply step = asked desk next question reply (step_comes desk (Ask question) reply next step)
 
 -- and so does a change that is not accepted
-unaccepted : (desk next : Desk) (call : Call) (reply : Reply) → accepts reply ≡ false → publishes reply ≡ false → Outcome desk call reply next → IsUnchanged desk next
-unaccepted desk next call reply silent unpublished (by_staying by) = by.unchanged
-unaccepted desk next call reply silent unpublished (by_changing by) = let not : false ≡ true = sym silent ∙ by.told in cc
-unaccepted desk next call reply silent unpublished (by_publishing by) = let not : false ≡ true = sym unpublished ∙ by.stored in cc
+unaccepted : (desk next : Desk) (by : List ℕ) (change : Change) (reply : Reply) → accepts reply ≡ false → Outcome desk (Make by change) reply next → IsUnchanged desk next
+unaccepted desk next by change reply silent (by_staying still) = still.unchanged
+unaccepted desk next by change reply silent (by_changing made) = let no : false ≡ true = sym silent ∙ made.told in cc
+unaccepted desk next by change reply silent (by_publishing made) = let none = (and_parts (shows_decks reply) (is_work (Make by change)) made.stored).1 in cc
 
 pub refused_leaves : (desk next : Desk) (by : List ℕ) (change : Change) (reply : Reply) → Steps desk (Make by change) reply next → accepts reply ≡ false → IsUnchanged desk next
-refused_leaves desk next by change reply (inl given) silent =
-    unaccepted desk next (Make by change) reply silent (ap publishes given.0 ∙ change_unpublished by change desk) (step_comes desk (Make by change) reply next (inl given))
-refused_leaves desk next by change reply (inr starved) silent = rw starved.2 (unchanged_itself desk)
+refused_leaves desk next by change reply step silent = unaccepted desk next by change reply silent (step_comes desk (Make by change) reply next step)

@@ -42,8 +42,8 @@ told_change begun changes desk next call reply told by =
     }
 
 -- a publication of the present decks
-pub told_publication : (begun : ℕ) (changes : List Change) (desk next : Desk) (reply : Reply) → IsTold begun changes desk → Publishes desk reply next → IsTold begun changes next
-told_publication begun changes desk next reply told by = record {
+pub told_publication : (begun : ℕ) (changes : List Change) (desk next : Desk) (call : Call) (reply : Reply) → IsTold begun changes desk → Publishes desk call reply next → IsTold begun changes next
+told_publication begun changes desk next call reply told by = record {
   version = by.version ∙ told.version;
   decks = by.decks ∙ told.decks;
   published = λ publication shown.

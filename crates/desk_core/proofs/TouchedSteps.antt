@@ -1,13 +1,7 @@
 -- Steps that put one deck in another form, with an entry that means something for that deck alone.
 use Rattle.std.proofs.Common.{◌≡◌, ℕ, ◌<◌, ◌≤◌, ◌==◌, Bool, true, false, cond, List, ◌∷◌, map, Some, None, refl, ap, ◌∙◌, arith, eq-eqb, ne_eqb}
 use Rattle.turn_office.specs.declared.history.Entry.{Entry}
-use Rattle.desk_core.{specs.Desks.{Desk, DeskDeck, put_if_named, is_named}, specs.Joins.Calls.{Call, Reply}, specs.Runs.History, specs.Jobs.{Effect, Leaves, effect_if, effect_on, after_effect, since_job}, proofs.JobsTold.{since_of, IsMeant, IsLeaseTold, IsDeckTold, IsUnreached, IsDeskTold, AddsNone, LeasesNone, meant_still, lease_told_still, same_meant, other_meant, deck_told_next}, proofs.TellingDecks.all_put}
-
--- an entry that adds no deck, gives no lease that was given before, and has this effect on one deck
-pub record Touches (history : History) (leases identity : ℕ) (effect : Effect) (e : Entry Call Reply) : Type 0 where
-  pub adds_none : AddsNone e
-  pub leases_none : LeasesNone e leases
-  pub effects : (deck : ℕ) → effect_on deck history e.call e.reply ≡ effect_if deck (Some identity) effect
+use Rattle.desk_core.{specs.Desks.{Desk, DeskDeck, put_if_named, is_named}, specs.Joins.Calls.{Call, Reply}, specs.Runs.History, specs.Jobs.{Effect, Leaves, effect_if, effect_on, after_effect, since_job}, proofs.JobsTold.{since_of, IsMeant, IsLeaseTold, IsDeckTold, IsUnreached, IsDeskTold, meant_still, lease_told_still, same_meant, other_meant, deck_told_next}, proofs.QuietSteps.Touches, proofs.TellingDecks.all_put}
 
 -- no effect on one deck is none on any
 pub leaves_each : (deck identity : ℕ) → Leaves ≡ effect_if deck (Some identity) Leaves
@@ -25,7 +19,7 @@ pub record IsForm (history : History) (e : Entry Call Reply) (version leases mor
   pub leased : (deck : DeskDeck) → IsDeckTold history version leases deck → identity ≡ deck.identity → IsLeaseTold (e ∷ history) more (Some deck.identity) (form deck).lease
 
 module _ (history : History) (e : Entry Call Reply) (version after leases more identity : ℕ) (name : List ℕ) (effect : Effect) (form : DeskDeck → DeskDeck)
-    (touches : Touches history leases identity effect e) (is_form : IsForm history e version leases more identity effect form) (meant : IsMeant history name identity) (grown : version ≤ after) (given : leases ≤ more) where
+    (touches : Touches history leases (λ deck. effect_if deck (Some identity) effect) e) (is_form : IsForm history e version leases more identity effect form) (meant : IsMeant history name identity) (grown : version ≤ after) (given : leases ≤ more) where
   -- the deck that is meant
   told_at_name : (deck : DeskDeck) → IsDeckTold history version leases deck → is_named name deck ≡ true → IsDeckTold (e ∷ history) after more (form deck)
   told_at_name deck told named =
@@ -52,7 +46,7 @@ module _ (history : History) (e : Entry Call Reply) (version after leases more i
 
 -- a step that puts the deck of a name in another form
 pub told_touched : (history : History) (e : Entry Call Reply) (desk next : Desk) (identity : ℕ) (name : List ℕ) (effect : Effect) (form : DeskDeck → DeskDeck) →
-    Touches history desk.leases identity effect e → IsForm history e desk.version desk.leases next.leases identity effect form → IsMeant history name identity → identity ≤ desk.version →
+    Touches history desk.leases (λ deck. effect_if deck (Some identity) effect) e → IsForm history e desk.version desk.leases next.leases identity effect form → IsMeant history name identity → identity ≤ desk.version →
     IsDeskTold history desk → desk.version ≤ next.version → desk.leases ≤ next.leases → next.decks ≡ map (put_if_named name form) desk.decks → next.link ≡ desk.link → IsDeskTold (e ∷ history) next
 told_touched history e desk next identity name effect form touches is_form meant reached told grown given decks link =
     let v = desk.version in let w = next.version in let l = desk.leases in let m = next.leases in

@@ -1,6 +1,6 @@
 -- Rounds from a desk without leases end where nothing is due.
 use Rattle.std.{proofs.Common.{◌≡◌, inl, inr, ℕ, zero, suc, ◌+◌, ◌≤◌, false, cond, is_some, Option, Some, None, refl, ap, ◌∙◌, arith}, specs.List.list_any, proofs.lemmas.Bool.cases_Bool}
-use Rattle.desk_core.{specs.Desks.{Desk, Lease, greatest_number}, specs.Joins.Calls.{Claim, Do, Idle}, specs.Answers.{Answer, answers}, specs.Claiming.{claim, is_behind, is_published}, specs.Steps.answer, specs.Runs.{History, Runs}, specs.Rounds.{after_job, after_round, after_rounds, most_rounds}, specs.Progress.{is_given, has_leases}, proofs.Progress.neither, proofs.OwnAlways.own-last, proofs.RoundsLeft.{link_rounds, rounds_left, few_left, some_in}, proofs.DeckRounds.{IsResting, Goes, deck_round}, proofs.LinkRounds.{idle_claimed, link_round}}
+use Rattle.desk_core.{specs.Desks.{Desk, Lease, greatest_number}, specs.Joins.Calls.{Claim, Do, Idle}, specs.Answers.{Answer, answers}, specs.Claiming.{claim, is_behind, is_published}, specs.Steps.answer, specs.Runs.{History, Runs}, specs.Rounds.{after_job, after_round, after_rounds, most_rounds}, specs.Progress.{is_given, has_leases}, proofs.Progress.neither, proofs.EachDeck.own-last, proofs.RoundsLeft.{link_rounds, rounds_left, few_left, some_in}, proofs.DeckRounds.{IsResting, Goes, deck_round}, proofs.LinkRounds.{idle_claimed, link_round}}
 
 -- rounds at an idle desk leave it as it is
 idle_stays : (rounds : ℕ) (desk : Desk) → claim desk ≡ answers (Idle desk.version) desk → after_rounds rounds desk ≡ desk
