@@ -3,7 +3,7 @@
 //! | Who | What |
 //! |---|---|
 //! | a session whose change was made | puts its record into the queue; writes where the next record is there and nobody writes, and else sleeps |
-//! | who writes | takes a copy of all records that may go out, leaves the queue to others, writes and syncs once, and wakes those who wait |
+//! | who writes | takes a copy of all records that may go out, or without memory for them of the first, leaves the queue to others, writes and syncs once, and wakes those who wait |
 //! | a session that wants to change | is refused where a record was given up, unless that can be written now |
 //!
 //! That records can't be written is reported on standard error once, and once that they can be again. Locks show
@@ -13,8 +13,7 @@ ghost use Rattle.std.specs.Prelude.{◌≡◌, true, false, is_none, IfOk, IsSom
 ghost use Rattle.journal.specs.JournalFiles.{IsKeptAs};
 ghost use Rattle.desk_service.specs.SessionEnds.{IsMadeUp, news_of, queue_behind};
 
-use deck_listing::SharedText;
-use journal::{Draft, JournalFile, KeptBatch, Queue, RecordsFile};
+use journal::{Draft, JournalFile, KeptBatch, Queue, RecordText, RecordsFile};
 use std::alloc::{AllocError, Global};
 use std::marker::Model;
 use std::sync::{Condvar, Mutex, MutexGuard, Wait};
@@ -83,7 +82,7 @@ impl<F: RecordsFile> Shared<F> {
 
     /// Whether it is shown that the record of a session is kept, of this version and with this text, if there
     /// is one.
-    fn shows(&self, session: usize, version: u64, text: &Option<SharedText>) -> bool
+    fn shows(&self, session: usize, version: u64, text: &Option<RecordText>) -> bool
         ensures { result ≡ true → IsSomeAnd text.now (λ text. IsKeptAs F.has_done version text) }
     {
         match text {
@@ -148,15 +147,18 @@ impl<F: RecordsFile + Drop> Journal<F> {
         })
     }
 
-    /// Writes what may go out of the queue, wakes those who wait, and then what is news of the journal: nobody
-    /// waits for standard error but this one.
+    /// Writes what may go out of the queue, or the next record alone where there is no memory for all; wakes those
+    /// who wait, and then reports what is news of the journal: nobody waits for standard error but this one.
     fn write<'a, R: Wait + Eprint>(
         &'a self,
         rt: &R,
         mut shared: MutexGuard<'a, Shared<F>>,
     ) -> MutexGuard<'a, Shared<F>> {
         shared.writing = true;
-        let batch = shared.queue.batch(self.alloc);
+        let batch = match shared.queue.batch(self.alloc) {
+            Ok(batch) => Ok(batch),
+            Err(_) => shared.queue.next_alone(self.alloc),
+        };
         drop(shared);
         let kept = match batch {
             Ok(batch) => self.file.lock(rt).append(batch),
@@ -183,11 +185,14 @@ impl<F: RecordsFile + Drop> Journal<F> {
             if shared.may_change(missed) {
                 return true;
             }
-            if !shared.writing {
-                shared = self.write(rt, shared);
+            if shared.writing {
+                shared = self.told.wait(rt, shared);
+                continue;
+            }
+            shared = self.write(rt, shared);
+            if shared.fails || !shared.queue.has_next() {
                 return shared.may_change(missed);
             }
-            shared = self.told.wait(rt, shared);
         }
         false
     }

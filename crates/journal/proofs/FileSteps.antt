@@ -1,6 +1,6 @@
 -- Steps of the file of a journal: what it has kept goes on.
-use Rattle.std.proofs.Common.{ℕ, ◌≡◌, ◌+◌, List, [], ◌∷◌, ◌++◌, length, Bool, true, false, refl, sym, ap, subst, ◌∙◌, arith, append_assoc, append-nil, length-append}
-use Rattle.journal.{specs.Queues.{InOrder, texts_from}, specs.Records.text_with_version, specs.declared.marks.Mark.Mark, specs.Marks.mark_behind, proofs.MarkSteps.{mark-none, mark-more}, specs.JournalFiles.{Append, Sync, CutTo, Step, Note, HasKept, at_opening, cut_back, noted, not_noted, not_synced, not_written, IsRun, JournalFile, TakesStep, TakesSome, CutsLast, IsCutBack, WritesAndNotes, told_to_note, sync_failed, append_failed, HasRecords, AreKeptAs, IsKeptAs}}
+use Rattle.std.proofs.Common.{ℕ, ◌≡◌, ◌+◌, List, [], ◌∷◌, ◌++◌, length, Option, Bool, true, false, refl, sym, ap, subst, ◌∙◌, arith, append_assoc, append-nil, length-append}
+use Rattle.journal.{specs.declared.queue.Unwritten.Unwritten, specs.Queues.{GoOut, texts_from}, proofs.QueueOrder.so-far, specs.Records.text_with_version, specs.declared.marks.Mark.Mark, specs.Marks.mark_behind, proofs.MarkSteps.{mark-none, mark-more}, specs.JournalFiles.{Append, Sync, CutTo, Step, Note, HasKept, at_opening, cut_back, noted, not_noted, not_synced, not_written, IsRun, JournalFile, TakesStep, TakesSome, CutsLast, IsCutBack, WritesAndNotes, told_to_note, sync_failed, append_failed, HasRecords, AreKeptAs, IsKeptAs}}
 
 -- ---- runs of records
 
@@ -36,9 +36,9 @@ no-drafts first next (draft ∷ drafts) is none = let not : first + 1 + length d
 pub one-gone : (all left fewer gone : List (List ℕ)) (draft : List ℕ) → all ≡ left ++ gone → left ≡ fewer ++ draft ∷ [] → all ≡ fewer ++ draft ∷ gone
 one-gone all left fewer gone draft is last = is ∙ (ap (λ (ds : List (List ℕ)). ds ++ gone) last ∙ append_assoc fewer (draft ∷ []) gone)
 
--- what goes out in order is such a run
-pub run-in-order : {places : _} (first : ℕ) (drafts : List (List ℕ)) (text : List ℕ) (next : ℕ) → InOrder places first drafts text next → IsRun first drafts text next
-run-in-order first drafts text next out = record { text_is = out.text_is; next_is = out.next_is }
+-- what goes out is such a run
+pub run-out : (places : List (Option Unwritten)) (first : ℕ) (drafts : List (List ℕ)) (text : List ℕ) (next : ℕ) → GoOut places first drafts text next → IsRun first drafts text next
+run-out places first drafts text next out = let all = so-far places first drafts text next out in record { text_is = all.text_is; next_is = all.next_is }
 
 -- ---- the file
 
@@ -108,6 +108,17 @@ module _ {F : Type 0} (has_done : F → List Step → Type 0) where
   pub none-kept-as : (journal : JournalFile F) → HasRecords has_done journal → AreKeptAs has_done journal.first journal.next journal.next []
   none-kept-as journal has =
       record { journal = journal; records = has; before = has.drafts; drafts_are = sym (append-nil has.drafts); first_is = refl; next_is = refl; from_is = has.run.next_is }
+
+  -- so many are the last
+  pub kept-length : (first next from : ℕ) (drafts : List (List ℕ)) → AreKeptAs has_done first next from drafts → next ≡ from + length drafts
+  kept-length first next from drafts are =
+      let run : are.journal.next ≡ are.journal.first + length are.records.drafts = are.records.run.next_is in
+      let all : length are.records.drafts ≡ length (are.before ++ drafts) = ap length are.drafts_are in
+      let both : length (are.before ++ drafts) ≡ length are.before + length drafts = length-append are.before drafts in
+      let a : are.journal.first ≡ first = are.first_is in
+      let b : are.journal.next ≡ next = are.next_is in
+      let c : from ≡ first + length are.before = are.from_is in
+      omega (arith, run, all, both, a, b, c)
 
   -- one of those that are kept
   pub is-kept-as : (first next from : ℕ) (drafts fewer behind : List (List ℕ)) (draft : List ℕ) → AreKeptAs has_done first next from drafts → drafts ≡ fewer ++ draft ∷ behind → IsKeptAs has_done (from + length fewer) draft

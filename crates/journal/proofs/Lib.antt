@@ -5,6 +5,7 @@ pub mod PlainTexts
 pub mod LineSizes
 pub mod RecordChains
 pub mod RecordLaws
+pub mod RecordSizes
 pub mod ReplaySteps
 pub mod QueueSteps
 pub mod QueueOrder

@@ -65,12 +65,12 @@ texts-more version (first ∷ drafts) draft =
     ∙ sym (append_assoc (text_with_version version first) (texts_from (version + 1) drafts) (text_with_version (version + length (first ∷ drafts)) draft))
 
 -- what went out so far
-record SoFar (places : List (Option Unwritten)) (first : ℕ) (drafts : List (List ℕ)) (text : List ℕ) (next : ℕ) : Type 0 where
-  text_is : text ≡ texts_from first drafts
-  all_wait : AllWait places first drafts
-  next_is : next ≡ first + length drafts
+pub record SoFar (places : List (Option Unwritten)) (first : ℕ) (drafts : List (List ℕ)) (text : List ℕ) (next : ℕ) : Type 0 where
+  pub text_is : text ≡ texts_from first drafts
+  pub all_wait : AllWait places first drafts
+  pub next_is : next ≡ first + length drafts
 
-so-far : (places : List (Option Unwritten)) (first : ℕ) (drafts : List (List ℕ)) (text : List ℕ) (next : ℕ) → GoOut places first drafts text next → SoFar places first drafts text next
+pub so-far : (places : List (Option Unwritten)) (first : ℕ) (drafts : List (List ℕ)) (text : List ℕ) (next : ℕ) → GoOut places first drafts text next → SoFar places first drafts text next
 so-far places first drafts text next start = record { text_is = refl; all_wait = tt; next_is = omega arith }
 so-far places first drafts text next (more fewer before version draft out queued) =
     let b = so-far places first fewer before version out in

@@ -2,6 +2,7 @@ pub mod CheckSums
 pub mod Marks
 pub mod Names
 pub mod Records
+pub mod RecordTexts
 pub mod Drafts
 pub mod Drafted
 pub mod Queues

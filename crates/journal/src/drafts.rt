@@ -1,17 +1,17 @@
 //! Records of changes that are asked for, whose versions are not known yet.
-ghost use Rattle.std.specs.Prelude.{◌≡◌, IfOk, IfSome, OnErr, false};
+ghost use Rattle.std.specs.Prelude.{◌≡◌, IfNone, IfOk, IfSome, OnErr, false};
 ghost use Rattle.desk_core.specs.declared.calls.Change.TheVariants.{DropDeck};
 ghost use Rattle.journal.specs.Drafts.{change_carried, form_text, is_dropped, stamped_text};
+ghost use Rattle.journal.specs.RecordTexts.{IsLong};
 
+use crate::record_texts::RecordText;
 use crate::writing::text_behind_version;
 use cards::{DeckName, Edit};
-use deck_listing::SharedText;
 use desk_core::{Change, Edits, Listed};
 use moments::Moment;
 use session_commands::Seen;
 use std::alloc::{AllocError, Global};
 use std::marker::Model;
-use text_ports::Text;
 
 /// When a change is asked for, and the name of the session that asks.
 #[derive(Drop)]
@@ -24,7 +24,7 @@ pub struct Stamp {
 #[derive(Drop)]
 pub(crate) enum Form {
     /// As its text.
-    Written(SharedText),
+    Written(RecordText),
     /// As what it shows, whose text is made when it is written.
     Told(Stamp, Change),
     /// None is written.
@@ -47,13 +47,21 @@ impl Model for Draft {
     ghost view = { λ d. form_text d.form };
 }
 
-/// The record of a drop. It takes no memory: its text is made when it is written.
-fn draft_dropped(stamp: Stamp, name: &DeckName, seen: u64) -> Draft
-    ensures { result ≡ stamped_text stamp (DropDeck name.now seen) }
+/// The record of a drop is short.
+fn drop_is_short(stamp: &Stamp, name: &DeckName, seen: u64)
+    ensures { IsLong (stamped_text stamp.now (DropDeck name.now seen)) → ⊥ }
 {
-    let name = name.copied();
-    Draft {
-        form: Form::Told(stamp, Change::DropDeck { name, seen }),
+    stamp.moment.as_slice();
+    stamp.by.as_slice();
+    name.as_slice();
+}
+
+/// The same of a change.
+fn drops_are_short(stamp: &Stamp, change: &Change)
+    ensures { IsLong (stamped_text stamp.now change.now) → is_dropped change.now ≡ false }
+{
+    if let Change::DropDeck { name, seen } = change {
+        drop_is_short(stamp, name, *seen);
     }
 }
 
@@ -62,12 +70,9 @@ pub(crate) fn draft_whole(alloc: Global, stamp: Stamp, change: &Change) -> Resul
     ensures text { IfOk result (λ draft. draft ≡ stamped_text stamp change.now) }
     ensures memory { OnErr result (is_dropped change.now ≡ false) }
 {
-    if let Change::DropDeck { name, seen } = change {
-        return Ok(draft_dropped(stamp, name, *seen));
-    }
-    let text = text_behind_version(alloc, &stamp.moment, &stamp.by, change)?;
+    drops_are_short(&stamp, change);
     Ok(Draft {
-        form: Form::Written(SharedText::new(alloc, text)?),
+        form: Form::Written(text_behind_version(alloc, &stamp.moment, &stamp.by, change)?),
     })
 }
 
@@ -91,24 +96,25 @@ impl Draft {
     }
 
     /// The text of the record, from behind its version.
-    pub(crate) fn text(&self, alloc: Global) -> Result<SharedText, AllocError>
-        ensures { IfOk result (λ text. text ≡ self.now) }
+    pub(crate) fn text(&self, alloc: Global) -> Result<RecordText, AllocError>
+        ensures text { IfOk result (λ text. text ≡ self.now) }
+        ensures memory { OnErr result (IsLong self.now) }
     {
         match &self.form {
             Form::Written(text) => text.share(),
             Form::Told(stamp, change) => {
-                let text = text_behind_version(alloc, &stamp.moment, &stamp.by, change)?;
-                SharedText::new(alloc, text)
+                text_behind_version(alloc, &stamp.moment, &stamp.by, change)
             }
-            Form::Nothing => SharedText::new(alloc, Text::new(alloc)),
+            Form::Nothing => Ok(RecordText::default()),
         }
     }
 
     /// The record as its text, and that text once more; or the record as it was, where there is no memory for
-    /// the text.
-    pub fn with_text(self, alloc: Global) -> (Draft, Option<SharedText>)
+    /// a text that is long.
+    pub fn with_text(self, alloc: Global) -> (Draft, Option<RecordText>)
         ensures draft { result.0 ≡ self }
         ensures text { IfSome result.1 (λ text. text ≡ self) }
+        ensures memory { IfNone result.1 (IsLong self) }
     {
         let Ok(text) = self.text(alloc) else {
             return (self, None);

@@ -5,8 +5,8 @@ ghost use Rattle.journal.specs.JournalFiles.{AreKeptAs, CutTo, CutsLast, IsCutBa
 use crate::kept_records::{KeptBatch, KeptRecords};
 use crate::marks::Mark;
 use crate::queue::Batch;
+use crate::record_texts::RecordText;
 use crate::records_file::RecordsFile;
-use deck_listing::SharedText;
 use std::marker::Model;
 
 /// The file of a journal, which is written at its end alone: the mark of the whole records that it was
@@ -91,7 +91,7 @@ impl<F: RecordsFile> JournalFile<F> {
     }
 
     /// Writes the text of these records behind the whole ones, where nothing else stands: whether it is kept.
-    fn write(&mut self, text: &[u8], drafts: &[SharedText], next: u64) -> bool
+    fn write(&mut self, text: &[u8], drafts: &[RecordText], next: u64) -> bool
         requires clean { self.old.clean ≡ true }
         requires run { IsRun self.old.next drafts.now text.now next }
         ensures begun { self.new.begun ≡ self.old.begun }
@@ -116,7 +116,7 @@ impl<F: RecordsFile> JournalFile<F> {
 
     /// Writes the text of these records behind the whole ones: whether it is kept. Where it is not, what was
     /// written of it is cut off again, now or before the next text.
-    fn put(&mut self, text: &[u8], drafts: &[SharedText], next: u64) -> bool
+    fn put(&mut self, text: &[u8], drafts: &[RecordText], next: u64) -> bool
         requires { IsRun self.old.next drafts.now text.now next }
         ensures begun { self.new.begun ≡ self.old.begun }
         ensures first { self.new.first ≡ self.old.first }

@@ -3,9 +3,10 @@ ghost use Rattle.std.specs.Prelude.{◌≡◌, ◌<◌, ◌≤◌, ◌⊎◌, tr
 ghost use Rattle.journal.specs.JournalFiles.{AreKept, AreKeptAs, IsKept, IsKeptAs};
 ghost use Rattle.journal.specs.Queues.{is_record_of};
 
+use crate::record_texts::RecordText;
 use crate::records_file::RecordsFile;
-use deck_listing::SharedText;
 use definitions::is_same_text;
+use smallvec::SmallVec;
 use std::marker::{Model, PhantomData};
 
 /// Shows that the file of a journal has kept the records from the first of these versions on, up to the
@@ -68,7 +69,7 @@ impl<F: RecordsFile> KeptRecords<F> {
 pub struct KeptBatch<F: RecordsFile> {
     pub(crate) records: KeptRecords<F>,
     pub(crate) from: u64,
-    pub(crate) drafts: Vec<SharedText>,
+    pub(crate) drafts: SmallVec<RecordText, 1>,
 }
 
 impl<F: RecordsFile> Model for KeptBatch<F> {
@@ -82,7 +83,11 @@ impl<F: RecordsFile> Model for KeptBatch<F> {
 }
 
 impl<F: RecordsFile> KeptBatch<F> {
-    pub(crate) fn new(records: KeptRecords<F>, from: u64, drafts: Vec<SharedText>) -> KeptBatch<F>
+    pub(crate) fn new(
+        records: KeptRecords<F>,
+        from: u64,
+        drafts: SmallVec<RecordText, 1>,
+    ) -> KeptBatch<F>
         requires { AreKeptAs F.has_done records.first records.next from drafts.items }
         ensures { result ≡ record { first = records.first; next = records.next; from = from; drafts = drafts.items } }
     {
@@ -99,7 +104,7 @@ impl<F: RecordsFile> KeptBatch<F> {
 #[derive(Drop)]
 pub(crate) struct KeptRecord<F: RecordsFile> {
     version: u64,
-    draft: SharedText,
+    draft: RecordText,
     file: PhantomData<F>,
 }
 
@@ -115,7 +120,7 @@ impl<F: RecordsFile> Model for KeptRecord<F> {
 }
 
 impl<F: RecordsFile> KeptRecord<F> {
-    pub(crate) fn new(version: u64, draft: SharedText) -> KeptRecord<F>
+    pub(crate) fn new(version: u64, draft: RecordText) -> KeptRecord<F>
         requires { IsKeptAs F.has_done version draft }
         ensures { result ≡ record { version = version; draft = draft } }
     {
@@ -127,7 +132,7 @@ impl<F: RecordsFile> KeptRecord<F> {
     }
 
     /// Whether it is of this version, and has this text.
-    pub(crate) fn is_of(&self, version: u64, text: &SharedText) -> bool
+    pub(crate) fn is_of(&self, version: u64, text: &RecordText) -> bool
         ensures is { result ≡ is_record_of version text.now self.now }
         ensures kept { result ≡ true → IsKeptAs F.has_done version text.now }
     {

@@ -25,6 +25,7 @@ mod records;
 // Records as text.
 mod drafted;
 mod drafts;
+mod record_texts;
 mod writing;
 
 // Changes that are kept: their records go out to a file.
@@ -58,6 +59,7 @@ pub use names::session_name;
 pub use places::{Ending, Place};
 pub use queue::{Batch, Queue};
 pub use reading::{JournalFault, Next, next_record};
+pub use record_texts::RecordText;
 pub use records::{Entry, Record};
 pub use records_file::RecordsFile;
 pub use replaying::{ReplayFault, Replayed, replay};

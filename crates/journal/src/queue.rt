@@ -1,16 +1,19 @@
 //! Records that are not written yet: they go out in the order of their versions, and none is left out.
-ghost use Rattle.std.specs.Prelude.{◌≡◌, ◌+◌, ◌<◌, ◌≤◌, ◌^◌, ◌⊎◌, All, IfOk, None, Some, true, false, is_some, length, max, nat_lt, option_map, position, set, slice_get};
+ghost use Rattle.std.specs.Prelude.{◌≡◌, ◌+◌, ◌<◌, ◌≤◌, ◌^◌, ◌⊎◌, All, IfOk, IfSome, None, OnErr, OnOk, Some, ◌++◌, ◌∷◌, [], true, false, is_some, length, max, nat_lt, option_map, position, set, slice_get};
 ghost use Rattle.journal.specs.JournalFiles.{IsKept, IsKeptAs, IsRun};
+ghost use Rattle.journal.specs.RecordTexts.{IsLong};
+ghost use Rattle.journal.specs.Records.{text_with_version};
+ghost use Rattle.smallvec.specs.SmallVec.{HasRoomFor};
 ghost use Rattle.journal.specs.Queues.{GoOut, InOrder, all_shown, draft_of, draft_queued, is_at, is_shown, shown_at, unwritten};
 
 use crate::drafts::Draft;
 use crate::kept_records::{KeptBatch, KeptRecord, KeptRecords};
+use crate::record_texts::{RecordText, Writing};
 use crate::records_file::RecordsFile;
-use crate::writing::text_with_version;
-use deck_listing::SharedText;
+use crate::writing::push_with_version;
+use smallvec::SmallVec;
 use std::alloc::{AllocError, Global};
 use std::marker::Model;
-use text_ports::Text;
 
 /// A record that is not written yet.
 #[derive(Drop)]
@@ -44,10 +47,10 @@ impl<F: RecordsFile> Model for Queue<F> {
 /// of them.
 #[derive(Drop)]
 pub struct Batch {
-    pub text: Text,
+    pub text: RecordText,
     pub first: u64,
     pub next: u64,
-    pub(crate) drafts: Vec<SharedText>,
+    pub(crate) drafts: SmallVec<RecordText, 1>,
 }
 
 impl Model for Batch {
@@ -62,7 +65,7 @@ impl Model for Batch {
 }
 
 impl Batch {
-    fn new(text: Text, first: u64, next: u64, drafts: Vec<SharedText>) -> Batch
+    fn new(text: RecordText, first: u64, next: u64, drafts: SmallVec<RecordText, 1>) -> Batch
         requires { IsRun first drafts.items text next }
         ensures { result ≡ record { text = text; first = first; next = next; drafts = drafts.items } }
     {
@@ -75,7 +78,7 @@ impl Batch {
     }
 
     /// The records.
-    pub(crate) fn into_drafts(self) -> Vec<SharedText>
+    pub(crate) fn into_drafts(self) -> SmallVec<RecordText, 1>
         ensures { result.items ≡ self.drafts }
     {
         self.drafts
@@ -104,22 +107,53 @@ fn draft_queued(places: &[Option<Unwritten>], version: u64) -> Option<&Draft>
     None
 }
 
+/// Puts the record of a version to those that go out.
+fn take_record(
+    alloc: Global,
+    text: &mut Writing,
+    drafts: &mut SmallVec<RecordText, 1>,
+    version: u64,
+    draft: &Draft,
+) -> Result<(), AllocError>
+    ensures text { OnOk result (text.new ≡ text.old ++ text_with_version version draft.now) }
+    ensures drafts { OnOk result (drafts.new.items ≡ drafts.old.items ++ draft.now ∷ []) }
+    ensures memory { HasRoomFor drafts.old 1 → OnErr result (IsLong draft.now) }
+{
+    let draft = draft.text(alloc)?;
+    push_with_version(text, version, draft.as_slice());
+    Ok(drafts.push(draft)?)
+}
+
 /// What goes out from a version on.
 fn batch_from(alloc: Global, places: &[Option<Unwritten>], first: u64) -> Result<Batch, AllocError>
     ensures first { IfOk result (λ batch. batch.first ≡ first) }
     ensures out { IfOk result (λ batch. GoOut places.now first batch.drafts batch.text batch.next) }
     ensures order { IfOk result (λ batch. InOrder places.now first batch.drafts batch.text batch.next) }
 {
-    let (mut text, mut drafts) = (Text::new(alloc), Vec::new(alloc));
+    let (mut text, mut drafts) = (Writing::new(alloc), SmallVec::new(alloc));
     for version in first..u64::MAX {
         let Some(draft) = draft_queued(places, version) else {
-            return Ok(Batch::new(text, first, version, drafts));
+            return Ok(Batch::new(text.finish()?, first, version, drafts));
         };
-        let draft = draft.text(alloc)?;
-        text.append(text_with_version(alloc, version, draft.as_slice())?)?;
-        drafts.push(draft)?;
+        take_record(alloc, &mut text, &mut drafts, version, draft)?;
     }
     Err(AllocError)
+}
+
+/// The record of a version, which goes out alone.
+fn batch_of(alloc: Global, places: &[Option<Unwritten>], version: u64) -> Result<Batch, AllocError>
+    requires { version + 1 < 2 ^ 64 }
+    ensures first { IfOk result (λ batch. batch.first ≡ version) }
+    ensures out { IfOk result (λ batch. GoOut places.now version batch.drafts batch.text batch.next) }
+    ensures one { IfOk result (λ batch. batch.next ≡ version + 1) }
+    ensures memory { OnErr result (IfSome (draft_queued version places.now) (λ draft. IsLong draft)) }
+{
+    let Some(draft) = draft_queued(places, version) else {
+        return Err(AllocError);
+    };
+    let (mut text, mut drafts) = (Writing::new(alloc), SmallVec::new(alloc));
+    take_record(alloc, &mut text, &mut drafts, version, draft)?;
+    Ok(Batch::new(text.finish()?, version, version + 1, drafts))
 }
 
 /// Whether the record of a place is the one of a version.
@@ -228,7 +262,7 @@ impl<F: RecordsFile> Queue<F> {
     }
 
     /// Whether it is shown that the record of a session is kept, of this version and with this text behind it.
-    pub fn shows(&self, session: usize, version: u64, text: &SharedText) -> bool
+    pub fn shows(&self, session: usize, version: u64, text: &RecordText) -> bool
         ensures is { result ≡ is_shown version text.now (slice_get self.now.shown session) }
         ensures kept { result ≡ true → IsKeptAs F.has_done version text.now }
     {
@@ -260,6 +294,20 @@ impl<F: RecordsFile> Queue<F> {
         ensures order { IfOk result (λ batch. InOrder self.now.places self.now.next batch.drafts batch.text batch.next) }
     {
         batch_from(alloc, self.places.as_slice(), self.kept.next())
+    }
+
+    /// The record that comes next alone. It goes out so where there is no memory for all.
+    pub fn next_alone(&self, alloc: Global) -> Result<Batch, AllocError>
+        ensures first { IfOk result (λ batch. batch.first ≡ self.now.next) }
+        ensures out { IfOk result (λ batch. GoOut self.now.places self.now.next batch.drafts batch.text batch.next) }
+        ensures one { IfOk result (λ batch. batch.next ≡ self.now.next + 1) }
+        ensures memory { self.now.next + 1 < 2 ^ 64 → OnErr result (IfSome (draft_queued self.now.next self.now.places) (λ draft. IsLong draft)) }
+    {
+        let version = self.kept.next();
+        if version == u64::MAX {
+            return Err(AllocError);
+        }
+        batch_of(alloc, self.places.as_slice(), version)
     }
 
     /// These records are kept.

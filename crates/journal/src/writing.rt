@@ -1,10 +1,12 @@
 //! The text of a record.
-ghost use Rattle.std.specs.Prelude.{◌≡◌, ◌++◌, ◌∷◌, [], IfOk, codes, decimal, map, flat_map};
+ghost use Rattle.std.specs.Prelude.{◌≡◌, ◌++◌, ◌∷◌, [], IfOk, OnErr, codes, decimal, map, flat_map};
 ghost use Rattle.session_commands.specs.Lines.{behind_a_blank, line_in_batch, line_of_edit, name_and_seen, seen_text};
 ghost use Rattle.journal.specs.CheckSums.{check_sum};
+ghost use Rattle.journal.specs.RecordTexts.{IsLong};
 ghost use Rattle.journal.specs.Records.{ended, first_line, line_of_change, line_of_edits, line_of_entry, log_line, lines_behind, lines_behind_change, lines_of_edits, lines_of_record, sum_line, text_behind_version, text_of_lines, text_of_record, text_with_version};
 
 use crate::check_sums::{FIRST_SUM, sum_over};
+use crate::record_texts::{RecordText, Writing};
 use crate::records::{Entry, Record};
 use cards::{Card, DeckName, Edit};
 use desk_core::{Change, Edits};
@@ -12,10 +14,10 @@ use itoa::Buffer;
 use moments::Moment;
 use session_commands::Seen;
 use std::alloc::{AllocError, Global};
-use text_ports::{Piece, Text};
+use text_ports::Text;
 
 /// Appends a blank and a word.
-fn push_word(text: &mut Piece, word: &[u8])
+fn push_word(text: &mut Writing, word: &[u8])
     ensures { text.new ≡ text.old ++ behind_a_blank word.now }
 {
     text.put(b" ");
@@ -23,7 +25,7 @@ fn push_word(text: &mut Piece, word: &[u8])
 }
 
 /// Appends a blank and a number in decimal.
-fn push_number(text: &mut Piece, number: u64)
+fn push_number(text: &mut Writing, number: u64)
     ensures { text.new ≡ text.old ++ behind_a_blank (decimal number) }
 {
     let mut buffer = Buffer::new();
@@ -31,7 +33,7 @@ fn push_number(text: &mut Piece, number: u64)
 }
 
 /// Appends a verb and a name.
-fn push_verb_and_name(text: &mut Piece, verb: &[u8], name: &DeckName)
+fn push_verb_and_name(text: &mut Writing, verb: &[u8], name: &DeckName)
     ensures { text.new ≡ text.old ++ (verb.now ++ behind_a_blank (name.now ++ [])) }
 {
     text.put(verb);
@@ -39,7 +41,7 @@ fn push_verb_and_name(text: &mut Piece, verb: &[u8], name: &DeckName)
 }
 
 /// Appends a verb and a number.
-fn push_verb_and_number(text: &mut Piece, verb: &[u8], number: u64)
+fn push_verb_and_number(text: &mut Writing, verb: &[u8], number: u64)
     ensures { text.new ≡ text.old ++ (verb.now ++ behind_a_blank (decimal number ++ [])) }
 {
     text.put(verb);
@@ -47,7 +49,7 @@ fn push_verb_and_number(text: &mut Piece, verb: &[u8], number: u64)
 }
 
 /// Appends a verb, a place and a card.
-fn push_verb_and_card(text: &mut Piece, verb: &[u8], at: u64, card: &Card)
+fn push_verb_and_card(text: &mut Writing, verb: &[u8], at: u64, card: &Card)
     ensures { text.new ≡ text.old ++ (verb.now ++ behind_a_blank (decimal at ++ behind_a_blank card.now)) }
 {
     text.put(verb);
@@ -56,7 +58,7 @@ fn push_verb_and_card(text: &mut Piece, verb: &[u8], at: u64, card: &Card)
 }
 
 /// Appends a blank and a version that was seen.
-fn push_seen(text: &mut Piece, seen: Seen)
+fn push_seen(text: &mut Writing, seen: Seen)
     ensures { text.new ≡ text.old ++ behind_a_blank (seen_text seen) }
 {
     match seen {
@@ -69,7 +71,7 @@ fn push_seen(text: &mut Piece, seen: Seen)
 }
 
 /// Appends a verb, a name and the version that was seen.
-fn push_target(text: &mut Piece, verb: &[u8], name: &DeckName, seen: Seen)
+fn push_target(text: &mut Writing, verb: &[u8], name: &DeckName, seen: Seen)
     ensures { text.new ≡ text.old ++ (verb.now ++ name_and_seen name.now seen []) }
 {
     text.put(verb);
@@ -78,7 +80,7 @@ fn push_target(text: &mut Piece, verb: &[u8], name: &DeckName, seen: Seen)
 }
 
 /// Appends a verb, a name, the version that was seen, and a number.
-fn push_target_and_number(text: &mut Piece, verb: &[u8], name: &DeckName, seen: Seen, number: u64)
+fn push_target_and_number(text: &mut Writing, verb: &[u8], name: &DeckName, seen: Seen, number: u64)
     ensures { text.new ≡ text.old ++ (verb.now ++ name_and_seen name.now seen (behind_a_blank (decimal number ++ []))) }
 {
     push_target(text, verb, name, seen);
@@ -87,7 +89,7 @@ fn push_target_and_number(text: &mut Piece, verb: &[u8], name: &DeckName, seen: 
 
 /// Appends a verb, a name, the version that was seen, a place and a card.
 fn push_target_and_card(
-    text: &mut Piece,
+    text: &mut Writing,
     verb: &[u8],
     name: &DeckName,
     seen: Seen,
@@ -101,7 +103,7 @@ fn push_target_and_card(
 }
 
 /// Appends an edit as a line of a batch.
-fn push_line_in_batch(text: &mut Piece, edit: &Edit)
+fn push_line_in_batch(text: &mut Writing, edit: &Edit)
     ensures { text.new ≡ text.old ++ line_in_batch edit.now }
 {
     match edit {
@@ -112,7 +114,7 @@ fn push_line_in_batch(text: &mut Piece, edit: &Edit)
 }
 
 /// Appends an edit of a deck.
-fn push_edit(text: &mut Piece, name: &DeckName, seen: Seen, edit: &Edit)
+fn push_edit(text: &mut Writing, name: &DeckName, seen: Seen, edit: &Edit)
     ensures { text.new ≡ text.old ++ line_of_edit name.now seen edit.now }
 {
     match edit {
@@ -123,7 +125,7 @@ fn push_edit(text: &mut Piece, name: &DeckName, seen: Seen, edit: &Edit)
 }
 
 /// Appends edits of a deck as the line that asked for them.
-fn push_edits_asked(text: &mut Piece, name: &DeckName, seen: Seen, edits: &Edits)
+fn push_edits_asked(text: &mut Writing, name: &DeckName, seen: Seen, edits: &Edits)
     ensures { text.new ≡ text.old ++ line_of_edits name.now seen edits.now }
 {
     match edits {
@@ -135,7 +137,7 @@ fn push_edits_asked(text: &mut Piece, name: &DeckName, seen: Seen, edits: &Edits
 }
 
 /// Appends a change as the line that asked for it.
-fn push_change(text: &mut Piece, change: &Change)
+fn push_change(text: &mut Writing, change: &Change)
     ensures { text.new ≡ text.old ++ line_of_change change.now }
 {
     match change {
@@ -151,7 +153,7 @@ fn push_change(text: &mut Piece, change: &Change)
 }
 
 /// Appends what a record shows.
-fn push_entry(text: &mut Piece, entry: &Entry)
+fn push_entry(text: &mut Writing, entry: &Entry)
     ensures { text.new ≡ text.old ++ line_of_entry entry.now }
 {
     match entry {
@@ -161,7 +163,7 @@ fn push_entry(text: &mut Piece, entry: &Entry)
 }
 
 /// Appends a record as one line, and its line feed.
-fn push_log_line(text: &mut Piece, record: &Record)
+fn push_log_line(text: &mut Writing, record: &Record)
     ensures { text.new ≡ text.old ++ ended (log_line «record».now) }
 {
     let mut buffer = Buffer::new();
@@ -174,7 +176,7 @@ fn push_log_line(text: &mut Piece, record: &Record)
 }
 
 /// Appends the first line of a record, and its line feed.
-fn push_first_line(text: &mut Piece, record: &Record)
+fn push_first_line(text: &mut Writing, record: &Record)
     ensures { text.new ≡ text.old ++ ended (first_line «record».now) }
 {
     text.put(b"RECORD ");
@@ -186,13 +188,13 @@ fn push_first_line(text: &mut Piece, record: &Record)
 pub fn log_line(alloc: Global, record: &Record) -> Result<Text, AllocError>
     ensures { IfOk result (λ text. text ≡ ended (log_line «record».now)) }
 {
-    let mut text = Piece::new(alloc);
+    let mut text = Writing::new(alloc);
     push_log_line(&mut text, record);
     text.into_text()
 }
 
 /// Appends the lines of cards.
-fn push_cards(text: &mut Piece, cards: &[Card])
+fn push_cards(text: &mut Writing, cards: &[Card])
     ensures { text.new ≡ text.old ++ text_of_lines (map behind_a_blank cards.now) }
 {
     for card in cards {
@@ -202,7 +204,7 @@ fn push_cards(text: &mut Piece, cards: &[Card])
 }
 
 /// Appends the lines of edits.
-fn push_edits(text: &mut Piece, edits: &[Edit])
+fn push_edits(text: &mut Writing, edits: &[Edit])
     ensures { text.new ≡ text.old ++ text_of_lines (map behind_a_blank (map line_in_batch edits.now)) }
 {
     for edit in edits {
@@ -213,7 +215,7 @@ fn push_edits(text: &mut Piece, edits: &[Edit])
 }
 
 /// Appends the lines of several edits; one stands on the line that asked for it.
-fn push_lines_of_edits(text: &mut Piece, edits: &Edits)
+fn push_lines_of_edits(text: &mut Writing, edits: &Edits)
     ensures { text.new ≡ text.old ++ text_of_lines (map behind_a_blank (lines_of_edits edits.now)) }
 {
     match edits {
@@ -223,7 +225,7 @@ fn push_lines_of_edits(text: &mut Piece, edits: &Edits)
 }
 
 /// Appends the lines that belong to a change.
-fn push_lines_behind_change(text: &mut Piece, change: &Change)
+fn push_lines_behind_change(text: &mut Writing, change: &Change)
     ensures { text.new ≡ text.old ++ text_of_lines (map behind_a_blank (lines_behind_change change.now)) }
 {
     match change {
@@ -236,7 +238,7 @@ fn push_lines_behind_change(text: &mut Piece, change: &Change)
 }
 
 /// Appends the lines that belong to what a record shows.
-fn push_lines_behind(text: &mut Piece, entry: &Entry)
+fn push_lines_behind(text: &mut Writing, entry: &Entry)
     ensures { text.new ≡ text.old ++ text_of_lines (map behind_a_blank (lines_behind entry.now)) }
 {
     match entry {
@@ -245,15 +247,21 @@ fn push_lines_behind(text: &mut Piece, entry: &Entry)
     }
 }
 
+/// Appends the line of a check sum, and its line feed.
+fn push_sum(text: &mut Writing, sum: u32)
+    ensures { text.new ≡ text.old ++ ended (sum_line sum) }
+{
+    push_verb_and_number(text, b"SUM", u64::from(sum));
+    text.put(b"\n");
+}
+
 /// A text with the line of its check sum behind it, and its line feed.
-fn with_sum(alloc: Global, front: Piece) -> Result<Text, AllocError>
+fn with_sum(alloc: Global, front: Writing) -> Result<Text, AllocError>
     ensures { IfOk result (λ text. text ≡ front ++ ended (sum_line (check_sum front))) }
 {
     let mut text = front.into_text()?;
-    let sum = sum_over(FIRST_SUM, text.as_slice());
-    let mut line = Piece::new(alloc);
-    push_verb_and_number(&mut line, b"SUM", u64::from(sum));
-    line.put(b"\n");
+    let mut line = Writing::new(alloc);
+    push_sum(&mut line, sum_over(FIRST_SUM, text.as_slice()));
     text.append(line.into_text()?)?;
     Ok(text)
 }
@@ -262,7 +270,7 @@ fn with_sum(alloc: Global, front: Piece) -> Result<Text, AllocError>
 pub fn record_text(alloc: Global, record: &Record) -> Result<Text, AllocError>
     ensures { IfOk result (λ text. text ≡ text_of_record «record».now) }
 {
-    let mut text = Piece::new(alloc);
+    let mut text = Writing::new(alloc);
     push_first_line(&mut text, record);
     push_lines_behind(&mut text, &record.entry);
     with_sum(alloc, text)
@@ -274,30 +282,29 @@ pub(crate) fn text_behind_version(
     moment: &Moment,
     by: &DeckName,
     change: &Change,
-) -> Result<Text, AllocError>
-    ensures { IfOk result (λ text. text ≡ text_behind_version moment.now by.now change.now) }
+) -> Result<RecordText, AllocError>
+    ensures text { IfOk result (λ text. text ≡ text_behind_version moment.now by.now change.now) }
+    ensures memory { OnErr result (IsLong (text_behind_version moment.now by.now change.now)) }
 {
-    let mut text = Piece::new(alloc);
+    let mut text = Writing::new(alloc);
     push_word(&mut text, moment.as_slice());
     push_word(&mut text, by.as_slice());
     text.put(b" ");
     push_change(&mut text, change);
     text.put(b"\n");
     push_lines_behind_change(&mut text, change);
-    text.into_text()
+    text.finish()
 }
 
-/// The text of a record, by its version and the text behind it.
-pub(crate) fn text_with_version(
-    alloc: Global,
-    version: u64,
-    behind: &[u8],
-) -> Result<Text, AllocError>
-    ensures { IfOk result (λ text. text ≡ text_with_version version behind.now) }
+/// Appends the text of a record, by its version and the text behind it.
+pub(crate) fn push_with_version(text: &mut Writing, version: u64, behind: &[u8])
+    ensures { text.new ≡ text.old ++ text_with_version version behind.now }
 {
-    let mut text = Piece::new(alloc);
-    text.put(b"RECORD");
-    push_number(&mut text, version);
+    let mut buffer = Buffer::new();
+    let number = buffer.format(version).as_bytes();
+    let front = sum_over(sum_over(FIRST_SUM, b"RECORD "), number);
+    text.put(b"RECORD ");
+    text.put(number);
     text.put(behind);
-    with_sum(alloc, text)
+    push_sum(text, sum_over(front, behind));
 }

@@ -1,6 +1,18 @@
-use Rattle.std.proofs.Common.{ℕ, ◌≡◌, ◌+◌, ◌++◌, ◌∷◌, [], List, length, ap, ◌∙◌, arith, length-append}
-use Rattle.journal.proofs.{FileSteps.{kept-last, one-gone}, ShownRecords.shown-more}
+use Rattle.std.proofs.Common.{ℕ, ◌≡◌, ◌+◌, ◌++◌, ◌∷◌, [], List, length, ap, sym, ◌∙◌, arith, append-nil, length-append}
+use Rattle.journal.specs.Queues.{all_shown}
+use Rattle.journal.proofs.{FileSteps.{kept-last, kept-length, one-gone}, ShownRecords.shown-more}
 use Rattle.journal.proofs.queue.show_all.Goals as goal
+
+pub loop-draft-init : goal.loop-draft-init
+loop-draft-init g c =
+    let drafts : c.kept.inside.drafts.items ≡ c.args.kept.drafts = ap (λ k. k.drafts) c.kept.view_is in
+    let from : c.kept.inside.from ≡ c.args.kept.from = ap (λ k. k.from) c.kept.view_is in
+    let count = kept-length g.F.RecordsFile.has_done _ _ _ _ c.kept.invariant in
+    record {
+      version = c.next-version.ensures ∙ (count ∙ ap (λ (n : ℕ). n + length c.kept.inside.drafts.items) from);
+      left = ([], sym drafts ∙ sym (append-nil c.kept.inside.drafts.items));
+      all = ap (λ (ds : List (List ℕ)). all_shown c.args.places.now c.args.kept.from ds c.args.shown.now.items) drafts;
+    }
 
 -- the last of those that are left
 pub new-requires : goal.new-requires

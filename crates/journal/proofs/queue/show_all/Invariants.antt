@@ -11,4 +11,4 @@ invariant-loop-draft g l = record {
 }
 
 abbrev pub decreases-loop-draft : goal.decreases-loop-draft
-decreases-loop-draft g l = goal.left-loop-draft g l
+decreases-loop-draft g l = length l.drafts.items

@@ -16,5 +16,5 @@ returns-then-batch-self-clause-kept g c = λ kept.
 -- these are the last
 pub returns-clause-kept : goal.returns-clause-kept
 returns-clause-kept g c = λ kept.
-    let drafts : c.as_slice-2.result.now ≡ c.args.batch.now.drafts = c.as_slice-2.ensures.value ∙ ap (λ b. b.drafts) c.batch.view_is in
+    let drafts : c.as_slice-2.result.now ≡ c.args.batch.now.drafts = c.as_slice-2.ensures ∙ ap (λ b. b.drafts) c.batch.view_is in
     subst (λ (ds : List (List ℕ)). AreKeptAs g.F.RecordsFile.has_done c.put.new.self.first c.put.new.self.next c.args.self.now.next ds) drafts (c.put.ensures.kept kept)
