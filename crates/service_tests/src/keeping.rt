@@ -324,6 +324,7 @@ fn fill<F: RecordsFile>(
     put_all(alloc, queue, answer)?;
     let (batch, again) = (queue.batch(alloc)?, queue.batch(alloc)?);
     answer.number("next ", batch.next);
+    answer.number(", alone ", queue.next_alone(alloc)?.next);
     queue.give_up();
     push_told(queue, answer);
     append_twice(queue, file, batch, again, answer);
