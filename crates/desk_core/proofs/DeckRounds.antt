@@ -1,6 +1,6 @@
 -- A round at a desk without leases where a deck is behind: the deck is built, or loses a record of other cards.
-use Rattle.std.{proofs.Common.{◌≡◌, inl, inr, ℕ, ◌+◌, ◌==◌, ◌<◌, ◌≤◌, Bool, true, false, cond, not, ◌&&◌, List, length, find, is_none, Option, Some, None, refl, sym, ap, ◌∙◌, subst, arith, eq-eqb}, specs.Prelude.slice_get, specs.List.list_any, proofs.lemmas.Bool.{cases_Bool, cond_both, cond-true, cond-false, and_from, and_parts, not-true, le-ltb}}
-use Rattle.desk_core.{specs.Joins.Language.Deck, specs.Joins.Causes.when, specs.Joins.Edits.{edited_by, first_fault}, specs.Desks.{Desk, DeskDeck, Kept, deck_of, greatest_number}, specs.Joins.Calls.{DeliverDeck, GiveUp, Call, Do, DeckWork, Reply, Stored, Refused, Refusal, Foreign, VersionsSpent}, specs.Answers.{Answer, answers, unless, against_next}, specs.Claiming.{claim, claim_deck, claim_link, hand_out, is_behind, is_free, given, deck_work, start_of, edits_for}, specs.Delivering.{same_deck, lost, stored, is_for}, specs.Joins.Delivered.{foreign_at, result_at}, specs.Steps.answer, specs.Making.{start_deck, start_cards, done_of}, specs.Rounds.{end_of_deck, after_job, after_round}, specs.Joins.OwnNames.{HaveOwnNames, IsPlaceOf, has_lease, changed_at}, specs.Progress.is_given, specs.Joins.Turns.IsAnswer, proofs.Same.same_deck-itself, proofs.PlaceLaws.{named-with, own-with, each}, proofs.TellingDecks.found_told, proofs.Progress.found, proofs.RoundsLeft.{rounds_with, rounds_of, rounds_left, some_of, place_found, place_within, get-with, with-twice, rounds-with, ungiven-with, found-leased}}
+use Rattle.std.{proofs.Common.{◌≡◌, inl, inr, ℕ, ◌+◌, ◌==◌, ◌<◌, ◌≤◌, Bool, true, false, cond, not, ◌&&◌, List, length, find, is_none, Option, Some, None, refl, sym, ap, ◌∙◌, subst, arith, eq-eqb}, specs.Prelude.slice_get, specs.List.list_any, proofs.lemmas.Bool.{cases_Bool, cond_both, cond-true, cond-false, and_from, and_parts, not-true, le-ltb}, proofs.lemmas.Option.slice_get_within}
+use Rattle.desk_core.{specs.Joins.Language.Deck, specs.Joins.Causes.when, specs.Joins.Edits.{edited_by, first_fault}, specs.Desks.{Desk, DeskDeck, Kept, deck_of, greatest_number}, specs.Joins.Calls.{DeliverDeck, GiveUp, Call, Do, DeckWork, Reply, Stored, Refused, Refusal, Foreign, VersionsSpent}, specs.Answers.{Answer, answers, unless, against_next}, specs.Claiming.{claim, claim_deck, claim_link, hand_out, is_behind, is_free, given, deck_work, start_of, edits_for}, specs.Delivering.{same_deck, lost, stored, is_for}, specs.Joins.Delivered.{foreign_at, result_at}, specs.Steps.answer, specs.Making.{start_deck, start_cards, done_of}, specs.Rounds.{end_of_deck, after_job, after_round}, specs.Joins.OwnNames.{HaveOwnNames, IsPlaceOf, has_lease, changed_at}, specs.Progress.is_given, specs.Joins.Turns.IsAnswer, proofs.Same.same_deck-itself, proofs.PlaceLaws.{named-with, own-with, each}, proofs.TellingDecks.found_told, proofs.Progress.found, proofs.RoundsLeft.{rounds_with, rounds_of, rounds_left, some_of, place_found, get-with, with-twice, rounds-with, ungiven-with, found-leased}}
 use Rattle.desk_core.proofs.DeliverDone as deliver_done
 
 -- no lease is out, and each deck has a name of its own
@@ -70,7 +70,7 @@ module _ (desk : Desk) (resting : IsResting desk) (place : ℕ) (deck : DeskDeck
     none = λ e. cc;
     some = λ p e.
         let same : place ≡ p = cc in
-        subst (λ (q : ℕ). (find (has_lease number) out.decks ≡ slice_get out.decks q) × (q < length out.decks)) same (found_there, place_within out.decks place (given number deck) there);
+        subst (λ (q : ℕ). (find (has_lease number) out.decks ≡ slice_get out.decks q) × (q < length out.decks)) same (found_there, slice_get_within out.decks place (given number deck) there);
   }
 
   -- the record is lost: it was there

@@ -1,5 +1,5 @@
 -- A deck known by its place is the deck of its name.
-use Rattle.std.{proofs.Common.{◌≡◌, ℕ, ◌<◌, ◌≤◌, nat_lt, suc, Bool, true, false, cond, not, List, [], ◌∷◌, ◌++◌, length, map, filter, find, remove, get_or, Option, Some, None, is_some, position, refl, sym, ap, ◌∙◌, subst, arith, zero, inl, inr}, specs.Prelude.{slice_get, slice_set}, specs.List.{AllByRecursion, position_or_len}, proofs.lemmas.Bool.{cases_Bool, ltb-true, ltb-false}, proofs.lemmas.List.Folds.find_at, proofs.lemmas.Option.slice_get-get_or}
+use Rattle.std.{proofs.Common.{◌≡◌, ℕ, ◌<◌, nat_lt, suc, Bool, true, false, cond, not, List, [], ◌∷◌, ◌++◌, length, map, filter, find, remove, get_or, Option, Some, None, is_some, position, refl, sym, ap, ◌∙◌, subst, arith, zero, inl, inr}, specs.Prelude.{slice_get, slice_set}, specs.List.{AllByRecursion, position_or_len}, proofs.lemmas.Bool.{cases_Bool, ltb-true, ltb-false}, proofs.lemmas.List.Folds.find_at, proofs.lemmas.Option.{cond_some, slice_get_past, slice_get-get_or}}
 use Rattle.desk_core.{specs.Joins.Language.same_text, specs.Desks.{DeskDeck, is_named, put_if_named}, specs.Joins.OwnNames.{HaveOwnNames, IsPlaceOf, with_at}, proofs.Same.{equal_texts, same_text-itself}, proofs.TellingDecks.{none_found, found_told}}
 
 -- texts that differ differ the other way round
@@ -9,12 +9,8 @@ differ-both a b differ = elim (cases_Bool (same_text b a)) [
   | inr other ↦ other
 ]
 
--- which branch was taken
-taken : (b : Bool) (n place : ℕ) → cond b (Some n) None ≡ Some place → (b ≡ true) × (n ≡ place)
-taken true n place e = (refl, cc)
-taken false n place e = cc
-
-not-taken : (b : Bool) (n : ℕ) → cond b (Some n) None ≡ None → b ≡ false
+-- which branch was not taken
+pub not-taken : (b : Bool) (n : ℕ) → cond b (Some n) None ≡ None → b ≡ false
 not-taken true n e = cc
 not-taken false n e = refl
 
@@ -29,20 +25,15 @@ module _ {X : Type 0} where
   pub fails-at : (test : X → Bool) (xs : List X) (place : ℕ) (x : X) → find test xs ≡ None → slice_get xs place ≡ Some x → test x ≡ false
   fails-at test xs place x none at_place = fails-in test xs place x (none_found test xs none) at_place
 
-  nothing-behind : (xs : List X) (place : ℕ) → length xs ≤ place → slice_get xs place ≡ None
-  nothing-behind [] place behind = refl
-  nothing-behind (x ∷ xs) zero behind = absurd (omega arith)
-  nothing-behind (x ∷ xs) (suc place) behind = nothing-behind xs place (omega arith)
-
   -- where there is no place nothing is found
   pub none-placed : (test : X → Bool) (xs : List X) → position test xs ≡ None → find test xs ≡ None
   none-placed test xs e =
-      find_at test xs ∙ nothing-behind xs (position_or_len test xs) (ltb-false (position_or_len test xs) (length xs) (not-taken _ _ e))
+      find_at test xs ∙ slice_get_past xs (position_or_len test xs) (ltb-false (position_or_len test xs) (length xs) (not-taken _ _ e))
 
   -- what is found stands at its place
   pub some-placed : (test : X → Bool) (xs : List X) (place : ℕ) → position test xs ≡ Some place → (find test xs ≡ slice_get xs place) × (place < length xs)
   some-placed test xs place e =
-      let both = taken (nat_lt (position_or_len test xs) (length xs)) (position_or_len test xs) place e in
+      let both = cond_some (nat_lt (position_or_len test xs) (length xs)) (position_or_len test xs) place e in
       let within = ltb-true (position_or_len test xs) (length xs) both.0 in
       let same : position_or_len test xs ≡ place = both.1 in
       (find_at test xs ∙ ap (λ (n : ℕ). slice_get xs n) same, subst (λ (n : ℕ). n < length xs) same within)

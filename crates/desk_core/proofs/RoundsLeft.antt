@@ -1,5 +1,5 @@
 -- How many rounds a desk needs still: a measure over its decks and its link, and decks of which the one at a place has another form.
-use Rattle.std.{proofs.Common.{◌≡◌, ℕ, zero, suc, ◌+◌, ◌*◌, ◌<◌, ◌≤◌, Bool, true, false, cond, not, ◌||◌, List, [], ◌∷◌, length, find, is_some, Option, Some, None, refl, sym, ap, ◌∙◌, arith}, specs.Prelude.{slice_get, if◌then◌else◌}, specs.List.{list_any, position_or_len}, proofs.lemmas.Bool.{cond-true, cond-false}, proofs.lemmas.List.Folds.find_at}
+use Rattle.std.{proofs.Common.{◌≡◌, ℕ, zero, suc, ◌+◌, ◌*◌, ◌≤◌, Bool, true, false, cond, not, ◌||◌, List, [], ◌∷◌, length, find, is_some, Option, Some, None, refl, sym, ap, ◌∙◌, arith}, specs.Prelude.{slice_get, if◌then◌else◌}, specs.List.{list_any, position_or_len}, proofs.lemmas.Bool.{cond-true, cond-false}, proofs.lemmas.List.Folds.find_at}
 use Rattle.desk_core.{specs.Desks.{Desk, DeskDeck, Kept, Lease, is_leased}, specs.Claiming.{is_behind, is_published}, specs.Joins.OwnNames.{with_at, has_lease}, specs.Progress.is_given, specs.Rounds.most_rounds, proofs.Progress.neither}
 
 -- how many rounds a deck needs at most: none with an object of its version, two with a record, which may be of other cards, and else one
@@ -62,11 +62,6 @@ module _ {X : Type 0} where
   -- the place of what is found
   pub place_found : (test : X → Bool) (xs : List X) (x : X) → find test xs ≡ Some x → (place : ℕ) × (slice_get xs place ≡ Some x)
   place_found test xs x found = (position_or_len test xs, sym (find_at test xs) ∙ found)
-
-  pub place_within : (xs : List X) (place : ℕ) (x : X) → slice_get xs place ≡ Some x → place < length xs
-  place_within [] place x at_place = cc
-  place_within (y ∷ ys) zero x at_place = omega arith
-  place_within (y ∷ ys) (suc place) x at_place = let rest = place_within ys place x at_place in omega arith
 
 -- the deck at the place is in that form
 pub get-with : (form : DeskDeck → DeskDeck) (decks : List DeskDeck) (place : ℕ) (deck : DeskDeck) → slice_get decks place ≡ Some deck → slice_get (with_at place form decks) place ≡ Some (form deck)

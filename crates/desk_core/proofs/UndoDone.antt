@@ -1,6 +1,6 @@
 -- What the code does to the deck at a place to take a change back is what the answer says of the deck of its name.
-use Rattle.std.{proofs.Common.{◌≡◌, ◌≤◌, ℕ, List, [], ◌∷◌, length, Bool, true, false, not, nat_le, nat_lt, refl, arith, sym, ap, ◌∙◌, subst, inl, Option, Some, None}, specs.Prelude.slice_get, proofs.lemmas.Bool.{and_parts, leb-true}, proofs.lemmas.List.length-append}
-use Rattle.desk_core.{specs.Joins.Causes.when, specs.Joins.Edits.Edit, specs.Desks.{Desk, DeskDeck, is_named}, specs.Joins.OwnNames.IsPlaceOf, specs.Joins.Calls.{Reply, Refused, Refusal, OldVersion, Forgotten, NoChange}, specs.Answers.{Answer, unless}, specs.Changing.{is_batch, most_edits}, specs.Carrying.{edit_since, edit_since_of}, specs.Undoing.{backs_at, against_change, undo, undo_where}, specs.Joins.Stored.backs_from, specs.declared.past.Back.Back, specs.Joins.Turns.MayAnswer, proofs.AnswerLaws.{told, all-clear}}
+use Rattle.std.{proofs.Common.{◌≡◌, ◌≤◌, ℕ, List, [], ◌∷◌, length, false, not, nat_le, nat_lt, refl, arith, sym, ap, ◌∙◌, subst, inl, Option, Some, None}, specs.Prelude.slice_get, proofs.lemmas.Bool.{and_parts, not-false, leb-true}, proofs.lemmas.List.length-append}
+use Rattle.desk_core.{specs.Joins.Causes.when, specs.Joins.Edits.Edit, specs.Desks.{Desk, DeskDeck, is_named}, specs.Joins.OwnNames.IsPlaceOf, specs.Joins.Calls.{Reply, Refused, Refusal, OldVersion, Forgotten, NoChange}, specs.Answers.{Answer, unless}, specs.Changing.{is_batch, most_edits}, specs.Carrying.{edit_since, edit_since_of}, specs.Undoing.{backs_at, against_change, undo, undo_where}, specs.Joins.Stored.backs_from, specs.declared.past.Back.Back, specs.Joins.Turns.MayAnswer, proofs.AnswerLaws.{told, no-reason, all-clear}}
 
 -- there are as many edits that take back as there are of what takes back
 pub backs-length : (backs : List Back) → length (backs_from backs) ≡ length backs
@@ -10,15 +10,11 @@ backs-length (back ∷ later) =
     let same = backs-length later in
     omega (arith, more, same)
 
-not-refused : (fits : Bool) (refusal : Refusal) → when (not fits) refusal ≡ None → fits ≡ true
-not-refused true refusal e = refl
-not-refused false refusal e = cc
-
 -- where nothing speaks against what is asked of a version's change, it has no more edits than a batch
 pub few-backs : (version : ℕ) (deck : DeskDeck) → against_change version deck ≡ None → length (backs_at version deck) ≤ 100
 few-backs version deck clear =
     let none = all-clear (when (nat_lt deck.version version) (OldVersion deck.version) ∷ when (nat_le version deck.past.since) (Forgotten deck.past.since) ∷ when (not (is_batch (backs_at version deck))) NoChange ∷ []) clear in
-    let fits = and_parts (nat_le 1 (length (backs_at version deck))) (nat_le (length (backs_at version deck)) most_edits) (not-refused (is_batch (backs_at version deck)) NoChange none.1.1.0) in
+    let fits = and_parts (nat_le 1 (length (backs_at version deck))) (nat_le (length (backs_at version deck)) most_edits) (not-false (is_batch (backs_at version deck)) (no-reason (not (is_batch (backs_at version deck))) NoChange none.1.1.0)) in
     leb-true (length (backs_at version deck)) most_edits fits.1
 
 unless-clear : (against : Option Refusal) (desk : Desk) (a : Answer) → against ≡ None → unless against desk a ≡ a

@@ -1,5 +1,5 @@
 -- What takes an edit back applies to what it leaves, and brings the cards back.
-use Rattle.std.{specs.Prelude.{insert, remove}, proofs.Common.{◌≡◌, ℕ, zero, suc, ◌+◌, ◌-◌, ◌≤◌, ◌<◌, Bool, true, false, not, nat_le, List, [], ◌∷◌, length, get_or, Option, Some, None, refl, ap, ◌∙◌, arith}, proofs.Math.ListN.set, proofs.lemmas.Bool.{leb-true, le-leb, false_from_ne_true, and_from}, proofs.lemmas.List.{length-set, set-get_or}, proofs.lemmas.List.Edits.{length-insert, length-remove}}
+use Rattle.std.{specs.Prelude.{insert, remove}, proofs.Common.{◌≡◌, ℕ, zero, suc, ◌+◌, ◌-◌, ◌≤◌, ◌<◌, Bool, true, false, not, nat_le, List, [], ◌∷◌, length, get_or, Option, Some, None, refl, ap, ◌∙◌, arith}, proofs.Math.ListN.set, proofs.lemmas.Bool.{le-leb, lt-leb, and_from}, proofs.lemmas.List.{length-set, set-get_or}, proofs.lemmas.List.Edits.{length-insert, length-remove}}
 use Rattle.cards.{proofs.FaultLaws.have-places, specs.Converging.HasPlace}
 use Rattle.desk_core.specs.{Joins.Language.Card, Joins.Edits.{Edit, Insert, Replace, Remove, EditFault, NoSuchCard, DeckFull, fault_of, edited, is_place}, Joins.Causes.{when, first_cause}, Past.undo_of}
 
@@ -29,9 +29,6 @@ undo-made (Insert place card) cards has = let low = has.0 in let high = has.1 in
 undo-made (Replace place card) cards has = set-again cards (place - 1) card []
 undo-made (Remove place) cards has = let low = has.0 in let high = has.1 in insert-removed cards (place - 1) (get_or cards (place - 1) []) (omega (arith, low, high)) ∙ set-get_or cards (place - 1) []
 
-not-less : (a b : ℕ) → b < a → nat_le a b ≡ false
-not-less a b less = false_from_ne_true (nat_le a b) (λ is. let at_most = leb-true a b is in absurd (omega (arith, less, at_most)))
-
 is-one : (count place : ℕ) → 1 ≤ place → place ≤ count → is_place count place ≡ true
 is-one count place low high = and_from (nat_le 1 place) (nat_le place count) (le-leb 1 place low) (le-leb place count high)
 
@@ -58,4 +55,4 @@ undo-applies (Remove place) cards has few =
     let low = has.0 in let high = has.1 in
     let less = length-remove cards (place - 1) (omega (arith, low, high)) in
     no-causes _ _ NoSuchCard DeckFull (is-one (length (edited cards (Remove place)) + 1) place low (omega (arith, high, less)))
-    (not-less 20000 (length (edited cards (Remove place))) (omega (arith, low, high, less, few)))
+    (lt-leb 20000 (length (edited cards (Remove place))) (omega (arith, low, high, less, few)))

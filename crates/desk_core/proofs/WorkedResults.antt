@@ -1,5 +1,5 @@
 -- Worked histories: results that come late, records that go back, a deck dropped and added anew, a desk without decks.
-use Rattle.std.proofs.Common.{◌≡◌, ℕ, List, [], ◌∷◌, ◌++◌, reverse, take, codes, Some, None, refl}
+use Rattle.std.proofs.Common.{◌≡◌, ℕ, List, [], ◌∷◌, ◌++◌, reverse, take, map, codes, Some, None, refl}
 use Rattle.desk_core.{specs.Joins.Language.{listing_of, image_of}, specs.Joins.Edits.Replace, specs.Desks.new_desk, specs.Joins.Calls.{Call, FromRecord, FromCards, Changed, Shown, StatusIs, LinkJob, Idle, AllOut, Stored, Cleared, Refused, NoPublication, UnknownJob, Stale, Foreign, Out, Behind, Ready}, specs.Runs.{History, decks_at}, specs.Jobs.{since_job, accepted_edits, handed_edits}, proofs.Worked.{replies_to, history_of, M, deck_m, kept, result, job, A, B, C, D, replace, add, claim, deliver_link, show, give_up, drop, status}}
 
 -- a stale result gives its record back, and the next job carries it with the one edit
@@ -28,15 +28,9 @@ one_job_with_cards = refl
 abbrev told_by : ℕ → History
 told_by count = reverse (history_of (take count edits_and_results) new_desk)
 
--- what the history shows: before any job, with two edits since the first, after the loss, and all that was accepted and handed out
-pub edits_since : since_job 1 (told_by 1) ≡ None
+-- the edits since the latest job: before any, with two since the first, and after the loss; and all that was accepted and handed out
+pub edits_since : map (λ (count : ℕ). since_job 1 (told_by count)) (1 ∷ 5 ∷ 13 ∷ []) ≡ None ∷ Some (Replace 1 (codes "*B") ∷ Replace 1 (codes "*C") ∷ []) ∷ None ∷ []
 edits_since = refl
-
-pub two_edits_since : since_job 1 (told_by 5) ≡ Some (Replace 1 (codes "*B") ∷ Replace 1 (codes "*C") ∷ [])
-two_edits_since = refl
-
-pub none_since_loss : since_job 1 (told_by 13) ≡ None
-none_since_loss = refl
 
 pub all_accepted : accepted_edits 1 (told_by 13) ≡ Replace 1 (codes "*B") ∷ Replace 1 (codes "*C") ∷ Replace 1 (codes "*D") ∷ Replace 1 (codes "*A") ∷ []
 all_accepted = refl

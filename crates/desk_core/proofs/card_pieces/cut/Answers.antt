@@ -1,4 +1,4 @@
-use Rattle.std.{proofs.Common.{◌≡◌, ◌+◌, ◌<◌, List, [], length, take, drop, set, ap, ap₂, ◌∙◌, arith}, specs.Prelude.insert, proofs.lemmas.List.get_or_read}
+use Rattle.std.{proofs.Common.{◌+◌, ◌<◌, List, [], length, take, drop, set, ap, ap₂, ◌∙◌, arith}, specs.Prelude.insert, proofs.lemmas.List.get_or_read}
 use Rattle.desk_core.{specs.Joins.Language.Card, specs.Joins.Pieces.joined, proofs.PieceLaws.joined-cut}
 use Rattle.desk_core.proofs.card_pieces.cut.Goals as goal
 

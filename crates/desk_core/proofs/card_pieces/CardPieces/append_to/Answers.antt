@@ -1,6 +1,6 @@
 -- There is room for each piece.
-use Rattle.std.proofs.Common.{◌≡◌, ◌+◌, ◌≤◌, List, length, take, sym, ap, ◌∙◌, arith}
-use Rattle.desk_core.{specs.Joins.Language.Card, specs.Joins.Pieces.joined, proofs.PieceLaws.piece-room}
+use Rattle.std.proofs.Common.{length, ap, ◌∙◌, arith}
+use Rattle.desk_core.{specs.Joins.Pieces.joined, proofs.PieceLaws.piece-room}
 use Rattle.desk_core.proofs.card_pieces.CardPieces.append_to.Goals as goal
 
 pub append_to-requires : goal.append_to-requires

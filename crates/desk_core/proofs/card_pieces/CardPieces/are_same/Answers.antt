@@ -1,5 +1,5 @@
 -- Cards are distinguished piece by piece.
-use Rattle.std.proofs.{Common.{◌≡◌, ◌+◌, ◌&&◌, ◌==◌, Bool, true, false, List, [], length, take, drop, refl, sym, ap, ap₂, ◌∙◌, arith}, lemmas.Bool.and_left, lemmas.List.drop_all}
+use Rattle.std.proofs.{Common.{◌≡◌, ◌+◌, ◌&&◌, Bool, true, false, List, length, take, drop, sym, ap, ap₂, ◌∙◌, arith}, lemmas.Bool.and_left, lemmas.List.drop_all}
 use Rattle.desk_core.{specs.Joins.Language.Card, specs.Joins.Pieces.joined, specs.Delivering.same_cards, proofs.PieceLaws.{same-next, same-short, same-none}}
 use Rattle.desk_core.proofs.card_pieces.CardPieces.are_same.Goals as goal
 

@@ -1,5 +1,5 @@
-use Rattle.std.proofs.Common.{◌≡◌, ◌∙◌, List, length, None, ap, sym, subst}
-use Rattle.desk_core.{specs.Joins.Language.Card, specs.Desks.DeskDeck, specs.Joins.Edits.{first_fault, edited_by}, specs.Past.{backs_of, behind}, proofs.CardCounts.edited_by-few, proofs.PastLaws.{past-behind, backs-apply}}
+use Rattle.std.proofs.Common.{◌∙◌, sym}
+use Rattle.desk_core.{specs.Joins.Edits.{first_fault, edited_by}, specs.Past.{backs_of, behind}, proofs.CardCounts.edited_by-few, proofs.PastLaws.{past-behind, backs-apply}}
 use Rattle.desk_core.proofs.stored_deck.StoredDeck.carry.Goals as goal
 
 pub seen_at-count-requires-clause-applies : goal.seen_at-count-requires-clause-applies

@@ -1,6 +1,6 @@
 use Rattle.std.proofs.Common.{rules, subst, sym, ap, ap₂, ◌∙◌, ◌≡◌, ◌≤◌, Bool, false, cond, ◌||◌, is_some, ◌++◌, List, length, None}
 use Rattle.cards.specs.declared.carrying.MadeEdit.{MadeEdit}
-use Rattle.desk_core.{specs.Joins.Language.Card, specs.Desks.DeskDeck, specs.Joins.Edits.{Edit, first_fault, edited_by}, specs.declared.past.Back.Back, specs.Past.{Past, KeptEdit, with_edits, trimmed, past_after}, specs.Led.IsPastOf, specs.Changing.edited_deck, specs.Joins.Stored.{backs_made, kept_both}, proofs.CardCounts.edited_by-few, proofs.PastSteps.{kept-batch, batch-length}, proofs.PastLaws.past-more}
+use Rattle.desk_core.{specs.Joins.Language.Card, specs.Desks.DeskDeck, specs.Joins.Edits.{Edit, first_fault, edited_by}, specs.declared.past.Back.Back, specs.Past.{Past, KeptEdit, with_edits, trimmed, past_after}, specs.Led.IsPastOf, specs.Changing.edited_deck, specs.Joins.Stored.kept_both, proofs.CardCounts.edited_by-few, proofs.PastSteps.{kept-batch, batch-length}, proofs.PastLaws.past-more}
 use Rattle.desk_core.proofs.stored_deck.StoredDeck.edit_all.Goals as goal
 
 -- as many edits as there are that take them back

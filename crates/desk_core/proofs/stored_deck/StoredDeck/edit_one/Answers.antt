@@ -1,4 +1,4 @@
-use Rattle.std.proofs.Common.{rules, subst, sym, ap, ◌∙◌, ◌≡◌, ◌≤◌, [], ◌∷◌, List, length, None}
+use Rattle.std.proofs.Common.{rules, subst, sym, ap, ◌≡◌, ◌≤◌, [], ◌∷◌, List, length, None}
 use Rattle.cards.proofs.FaultLaws.{edited-few}
 use Rattle.desk_core.{specs.Joins.Language.Card, specs.Desks.DeskDeck, specs.Joins.Edits.fault_of, specs.Past.{Past, past_after}, specs.Led.IsPastOf, proofs.PastLaws.{past-more, one-applies}}
 use Rattle.desk_core.proofs.stored_deck.StoredDeck.edit_one.Goals as goal
