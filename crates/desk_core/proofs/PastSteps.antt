@@ -1,7 +1,7 @@
 -- What is kept of a deck's changes, as two lists.
-use Rattle.std.{proofs.Common.{◌≡◌, ℕ, zero, suc, ◌+◌, ◌-◌, ◌≤◌, ◌<◌, Bool, true, false, cond, not, List, [], ◌∷◌, ◌++◌, length, take, drop, get_or, Some, None, refl, sym, ap, ap₂, subst, ◌∙◌, arith, nat_lt, length-drop}, specs.Prelude.position, specs.List.position_or_len, proofs.lemmas.Bool.{ltb-true, ltb-false}}
+use Rattle.std.{proofs.Common.{◌≡◌, ℕ, zero, suc, ◌+◌, ◌-◌, ◌≤◌, ◌<◌, Bool, true, false, cond, not, List, [], ◌∷◌, ◌++◌, length, take, drop, get_or, Some, None, refl, sym, ap, ap₂, subst, ◌∙◌, arith, nat_lt, length-drop}, proofs.Math.ListN.drop_of_length-le, proofs.Math.Seq.drop-nil, specs.Prelude.{position, min}, specs.List.position_or_len, proofs.lemmas.Bool.{ltb-true, ltb-false}, proofs.lemmas.List.length-take, proofs.lemmas.Option.cond_some}
 use Rattle.cards.specs.declared.carrying.MadeEdit.{MadeEdit}
-use Rattle.desk_core.specs.{Joins.Language.Card, Joins.Edits.{Edit, edited}, declared.past.Back.Back, Past.{KeptEdit, undo_of, kept_edits, last_version, behind, change_at, backs_of}, Carrying.made_in, Joins.Stored.{kept_both, made_edits, backs_made, backs_from}}
+use Rattle.desk_core.{specs.Joins.Language.Card, specs.Joins.Edits.{Edit, edited}, specs.declared.past.Back.Back, specs.Past.{KeptEdit, undo_of, kept_edits, last_version, behind, change_at, backs_of}, specs.Carrying.made_in, specs.Joins.Stored.{kept_both, made_edits, backs_made, backs_from}, proofs.PlaceLaws.not-taken}
 
 -- two lists of one length, one behind the other
 pub kept-append : (made more : List MadeEdit) (backs others : List Back) → length backs ≡ length made → kept_both (made ++ more) (backs ++ others) ≡ kept_both made backs ++ kept_both more others
@@ -20,16 +20,6 @@ kept-take (suc count) (m ∷ made) (b ∷ backs) = ap (λ (kept : List KeptEdit)
 kept-none : (made : List MadeEdit) → kept_both made [] ≡ []
 kept-none [] = refl
 kept-none (m ∷ made) = refl
-
-abbrev the_none : List KeptEdit
-the_none = []
-
-nothing-dropped : (count : ℕ) → drop count (the_none) ≡ []
-nothing-dropped zero = refl
-nothing-dropped (suc count) = refl
-
-nothing-left : (count : ℕ) → [] ≡ drop count (the_none)
-nothing-left count = sym (nothing-dropped count)
 
 pub kept-drop : (count : ℕ) (made : List MadeEdit) (backs : List Back) → kept_both (drop count made) (drop count backs) ≡ drop count (kept_both made backs)
 kept-drop zero made backs = refl
@@ -73,28 +63,15 @@ behind-head false version count one kept rest =
 -- the edits behind a version begin with the first of a later one
 behind-from : (version : ℕ) (made : List MadeEdit) (backs : List Back) → behind version (kept_both made backs) ≡ drop (position_or_len (is_behind version) made) (kept_both made backs)
 behind-from version [] backs = refl
-behind-from version (m ∷ made) [] = nothing-left (position_or_len (is_behind version) (m ∷ made))
+behind-from version (m ∷ made) [] = sym (drop-nil (position_or_len (is_behind version) (m ∷ made)))
 behind-from version (m ∷ made) (b ∷ backs) =
     behind-head (nat_lt version m.version) version (position_or_len (is_behind version) made) (record { version = m.version; edit = m.edit; back = b.edit; by = b.by }) (kept_both made backs) (behind-from version made backs)
-
-taken : (b : Bool) (n place : ℕ) → cond b (Some n) None ≡ Some place → (b ≡ true) × (n ≡ place)
-taken true n place e = (refl, cc)
-taken false n place e = cc
-
-not-taken : (b : Bool) (n : ℕ) → cond b (Some n) None ≡ None → b ≡ false
-not-taken true n e = cc
-not-taken false n e = refl
-
-none-left : (count : ℕ) (kept : List KeptEdit) → length kept ≤ count → drop count kept ≡ []
-none-left count [] few = nothing-dropped count
-none-left zero (one ∷ kept) few = absurd (omega (arith, few))
-none-left (suc count) (one ∷ kept) few = none-left count kept (omega (arith, few))
 
 -- where one is found
 pub behind-some : (version place : ℕ) (made : List MadeEdit) (backs : List Back) → position (is_behind version) made ≡ Some place →
     (behind version (kept_both made backs) ≡ drop place (kept_both made backs)) × (place < length made)
 behind-some version place made backs found =
-    let both = taken (nat_lt (position_or_len (is_behind version) made) (length made)) (position_or_len (is_behind version) made) place found in
+    let both = cond_some (nat_lt (position_or_len (is_behind version) made) (length made)) (position_or_len (is_behind version) made) place found in
     let within = ltb-true (position_or_len (is_behind version) made) (length made) both.0 in
     (behind-from version made backs ∙ ap (λ (n : ℕ). drop n (kept_both made backs)) both.1, subst (λ (n : ℕ). n < length made) both.1 within)
 
@@ -104,14 +81,16 @@ pub behind-none : (version : ℕ) (made : List MadeEdit) (backs : List Back) →
 behind-none version made backs same none =
     let all = kept-length made backs same in
     let beyond = ltb-false (position_or_len (is_behind version) made) (length made) (not-taken _ _ none) in
-    behind-from version made backs ∙ (none-left (position_or_len (is_behind version) made) (kept_both made backs) (omega (arith, all, beyond)) ∙ sym (none-left (length made) (kept_both made backs) (omega (arith, all))))
+    behind-from version made backs ∙ (drop_of_length-le (kept_both made backs) (omega (arith, all, beyond)) ∙ sym (drop_of_length-le (kept_both made backs) (omega (arith, all))))
+
+-- and so by the edits that were made alone
+pub behind-at : (version count : ℕ) (made seen : List MadeEdit) (backs : List Back) → seen ≡ made → length backs ≡ length made →
+    ((others : List Back) → length others ≡ length seen → behind version (kept_both seen others) ≡ drop count (kept_both seen others)) → behind version (kept_both made backs) ≡ drop count (kept_both made backs)
+behind-at version count made seen backs same counted is =
+    subst (λ (ms : List MadeEdit). behind version (kept_both ms backs) ≡ drop count (kept_both ms backs)) same (is backs (counted ∙ ap length (sym same)))
 
 pub drop-same : (count : ℕ) (made : List MadeEdit) (backs : List Back) → length backs ≡ length made → length (drop count backs) ≡ length (drop count made)
-drop-same zero made backs same = same
-drop-same (suc count) [] [] same = refl
-drop-same (suc count) [] (b ∷ backs) same = cc
-drop-same (suc count) (m ∷ made) [] same = cc
-drop-same (suc count) (m ∷ made) (b ∷ backs) same = drop-same count made backs (omega (arith, same))
+drop-same count made backs same = length-drop count backs ∙ (ap (λ (n : ℕ). n - count) same ∙ sym (length-drop count made))
 
 -- what takes edits back
 pub backs-kept : (made : List MadeEdit) (backs : List Back) → length backs ≡ length made → backs_of (kept_both made backs) ≡ backs_from backs
@@ -127,11 +106,7 @@ made-kept (m ∷ made) [] same = cc
 made-kept (m ∷ made) (b ∷ backs) same = ap (λ (more : List MadeEdit). m ∷ more) (made-kept made backs (omega (arith, same)))
 
 take-same : (count : ℕ) (made : List MadeEdit) (backs : List Back) → length backs ≡ length made → length (take count backs) ≡ length (take count made)
-take-same zero made backs same = refl
-take-same (suc count) [] [] same = refl
-take-same (suc count) [] (b ∷ backs) same = cc
-take-same (suc count) (m ∷ made) [] same = cc
-take-same (suc count) (m ∷ made) (b ∷ backs) same = ap suc (take-same count made backs (omega (arith, same)))
+take-same count made backs same = length-take count backs ∙ (ap (min count) same ∙ sym (length-take count made))
 
 -- what takes back the change of a version: it stands between the places behind the version before and behind this one
 pub backs-between : (version first next : ℕ) (made : List MadeEdit) (backs : List Back) → length backs ≡ length made → first ≤ length made → next ≤ length made →

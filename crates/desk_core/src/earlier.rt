@@ -31,7 +31,7 @@ impl Desk {
         if let Some(refusal) = against_since(deck, since) {
             return Reply::Refused(refusal);
         }
-        match deck.edits_behind(self.alloc, since) {
+        match deck.past().edits_behind(self.alloc, since) {
             Ok(edits) => Reply::ChangesAre(deck.version(), Listed::new(edits)),
             Err(_) => Reply::Refused(Refusal::OutOfMemory),
         }
@@ -72,7 +72,7 @@ fn cards_and_backs(
     ensures backs { IfOk result (λ both. both.1.items ≡ backs_of (edits_behind version deck.now)) }
 {
     let cards = deck.told_cards(alloc)?;
-    let backs = deck.backs_behind(alloc, version)?;
+    let backs = deck.past().backs_behind(alloc, version)?;
     Ok((cards, backs))
 }
 
@@ -83,8 +83,8 @@ pub(crate) fn against_since(deck: &StoredDeck, version: u64) -> Option<Refusal>
     if version > deck.version() {
         return Some(Refusal::OldVersion(deck.version()));
     }
-    if version < deck.since() {
-        return Some(Refusal::Forgotten(deck.since()));
+    if version < deck.past().since() {
+        return Some(Refusal::Forgotten(deck.past().since()));
     }
     None
 }

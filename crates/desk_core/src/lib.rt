@@ -72,7 +72,7 @@ pub use new_deck::NewDeck;
 pub use past::KeptEdit;
 pub use published_texts::{DeckText, PublishedText, show_part, show_text};
 pub use replies::{Refusal, Reply, Row, State};
-pub use shared_publication::{PublicationBefore, SharedPublication};
+pub use shared_publication::SharedPublication;
 pub use shown_text::ShownText;
 pub use stored_deck::StoredDeck;
 pub use told_cards::ToldCards;

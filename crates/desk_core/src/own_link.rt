@@ -14,7 +14,7 @@ use crate::claiming::objects;
 use crate::desk::Desk;
 use crate::leases::is_leased;
 use crate::replies::{Refusal, Reply};
-use crate::shared_publication::{PublicationBefore, SharedPublication};
+use crate::shared_publication::SharedPublication;
 use deck_linker::ListedPublication;
 use std::alloc::AllocError;
 use std::mem::replace;
@@ -63,6 +63,6 @@ impl Desk {
     {
         self.link = None;
         let before = replace(&mut self.publication, Some(publication));
-        Reply::Published(PublicationBefore::new(before))
+        Reply::Published(before)
     }
 }

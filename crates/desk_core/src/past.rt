@@ -144,6 +144,17 @@ impl Past {
         drop_first(&mut self.backs, count);
     }
 
+    /// The edits that were made behind a version, and what takes them back.
+    fn behind(&self, version: u64) -> (&[MadeEdit], &[Back])
+        ensures edits { kept_both result.0.now result.1.now ≡ behind version self.now.edits }
+        ensures same { length result.1.now ≡ length result.0.now }
+        ensures made { result.0.now ≡ made_in (behind version self.now.edits) }
+        ensures backs { backs_from result.1.now ≡ backs_of (behind version self.now.edits) }
+    {
+        let count = count_before(&self.made, version);
+        (rest(&self.made, count), rest(&self.backs, count))
+    }
+
     /// How many cards the deck with these cards had at a version, and the edits that were made behind it.
     pub(crate) fn seen_at(&self, version: u64, cards: &CardPieces) -> (usize, &[MadeEdit])
         requires few { length cards.now ≤ 20000 }
@@ -151,7 +162,8 @@ impl Past {
         ensures count { result.0 ≡ length (edited_by (backs_of (behind version self.now.edits)) cards.now) }
         ensures made { result.1.now ≡ made_in (behind version self.now.edits) }
     {
-        seen_at(self.made.as_slice(), self.backs.as_slice(), version, cards)
+        let (made, backs) = self.behind(version);
+        (count_back(backs, cards), made)
     }
 
     /// The edits behind a version once more.
@@ -162,21 +174,25 @@ impl Past {
     ) -> Result<Vec<KeptEdit>, AllocError>
         ensures { IfOk result (λ edits. edits.items ≡ behind version self.now.edits) }
     {
-        edits_behind(alloc, self.made.as_slice(), self.backs.as_slice(), version)
+        let (made, backs) = self.behind(version);
+        kept_edits(alloc, made, backs)
     }
 
     /// What takes the edits behind a version back, the last first.
     pub(crate) fn backs_behind(&self, alloc: Global, version: u64) -> Result<Vec<Edit>, AllocError>
         ensures { IfOk result (λ backs. backs.items ≡ backs_of (behind version self.now.edits)) }
     {
-        backs_behind(alloc, self.made.as_slice(), self.backs.as_slice(), version)
+        let (_, backs) = self.behind(version);
+        backs_from(alloc, backs)
     }
 
     /// What takes the edits of the change of a version back, in the order of these edits.
     pub(crate) fn backs_at(&self, version: u64) -> &[Back]
         ensures { backs_from result.now ≡ backs_of (change_at version self.now.edits) }
     {
-        backs_at(self.made.as_slice(), self.backs.as_slice(), version)
+        let first = count_before(&self.made, version.saturating_sub(1));
+        let next = count_before(&self.made, version);
+        front(rest(&self.backs, first), next.saturating_sub(first))
     }
 }
 
@@ -228,62 +244,6 @@ fn front<T>(items: &[T], count: usize) -> &[T]
     ensures { result.now ≡ take count items.now }
 {
     items.split_at(count).0
-}
-
-/// The edits behind a version, with what takes them back.
-fn edits_behind(
-    alloc: Global,
-    made: &[MadeEdit],
-    backs: &[Back],
-    version: u64,
-) -> Result<Vec<KeptEdit>, AllocError>
-    requires { length backs.now ≡ length made.now }
-    ensures { IfOk result (λ edits. edits.items ≡ behind version (kept_both made.now backs.now)) }
-{
-    let count = count_before(made, version);
-    kept_edits(alloc, rest(made, count), rest(backs, count))
-}
-
-/// What takes the edits behind a version back, the last first.
-fn backs_behind(
-    alloc: Global,
-    made: &[MadeEdit],
-    backs: &[Back],
-    version: u64,
-) -> Result<Vec<Edit>, AllocError>
-    requires { length backs.now ≡ length made.now }
-    ensures { IfOk result (λ edits. edits.items ≡ backs_of (behind version (kept_both made.now backs.now))) }
-{
-    let count = count_before(made, version);
-    backs_from(alloc, rest(backs, count))
-}
-
-/// What takes the edits of the change of a version back, in the order of these edits.
-fn backs_at<'a>(made: &[MadeEdit], backs: &'a [Back], version: u64) -> &'a [Back]
-    requires { length backs.now ≡ length made.now }
-    ensures { backs_from result.now ≡ backs_of (change_at version (kept_both made.now backs.now)) }
-{
-    let first = count_before(made, version.saturating_sub(1));
-    let next = count_before(made, version);
-    front(rest(backs, first), next.saturating_sub(first))
-}
-
-/// How many cards a deck with these cards had at a version, and the edits that were made behind it.
-fn seen_at<'a>(
-    made: &'a [MadeEdit],
-    backs: &[Back],
-    version: u64,
-    cards: &CardPieces,
-) -> (usize, &'a [MadeEdit])
-    requires few { length cards.now ≤ 20000 }
-    requires same { length backs.now ≡ length made.now }
-    requires applies { first_fault (backs_of (behind version (kept_both made.now backs.now))) cards.now ≡ None }
-    ensures count { result.0 ≡ length (edited_by (backs_of (behind version (kept_both made.now backs.now))) cards.now) }
-    ensures made { result.1.now ≡ made_in (behind version (kept_both made.now backs.now)) }
-{
-    let count = count_before(made, version);
-    let taken = count_back(rest(backs, count), cards);
-    (taken, rest(made, count))
 }
 
 /// How many cards there were before edits that are taken back, the last first.

@@ -8,53 +8,13 @@ use std::alloc::{AllocError, Global};
 use std::marker::Model;
 use std::sync::Arc;
 
-/// Cards that several hold.
-#[derive(Drop)]
-struct CommonCards {
-    cards: Arc<Vec<Card>>,
-}
-
-impl Model for CommonCards {
-    ghost use Rattle.std.specs.Prelude.{List};
-    ghost use Rattle.desk_core.specs.Joins.Language.{Card};
-
-    ghost Value = { List Card };
-
-    ghost view = { λ c. c.cards.value.items };
-}
-
-impl CommonCards {
-    fn new(alloc: Global, cards: Vec<Card>) -> Result<CommonCards, AllocError>
-        ensures { IfOk result (λ common. common ≡ cards.items) }
-    {
-        Ok(CommonCards {
-            cards: Arc::new(alloc, cards)?,
-        })
-    }
-
-    fn as_slice(&self) -> &[Card]
-        ensures { result.now ≡ self.now }
-    {
-        self.cards.as_slice()
-    }
-
-    /// The same cards once more.
-    fn share(&self) -> Result<CommonCards, AllocError>
-        ensures { IfOk result (λ shared. shared ≡ self.now) }
-    {
-        Ok(CommonCards {
-            cards: Arc::clone(&self.cards)?,
-        })
-    }
-}
-
 /// What pieces are parts of. Several hold it, and nobody changes it.
 #[derive(Drop)]
 enum Source {
     /// The cards of an object.
     Object(SharedObject),
     /// Cards alone.
-    Cards(CommonCards),
+    Cards(Arc<Vec<Card>>),
 }
 
 impl Source {
@@ -73,7 +33,7 @@ impl Source {
     {
         match self {
             Source::Object(object) => Ok(Source::Object(object.share()?)),
-            Source::Cards(cards) => Ok(Source::Cards(cards.share()?)),
+            Source::Cards(cards) => Ok(Source::Cards(Arc::clone(cards)?)),
         }
     }
 }
@@ -123,7 +83,7 @@ impl Piece {
     pub(crate) fn of_cards(alloc: Global, cards: Vec<Card>) -> Result<Piece, AllocError>
         ensures { IfOk result (λ piece. piece ≡ cards.items) }
     {
-        Ok(Piece::whole(Source::Cards(CommonCards::new(alloc, cards)?)))
+        Ok(Piece::whole(Source::Cards(Arc::new(alloc, cards)?)))
     }
 
     pub(crate) fn len(&self) -> usize

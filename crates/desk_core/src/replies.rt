@@ -4,7 +4,7 @@ use crate::accepted::Accepted;
 use crate::jobs::{DeckWork, LinkWork};
 use crate::listed::Listed;
 use crate::past::KeptEdit;
-use crate::shared_publication::{PublicationBefore, SharedPublication};
+use crate::shared_publication::SharedPublication;
 use crate::told_cards::ToldCards;
 use cards::{DeckName, Edit, EditFault};
 use thiserror::Error;
@@ -145,7 +145,7 @@ pub enum Reply {
     Stored,
     /// The desk's decks are published; with the publication before, so that who asked lets it go, and no turn
     /// does.
-    Published(PublicationBefore),
+    Published(Option<SharedPublication>),
     /// The lease is ended.
     Cleared,
     /// Nothing is done.

@@ -1,5 +1,5 @@
 //! A publication that several hold.
-ghost use Rattle.std.specs.Prelude.{◌≡◌, option_map, IfOk};
+ghost use Rattle.std.specs.Prelude.{◌≡◌, IfOk};
 
 use deck_linker::ListedPublication;
 use std::alloc::{AllocError, Global};
@@ -53,39 +53,5 @@ impl SharedPublication {
     /// Frees it. Crates above call this in place of `drop` (CONTRIBUTING).
     pub fn free(self) {
         drop(self);
-    }
-}
-
-/// The publication that was there before another one, if one was. Contracts see it.
-#[derive(Drop)]
-pub struct PublicationBefore {
-    publication: Option<SharedPublication>,
-}
-
-impl Model for PublicationBefore {
-    ghost use Rattle.std.specs.Prelude.{Option};
-    ghost use Rattle.desk_core.specs.Desks.{Publication};
-
-    ghost Value = { Option Publication };
-
-    ghost view = { λ b. b.publication };
-}
-
-impl PublicationBefore {
-    /// This publication, or none.
-    pub fn new(publication: Option<SharedPublication>) -> PublicationBefore
-        ensures { result ≡ publication }
-    {
-        PublicationBefore { publication }
-    }
-
-    /// The publication, to look at.
-    pub fn publication(&self) -> Option<&SharedPublication>
-        ensures { option_map (λ one. one.now) result ≡ self.now }
-    {
-        match &self.publication {
-            Some(publication) => Some(publication),
-            None => None,
-        }
     }
 }

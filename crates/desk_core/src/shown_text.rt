@@ -5,7 +5,6 @@ ghost use Rattle.definitions.specs.Build.{listing_of};
 ghost use Rattle.text_ports.specs.Joins.Sending.{Sends, count_after_sending};
 ghost use Rattle.deck_linker.specs.Joins.InPieces.{deck_text};
 ghost use Rattle.deck_linker.specs.Publishing.{lines_in};
-ghost use Rattle.desk_core.specs.Joins.Shown.{shown_bytes};
 
 use deck_linker::{PublishedListing, lines_in};
 use deck_listing::ListedObject;
@@ -23,30 +22,6 @@ enum Source {
     OfDeck(ListedObject),
     /// The listing of a publication.
     OfDecks(PublishedListing),
-}
-
-impl Source {
-    fn lines(&self) -> usize
-        ensures { result ≡ lines_in (shown_bytes self.now) }
-    {
-        match self {
-            Source::Made(text) => lines_in(text.as_slice()),
-            Source::OfDeck(object) => lines_in(object.listing()),
-            Source::OfDecks(listing) => listing.lines(),
-        }
-    }
-
-    fn write<W: Write>(&self, output: &mut Counted<W>) -> Result<(), Broken>
-        ensures sends { Sends (W.contents output.old.0) (W.contents output.new.0) (shown_bytes self.now) result }
-        ensures count { output.new.1 ≡ count_after_sending result output.old.1 }
-        ensures few { IfErr result (λ broken. broken.sent < 2 ^ 63) }
-    {
-        match self {
-            Source::Made(text) => put_all(output, text.as_slice()),
-            Source::OfDeck(object) => put_all(output, object.listing()),
-            Source::OfDecks(listing) => listing.write(output),
-        }
-    }
 }
 
 /// A text of a publication. Contracts see its bytes.
@@ -97,7 +72,11 @@ impl ShownText {
     pub fn lines(&self) -> usize
         ensures { result ≡ lines_in self.now }
     {
-        self.source.lines()
+        match &self.source {
+            Source::Made(text) => lines_in(text.as_slice()),
+            Source::OfDeck(object) => lines_in(object.listing()),
+            Source::OfDecks(listing) => listing.lines(),
+        }
     }
 
     /// Writes it, or exactly the first `sent` bytes of it up to the first fault. Takes no memory.
@@ -106,7 +85,11 @@ impl ShownText {
         ensures count { output.new.1 ≡ count_after_sending result output.old.1 }
         ensures few { IfErr result (λ broken. broken.sent < 2 ^ 63) }
     {
-        self.source.write(output)
+        match &self.source {
+            Source::Made(text) => put_all(output, text.as_slice()),
+            Source::OfDeck(object) => put_all(output, object.listing()),
+            Source::OfDecks(listing) => listing.write(output),
+        }
     }
 
     /// Frees it. Crates above call this in place of `drop` (CONTRIBUTING).

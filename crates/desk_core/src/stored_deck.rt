@@ -5,9 +5,7 @@ ghost use Rattle.desk_core.specs.Joins.Edits.{fault_of, first_fault};
 ghost use Rattle.desk_core.specs.Changing.{added_deck, bad_edit, replaced_deck, edited_deck};
 ghost use Rattle.desk_core.specs.Claiming.{is_behind, is_free, given, deck_work};
 ghost use Rattle.desk_core.specs.Delivering.{is_for, same_deck, lost, given_back, stored};
-ghost use Rattle.desk_core.specs.Past.{backs_of};
 ghost use Rattle.desk_core.specs.Joins.Causes.{first_cause};
-ghost use Rattle.desk_core.specs.Earlier.{edits_behind};
 ghost use Rattle.desk_core.specs.Carrying.{cards_of, carried_since, against_carried};
 ghost use Rattle.desk_core.specs.Undoing.{backs_at};
 ghost use Rattle.desk_core.specs.Joins.Stored.{backs_from};
@@ -23,7 +21,7 @@ use crate::jobs::{DeckWork, Start};
 use crate::leases::{Lease, is_leased, is_leased_at};
 use crate::listed::Listed;
 use crate::new_deck::NewDeck;
-use crate::past::{Back, KeptEdit, Past, edited_cards, made_edits, undo_of};
+use crate::past::{Back, Past, edited_cards, made_edits, undo_of};
 use crate::replies::{Refusal, Row, State};
 use crate::told_cards::ToldCards;
 use cards::{Card, DeckName, Edit, carry, first_fault};
@@ -215,29 +213,11 @@ impl StoredDeck {
         Ok(replace(self, added))
     }
 
-    /// The version behind which all its changes are kept.
-    pub(crate) fn since(&self) -> u64
-        ensures { result ≡ self.now.past.since }
+    /// What is kept of its changes.
+    pub(crate) fn past(&self) -> &Past
+        ensures { result.now ≡ self.now.past }
     {
-        self.past.since()
-    }
-
-    /// Its edits behind a version once more.
-    pub(crate) fn edits_behind(
-        &self,
-        alloc: Global,
-        version: u64,
-    ) -> Result<Vec<KeptEdit>, AllocError>
-        ensures { IfOk result (λ edits. edits.items ≡ edits_behind version self.now) }
-    {
-        self.past.edits_behind(alloc, version)
-    }
-
-    /// What takes its edits behind a version back, the last first.
-    pub(crate) fn backs_behind(&self, alloc: Global, version: u64) -> Result<Vec<Edit>, AllocError>
-        ensures { IfOk result (λ backs. backs.items ≡ backs_of (edits_behind version self.now)) }
-    {
-        self.past.backs_behind(alloc, version)
+        &self.past
     }
 
     /// What takes its edits of the change of a version back, in the order of these edits.

@@ -39,8 +39,8 @@ fn against_change(deck: &StoredDeck, version: u64) -> Option<Refusal>
     if version > deck.version() {
         return Some(Refusal::OldVersion(deck.version()));
     }
-    if version <= deck.since() {
-        return Some(Refusal::Forgotten(deck.since()));
+    if version <= deck.past().since() {
+        return Some(Refusal::Forgotten(deck.past().since()));
     }
     let count = deck.backs_at(version).len();
     if count == 0 || count > MOST_EDITS {

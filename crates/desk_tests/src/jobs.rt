@@ -13,8 +13,8 @@ use deck_linker::ListedPublication;
 use deck_listing::ListedObject;
 use deck_workers::{Job, Made, Runs, job_in};
 use desk_core::{
-    Call, Change, DeckCards, DeckWork, Desk, Done, Edits, Held, Listed, NewDeck, PublicationBefore,
-    Question, Reply, SharedPublication, Start, Work,
+    Call, Change, DeckCards, DeckWork, Desk, Done, Edits, Held, Listed, NewDeck, Question, Reply,
+    SharedPublication, Start, Work,
 };
 use session_commands::Seen;
 use session_line::Called;
@@ -204,8 +204,8 @@ pub fn push_told(answer: &mut Answer, reply: Reply) {
 }
 
 /// That the desk published its decks, and the version that was published before.
-fn push_before(answer: &mut Answer, before: &PublicationBefore) {
-    match before.publication() {
+fn push_before(answer: &mut Answer, before: &Option<SharedPublication>) {
+    match before {
         Some(before) => answer.number("published behind ", before.publication().version()),
         None => answer.push("published, the first"),
     }

@@ -5,7 +5,7 @@ use Rattle.desk_core.specs.{Joins.Language.Card, declared.piece.Source.Source, d
 -- the cards of what pieces are parts of
 abbrev pub source_cards : Source → List Card
 source_cards (Object deck) = deck.cards
-source_cards (Cards cards) = cards
+source_cards (Cards cards) = cards.value.items
 
 -- the cards from one place on, up to another
 abbrev pub part : ℕ → ℕ → List Card → List Card
