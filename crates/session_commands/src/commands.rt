@@ -173,9 +173,7 @@ fn alone(command: Command, rest: &[u8]) -> Result<Command, Refusal>
 fn only_name(rest: &[u8]) -> Result<DeckName, Refusal>
     ensures { result ≡ only_name rest.now }
 {
-    let Some(name) = first_word(rest) else {
-        return Err(Refusal::BadCommand);
-    };
+    let name = first_word(rest).ok_or(Refusal::BadCommand)?;
     if !behind_word(rest).is_empty() {
         return Err(Refusal::BadCommand);
     }
@@ -199,12 +197,8 @@ fn save_over_in(rest: &[u8]) -> Option<SaveOver>
 fn save_in(rest: &[u8]) -> Result<Command, Refusal>
     ensures { result ≡ save_in rest.now }
 {
-    let Some(name) = first_word(rest) else {
-        return Err(Refusal::BadCommand);
-    };
-    let Some(over) = save_over_in(behind_word(rest)) else {
-        return Err(Refusal::BadCommand);
-    };
+    let name = first_word(rest).ok_or(Refusal::BadCommand)?;
+    let over = save_over_in(behind_word(rest)).ok_or(Refusal::BadCommand)?;
     Ok(Command::Save {
         name: name_in(name)?,
         over,
@@ -260,9 +254,7 @@ fn cards_by(name: &[u8], view: Option<CardsView>, at: Option<u64>) -> Result<Com
 fn cards_in(rest: &[u8]) -> Result<Command, Refusal>
     ensures { result ≡ cards_in rest.now }
 {
-    let Some(name) = first_word(rest) else {
-        return Err(Refusal::BadCommand);
-    };
+    let name = first_word(rest).ok_or(Refusal::BadCommand)?;
     let rest = behind_word(rest);
     cards_by(name, view_in(rest), at_in(rest))
 }
@@ -284,12 +276,8 @@ fn sought_in(rest: &[u8]) -> Option<Card>
 fn find_in(rest: &[u8]) -> Result<Command, Refusal>
     ensures { result ≡ find_in rest.now }
 {
-    let Some(name) = first_word(rest) else {
-        return Err(Refusal::BadCommand);
-    };
-    let Some(text) = sought_in(behind_word(rest)) else {
-        return Err(Refusal::BadCommand);
-    };
+    let name = first_word(rest).ok_or(Refusal::BadCommand)?;
+    let text = sought_in(behind_word(rest)).ok_or(Refusal::BadCommand)?;
     Ok(Command::Cards {
         name: name_in(name)?,
         view: CardsView::With(text),
@@ -377,9 +365,7 @@ fn status_in(rest: &[u8]) -> Result<Command, Refusal>
 fn wait_in(rest: &[u8]) -> Result<Command, Refusal>
     ensures { result ≡ wait_in rest.now }
 {
-    let Some(version) = first_number(rest) else {
-        return Err(Refusal::BadCommand);
-    };
+    let version = first_number(rest).ok_or(Refusal::BadCommand)?;
     if !behind_word(rest).is_empty() {
         return Err(Refusal::BadCommand);
     }
@@ -390,13 +376,9 @@ fn wait_in(rest: &[u8]) -> Result<Command, Refusal>
 fn named_version(rest: &[u8]) -> Result<(DeckName, u64), Refusal>
     ensures { result ≡ named_version rest.now }
 {
-    let Some(name) = first_word(rest) else {
-        return Err(Refusal::BadCommand);
-    };
+    let name = first_word(rest).ok_or(Refusal::BadCommand)?;
     let rest = behind_word(rest);
-    let Some(version) = first_number(rest) else {
-        return Err(Refusal::BadCommand);
-    };
+    let version = first_number(rest).ok_or(Refusal::BadCommand)?;
     if !behind_word(rest).is_empty() {
         return Err(Refusal::BadCommand);
     }
@@ -431,17 +413,11 @@ fn undo_in(rest: &[u8]) -> Result<Command, Refusal>
 fn edit_in(kind: EditKind, rest: &[u8]) -> Result<Command, Refusal>
     ensures { result ≡ edit_in kind rest.now }
 {
-    let Some(name) = first_word(rest) else {
-        return Err(Refusal::BadCommand);
-    };
+    let name = first_word(rest).ok_or(Refusal::BadCommand)?;
     let rest = behind_word(rest);
-    let Some(seen) = first_seen(rest) else {
-        return Err(Refusal::BadCommand);
-    };
+    let seen = first_seen(rest).ok_or(Refusal::BadCommand)?;
     let rest = behind_word(rest);
-    let Some(at) = first_number(rest) else {
-        return Err(Refusal::BadCommand);
-    };
+    let at = first_number(rest).ok_or(Refusal::BadCommand)?;
     let rest = behind_word(rest);
     if !fits_edit(kind, rest) {
         return Err(Refusal::BadCommand);
@@ -469,17 +445,11 @@ fn is_put_size(count: u64) -> bool
 fn head_in(rest: &[u8]) -> Result<BatchHead, Refusal>
     ensures { result ≡ head_in rest.now }
 {
-    let Some(name) = first_word(rest) else {
-        return Err(Refusal::BadCommand);
-    };
+    let name = first_word(rest).ok_or(Refusal::BadCommand)?;
     let rest = behind_word(rest);
-    let Some(seen) = first_seen(rest) else {
-        return Err(Refusal::BadCommand);
-    };
+    let seen = first_seen(rest).ok_or(Refusal::BadCommand)?;
     let rest = behind_word(rest);
-    let Some(count) = first_number(rest) else {
-        return Err(Refusal::BadCommand);
-    };
+    let count = first_number(rest).ok_or(Refusal::BadCommand)?;
     if !behind_word(rest).is_empty() {
         return Err(Refusal::BadCommand);
     }

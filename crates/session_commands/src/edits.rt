@@ -51,12 +51,8 @@ pub fn read_batch_line(line: &[u8]) -> Result<Edit, Refusal>
     ensures edit { result ≡ edit_in_batch line.now }
 {
     let rest = from_blank(line);
-    let Some(kind) = edit_kind_of(to_blank(line)) else {
-        return Err(Refusal::BadCommand);
-    };
-    let Some(at) = first_number(rest) else {
-        return Err(Refusal::BadCommand);
-    };
+    let kind = edit_kind_of(to_blank(line)).ok_or(Refusal::BadCommand)?;
+    let at = first_number(rest).ok_or(Refusal::BadCommand)?;
     if !fits_edit(kind, behind_word(rest)) {
         return Err(Refusal::BadCommand);
     }
