@@ -1,6 +1,5 @@
 pub mod ConnectionSteps
 pub mod SessionSteps
-pub mod OpeningSteps
 pub mod PlaceSteps
 pub mod KeptChanges
 pub mod PageSessions

@@ -3,7 +3,7 @@ use Rattle.std.specs.{Prelude.{ℕ, ◌≡◌, ◌+◌, ◌==◌, ◌<◌, ◌&&
 use Rattle.text_ports.specs.{Faults.{count_up, count_after_flush, count_after_line}, Lines.ReadsLine, declared.lines.LineIs.LineIs}
 use Rattle.text_ports.specs.declared.lines.LineIs.TheVariants as line
 use Rattle.deck_files.specs.ShelfRelations.{ShelfRelations}
-use Rattle.session_line.specs.{declared.rights.Rights.Rights, declared.serving.Outcome.Outcome, declared.serving.Outcome.TheVariants.{Served, Ended, ReadFault, WriteFault}, Serving.{Sides, Serves, ServesBehind, read_faults_after, write_faults_after}, DeskRelations.DeskRelations}
+use Rattle.session_line.specs.{declared.rights.Rights.Rights, declared.serving.Outcome.Outcome, declared.serving.Outcome.TheVariants.{Served, Ended, ReadFault, WriteFault}, Serving.{Sides, sides, Serves, ServesBehind, read_faults_after, write_faults_after}, DeskRelations.DeskRelations}
 use Rattle.session_commands.specs.Strangers.{is_command, is_request_of_http}
 use Rattle.desk_service.specs.declared.{openings.Opening.Opening, sessions.Ending.Ending}
 use Rattle.desk_service.specs.declared.openings.Opening.TheVariants as opening
@@ -66,6 +66,10 @@ pub record Standing (C S : Type 0) : Type 0 where
 abbrev pub standing : {C S : Type 0} → Sides C S → ℕ → ℕ → Standing C S
 standing sides reads writes = record { sides = sides; read_faults = reads; write_faults = writes }
 
+-- the same, of a reader and a writer that count their faults
+abbrev pub between : {R W C S : Type 0} → (R → Option (List ℕ)) → (W → Option (List ℕ)) → R × ℕ → W × ℕ → C → S → Standing C S
+between remaining contents input output desk shelf = standing (sides (remaining input.0) (contents output.0) desk shelf) input.1 output.1
+
 -- the reader's count of faults once a line was served, by how the session ends there, if it ends: it rises where the session ends by the reader's fault
 abbrev pub read_faults_at : Option Ending → ℕ → ℕ
 read_faults_at (Some ending.ReadFault) faults = count_up faults
@@ -95,28 +99,25 @@ module _ {C S : Type 0} where
     pub reader : new.read_faults ≡ count_after_line answer old.read_faults
     pub writer : new.write_faults ≡ old.write_faults
 
-module _ {C S : Type 0} (rights : Rights) (calls : DeskRelations C) (files : ShelfRelations S) where
-  -- one line is served, its reply is sent on, and this is how the session ends there, if it ends
-  pub record ServesLine (old new : Standing C S) (told : Option Ending) : Type 0 where
+  -- one line is served so, its reply is sent on, and nothing behind a fault, and this is how the session ends there, if it ends
+  pub record ServesSo (serves : Sides C S → Sides C S → Outcome → Type 0) (old new : Standing C S) (told : Option Ending) : Type 0 where
     pub middle : Standing C S
     pub outcome : Outcome
     pub flushed : Bool
-    pub served : Serves rights calls files old.sides middle.sides outcome
+    pub served : serves old.sides middle.sides outcome
     pub reads : middle.read_faults ≡ read_faults_after outcome old.read_faults
     pub writes : middle.write_faults ≡ write_faults_after outcome old.write_faults
     pub sent : SendsOn flushed middle new
+    pub silent : is_fault outcome ≡ true → flushed ≡ true
     pub ends : told ≡ ending_after outcome flushed
 
-  -- one line is served that was taken already
-  pub record ServesTaken (text : List ℕ) (old new : Standing C S) (told : Option Ending) : Type 0 where
-    pub middle : Standing C S
-    pub outcome : Outcome
-    pub flushed : Bool
-    pub served : ServesBehind rights calls files text old.sides middle.sides outcome
-    pub reads : middle.read_faults ≡ read_faults_after outcome old.read_faults
-    pub writes : middle.write_faults ≡ write_faults_after outcome old.write_faults
-    pub sent : SendsOn flushed middle new
-    pub ends : told ≡ ending_after outcome flushed
+module _ {C S : Type 0} (rights : Rights) (calls : DeskRelations C) (files : ShelfRelations S) where
+  -- one line is served, or one that was taken already, and its reply is sent on
+  abbrev pub ServesLine : Standing C S → Standing C S → Option Ending → Type 0
+  ServesLine = ServesSo (Serves rights calls files)
+
+  abbrev pub ServesTaken : List ℕ → Standing C S → Standing C S → Option Ending → Type 0
+  ServesTaken text = ServesSo (ServesBehind rights calls files text)
 
   -- one of the first lines: none came; or it is the first and a request of HTTP, and is taken and nothing else; or it is served
   pub data OpensLine (is_first : Bool) (old new : Standing C S) (what : Opening) : Type 0 where

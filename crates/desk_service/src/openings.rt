@@ -1,10 +1,8 @@
 //! The first lines of a session: up to the first that is a command. A client of another protocol, as a browser
 //! that was sent here, gets no further.
-ghost use Rattle.std.specs.Prelude.{◌≡◌, Some, true, false};
-ghost use Rattle.text_ports.specs.Faults.{count_after_line};
-ghost use Rattle.session_line.specs.Serving.{sides};
+ghost use Rattle.std.specs.Prelude.{◌≡◌};
 ghost use Rattle.session_commands.specs.Strangers.{is_command, is_request_of_http};
-ghost use Rattle.desk_service.specs.Sessions.{OpensLine, OpensSession, ServesTaken, ending_in, ending_without, is_turned_away, opening_of, read_faults_at, standing, write_faults_at};
+ghost use Rattle.desk_service.specs.Sessions.{OpensLine, OpensSession, between, ending_without, is_turned_away, opening_of};
 
 use crate::sessions::{Ending, ending_after, send_on};
 use deck_files::Shelf;
@@ -58,28 +56,6 @@ fn is_turned_away(is_first: bool, line: &[u8]) -> bool
     is_first && is_request_of_http(line)
 }
 
-/// Serves a line that was taken already, and sends on what the writer keeps back.
-fn serve_taken_line<R: Read, W: Write, C: Calls, S: Shelf>(
-    alloc: Global,
-    keys: RandomState,
-    rights: Rights,
-    line: &[u8],
-    input: &mut Counted<R>,
-    output: &mut Counted<W>,
-    desk: &mut C,
-    shelf: &mut S,
-) -> Option<Ending>
-    ensures line { ServesTaken rights C.relations S.relations line.now
-        (standing (sides (R.remaining input.old.0) (W.contents output.old.0) desk.old shelf.old) input.old.1 output.old.1)
-        (standing (sides (R.remaining input.new.0) (W.contents output.new.0) desk.new shelf.new) input.new.1 output.new.1) result }
-    ensures read_faults { input.new.1 ≡ read_faults_at result input.old.1 }
-    ensures write_faults { output.new.1 ≡ write_faults_at result output.old.1 }
-{
-    let outcome = serve_taken(alloc, keys, rights, line, input, output, desk, shelf);
-    let flushed = send_on(output, outcome);
-    ending_after(outcome, flushed)
-}
-
 /// Takes one of the first lines, and serves it where the session does not end there.
 fn open_line<R: Read, W: Write, C: Calls, S: Shelf>(
     alloc: Global,
@@ -91,11 +67,8 @@ fn open_line<R: Read, W: Write, C: Calls, S: Shelf>(
     desk: &mut C,
     shelf: &mut S,
 ) -> Opening
-    ensures line { OpensLine rights C.relations S.relations is_first
-        (standing (sides (R.remaining input.old.0) (W.contents output.old.0) desk.old shelf.old) input.old.1 output.old.1)
-        (standing (sides (R.remaining input.new.0) (W.contents output.new.0) desk.new shelf.new) input.new.1 output.new.1) result }
-    ensures read_faults { input.new.1 ≡ read_faults_at (ending_in result) input.old.1 }
-    ensures write_faults { output.new.1 ≡ write_faults_at (ending_in result) output.old.1 }
+    ensures { OpensLine rights C.relations S.relations is_first
+        (between R.remaining W.contents input.old output.old desk.old shelf.old) (between R.remaining W.contents input.new output.new desk.new shelf.new) result }
 {
     let mut buffer = LineBuf::new();
     let answer = next_line(input, &mut buffer);
@@ -106,8 +79,9 @@ fn open_line<R: Read, W: Write, C: Calls, S: Shelf>(
     if is_turned_away(is_first, line) {
         return Opening::Ended(Ending::Request);
     }
-    let told = serve_taken_line(alloc, keys, rights, line, input, output, desk, shelf);
-    opening_of(told, is_command(line))
+    let outcome = serve_taken(alloc, keys, rights, line, input, output, desk, shelf);
+    let flushed = send_on(output, outcome);
+    opening_of(ending_after(outcome, flushed), is_command(line))
 }
 
 /// Serves the first lines of a session, up to the first that is a command or ends it: how it ends there, if it
@@ -122,11 +96,8 @@ pub(crate) fn open_session<R: Read, W: Write, C: Calls, S: Shelf>(
     desk: &mut C,
     shelf: &mut S,
 ) -> Option<Ending>
-    ensures opens { OpensSession rights C.relations S.relations
-        (standing (sides (R.remaining input.old.0) (W.contents output.old.0) desk.old shelf.old) input.old.1 output.old.1)
-        (standing (sides (R.remaining input.new.0) (W.contents output.new.0) desk.new shelf.new) input.new.1 output.new.1) result }
-    ensures read_faults { input.new.1 ≡ read_faults_at result input.old.1 }
-    ensures write_faults { output.new.1 ≡ write_faults_at result output.old.1 }
+    ensures { OpensSession rights C.relations S.relations
+        (between R.remaining W.contents input.old output.old desk.old shelf.old) (between R.remaining W.contents input.new output.new desk.new shelf.new) result }
 {
     for number in 0..MOST_STRANGE {
         match open_line(alloc, keys, rights, number == 0, input, output, desk, shelf) {

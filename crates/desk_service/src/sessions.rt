@@ -3,7 +3,7 @@ ghost use Rattle.std.specs.Prelude.{◌≡◌, true, Some};
 ghost use Rattle.std.specs.Io.KnownBytes.{Keeps};
 ghost use Rattle.text_ports.specs.Faults.{count_after_flush};
 ghost use Rattle.session_line.specs.Serving.{sides};
-ghost use Rattle.desk_service.specs.Sessions.{ServesLine, ServesSession, ServesToEnd, ending_after, is_fault, standing, read_faults_at, write_faults_at};
+ghost use Rattle.desk_service.specs.Sessions.{ServesLine, ServesSession, ServesToEnd, between, ending_after, is_fault, standing, read_faults_at, write_faults_at};
 
 use crate::openings::open_session;
 use deck_files::Shelf;
@@ -69,11 +69,8 @@ fn serve_line<R: Read, W: Write, C: Calls, S: Shelf>(
     desk: &mut C,
     shelf: &mut S,
 ) -> Option<Ending>
-    ensures line { ServesLine rights C.relations S.relations
-        (standing (sides (R.remaining input.old.0) (W.contents output.old.0) desk.old shelf.old) input.old.1 output.old.1)
-        (standing (sides (R.remaining input.new.0) (W.contents output.new.0) desk.new shelf.new) input.new.1 output.new.1) result }
-    ensures read_faults { input.new.1 ≡ read_faults_at result input.old.1 }
-    ensures write_faults { output.new.1 ≡ write_faults_at result output.old.1 }
+    ensures { ServesLine rights C.relations S.relations
+        (between R.remaining W.contents input.old output.old desk.old shelf.old) (between R.remaining W.contents input.new output.new desk.new shelf.new) result }
 {
     let outcome = serve_one(alloc, keys, rights, input, output, desk, shelf);
     let flushed = send_on(output, outcome);
@@ -92,11 +89,8 @@ fn serve_lines<R: Read, W: Write, C: Calls, S: Shelf>(
     desk: &mut C,
     shelf: &mut S,
 ) -> Ending
-    ensures session { ServesToEnd rights C.relations S.relations
-        (standing (sides (R.remaining input.old.0) (W.contents output.old.0) desk.old shelf.old) input.old.1 output.old.1)
-        (standing (sides (R.remaining input.new.0) (W.contents output.new.0) desk.new shelf.new) input.new.1 output.new.1) result }
-    ensures read_faults { input.new.1 ≡ read_faults_at (Some result) input.old.1 }
-    ensures write_faults { output.new.1 ≡ write_faults_at (Some result) output.old.1 }
+    ensures { ServesToEnd rights C.relations S.relations
+        (between R.remaining W.contents input.old output.old desk.old shelf.old) (between R.remaining W.contents input.new output.new desk.new shelf.new) result }
 {
     for _ in 0..MOST_COMMANDS {
         if let Some(ending) = serve_line(alloc, keys, rights, input, output, desk, shelf) {

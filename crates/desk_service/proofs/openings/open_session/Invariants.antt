@@ -1,14 +1,8 @@
-use Rattle.std.proofs.Common.{◌≡◌}
-use Rattle.session_line.specs.Serving.{sides}
-use Rattle.desk_service.specs.Sessions.{OpensLines, standing}
+use Rattle.desk_service.specs.Sessions.{OpensLines, between}
 use Rattle.desk_service.proofs.openings.open_session.Given as goal
 
--- so many lines that are no commands, none of which ended the session, and no port failed
+-- so many lines that are no commands, none of which ended the session
 abbrev pub invariant-loop-number : goal.invariant-loop-number
-invariant-loop-number g l = record {
-  lines : OpensLines l.rights g.C.Calls.relations g.S.Shelf.relations
-      (standing (sides (g.R.Read.remaining l.fn.input.0) (g.W.Write.contents l.fn.output.0) l.fn.desk l.fn.shelf) l.fn.input.1 l.fn.output.1)
-      (standing (sides (g.R.Read.remaining l.input.0) (g.W.Write.contents l.output.0) l.desk l.shelf) l.input.1 l.output.1) l.number;
-  reader : l.input.1 ≡ l.fn.input.1;
-  writer : l.output.1 ≡ l.fn.output.1;
-}
+invariant-loop-number g l =
+    OpensLines l.rights g.C.Calls.relations g.S.Shelf.relations (between g.R.Read.remaining g.W.Write.contents l.fn.input l.fn.output l.fn.desk l.fn.shelf)
+    (between g.R.Read.remaining g.W.Write.contents l.input l.output l.desk l.shelf) l.number
