@@ -42,14 +42,6 @@ enum Arrival {
     NoSessions,
 }
 
-/// What a look at the port finds.
-#[derive(Drop)]
-enum Coming {
-    Client(TcpStream),
-    Nobody,
-    Fault,
-}
-
 /// Reports to a client that all sessions are taken, and closes the connection. Nothing waits for the client:
 /// the line finds room in a new connection.
 fn turn_away(stream: &TcpStream) {
@@ -77,16 +69,6 @@ fn offer_to_read<R: Wait>(rt: &R, stream: TcpStream, to_read: &Sender<ToRead>) -
             turn_away(&stream);
             Arrival::TurnedAway
         }
-    }
-}
-
-/// A look at the port, which waits for a client where that is wanted.
-fn look_at_port(listener: &TcpListener, waits: bool) -> Coming {
-    let _ = listener.set_nonblocking(!waits);
-    match listener.accept() {
-        Ok((stream, _)) => Coming::Client(stream),
-        Err(error) if error.kind() == ErrorKind::WouldBlock => Coming::Nobody,
-        Err(_) => Coming::Fault,
     }
 }
 
@@ -153,17 +135,20 @@ fn receive_next<R: Wait + Clock>(
     arrivals: &Arrivals,
     end: &ServiceEnd,
 ) -> Arrival {
-    let coming = look_at_port(listener, lobby.is_empty());
+    let _ = listener.set_nonblocking(!lobby.is_empty());
+    let coming = listener.accept();
     if end.is_asked(rt) {
         return Arrival::NoSessions;
     }
     match coming {
-        Coming::Client(stream) => match let_wait(rt, lobby, stream, arrivals) {
+        Ok((stream, _)) => match let_wait(rt, lobby, stream, arrivals) {
             Arrival::Waiting => offer_first(rt, lobby, arrivals, Duration::ZERO),
             arrival => arrival,
         },
-        Coming::Nobody => offer_first(rt, lobby, arrivals, Duration::from_millis(LOOK)),
-        Coming::Fault => {
+        Err(error) if error.kind() == ErrorKind::WouldBlock => {
+            offer_first(rt, lobby, arrivals, Duration::from_millis(LOOK))
+        }
+        Err(_) => {
             let _ = thread::sleep(rt, Duration::from_millis(PAUSE));
             Arrival::Failed
         }

@@ -185,11 +185,8 @@ impl Seen {
     /// A folder that is not asked what it has seen, and keeps nothing of it.
     pub(crate) fn unasked(alloc: Global) -> Seen {
         Seen {
-            bound: 0,
-            owner: Text::new(alloc),
-            noted: None,
-            begin: 0,
             is_kept: false,
+            ..Seen::nothing(alloc)
         }
     }
 
