@@ -1,4 +1,3 @@
-pub mod ConnectionSteps
 pub mod SessionSteps
 pub mod PlaceSteps
 pub mod KeptChanges

@@ -3,6 +3,7 @@
 ghost use Rattle.std.specs.Prelude.{◌≡◌, IfOk};
 ghost use Rattle.desk_service.specs.Connections.{rights_of};
 
+use crate::seating::Channels;
 use crossbeam_channel::{Receiver, RecvError};
 use session_line::Rights;
 use std::alloc::AllocError;
@@ -43,15 +44,11 @@ impl Clients {
 }
 
 /// Where a session gets its clients from that may do this.
-pub(crate) fn clients_for(
-    rights: Rights,
-    to_edit: &Receiver<ToEdit>,
-    to_read: &Receiver<ToRead>,
-) -> Result<Clients, AllocError>
+pub(crate) fn clients_for(rights: Rights, channels: &Channels) -> Result<Clients, AllocError>
     ensures { IfOk result (λ clients. rights_of clients ≡ rights) }
 {
     match rights {
-        Rights::Edits => Ok(Clients::Editing(to_edit.clone()?)),
-        Rights::Reads => Ok(Clients::Reading(to_read.clone()?)),
+        Rights::Edits => Ok(Clients::Editing(channels.received.clone()?)),
+        Rights::Reads => Ok(Clients::Reading(channels.received_to_read.clone()?)),
     }
 }

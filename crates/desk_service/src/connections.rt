@@ -35,8 +35,10 @@ fn close_unwritten(stream: &TcpStream, ending: Ending) {
 }
 
 /// How a session serves connections.
-#[derive(Clone, Copy)]
-pub(crate) struct Serving<'a> {
+#[derive(Drop)]
+pub(crate) struct Serving<'a, R> {
+    pub(crate) rt: &'a R,
+    pub(crate) alloc: Global,
     /// The keys of its tables.
     pub(crate) keys: RandomState,
     /// The number of its place.
@@ -53,48 +55,39 @@ pub(crate) struct Serving<'a> {
 /// Serves a connection to its end, whose client may take nothing of a reply for half a minute at most. Where
 /// there is no memory for its buffers it is closed at once.
 fn serve_connection<R: Clock, C: Calls, S: Shelf>(
-    rt: &R,
-    alloc: Global,
+    serving: &Serving<'_, R>,
     stream: &TcpStream,
-    serving: Serving<'_>,
     desk: &mut C,
     shelf: &mut S,
 )
-    ensures { ServesConnection serving.entry.rights C.relations S.relations desk.old shelf.old desk.new shelf.new }
+    ensures { ServesConnection serving.now.rights C.relations S.relations desk.old shelf.old desk.new shelf.new }
 {
-    let Serving {
-        keys,
-        rights,
-        idle,
-        ..
-    } = serving;
+    let (alloc, keys, idle) = (serving.alloc, serving.keys, serving.idle);
     let _ = stream.set_nodelay(true);
-    let Ok(reader) = BufReader::new(alloc, PatientReader::new(rt, stream, idle)) else {
+    let Ok(reader) = BufReader::new(alloc, PatientReader::new(serving.rt, stream, idle)) else {
         return;
     };
     let Ok(writer) = BufWriter::new(alloc, PatientWriter::new(stream, idle)) else {
         return;
     };
     let (mut input, mut output) = (Counted::new(reader), Counted::new(writer));
+    let rights = serving.rights;
     let ending = serve_session(alloc, keys, rights, &mut input, &mut output, desk, shelf);
     close_unwritten(stream, ending);
 }
 
 /// Serves a connection that came; where the end of the service is asked for it is closed at once.
 fn serve_arrival<R: Wait + Clock, C: Calls, S: Shelf>(
-    rt: &R,
-    alloc: Global,
+    serving: &Serving<'_, R>,
     stream: &TcpStream,
-    serving: Serving<'_>,
     desk: &mut C,
     shelf: &mut S,
 )
-    ensures { ServesConnection serving.entry.rights C.relations S.relations desk.old shelf.old desk.new shelf.new }
+    ensures { ServesConnection serving.now.rights C.relations S.relations desk.old shelf.old desk.new shelf.new }
 {
-    let Serving { session, end, .. } = serving;
-    if end.enter(rt, session, stream) {
-        serve_connection(rt, alloc, stream, serving, desk, shelf);
-        end.leave(rt, session);
+    if serving.end.enter(serving.rt, serving.session, stream) {
+        serve_connection(serving, stream, desk, shelf);
+        serving.end.leave(serving.rt, serving.session);
     }
 }
 
@@ -102,24 +95,22 @@ fn serve_arrival<R: Wait + Clock, C: Calls, S: Shelf>(
 /// service is asked for; with `once` it ends after one. Desk and shelf are called by these sessions and
 /// by nothing else.
 pub(crate) fn serve_connections<R: Wait + Clock, C: Calls, S: Shelf>(
-    rt: &R,
-    alloc: Global,
+    serving: &Serving<'_, R>,
     clients: &Clients,
-    serving: Serving<'_>,
     desk: &mut C,
     shelf: &mut S,
 ) -> Closed
-    ensures { (count : ℕ) × ServesConnections serving.entry.rights C.relations S.relations desk.old shelf.old desk.new shelf.new count × EndsAfter result serving.entry.once count }
+    ensures { (count : ℕ) × ServesConnections serving.now.rights C.relations S.relations desk.old shelf.old desk.new shelf.new count × EndsAfter result serving.now.once count }
 {
-    for _ in rt.forever() {
-        let Ok(stream) = clients.next(rt) else {
+    for _ in serving.rt.forever() {
+        let Ok(stream) = clients.next(serving.rt) else {
             return Closed::NoMore;
         };
-        serve_arrival(rt, alloc, &stream, serving, desk, shelf);
+        serve_arrival(serving, &stream, desk, shelf);
         if serving.once {
             return Closed::Once;
         }
-        if serving.end.is_asked(rt) {
+        if serving.end.is_asked(serving.rt) {
             return Closed::Asked;
         }
     }

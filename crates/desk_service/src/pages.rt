@@ -8,16 +8,13 @@ ghost use Rattle.std.specs.Prelude.{◌≡◌, ◌+◌, ◌-◌, ◌≤◌, All,
 ghost use Rattle.turn_office.specs.Seats.{AreOf};
 ghost use Rattle.desk_service.specs.Seating.{page_threads, session_count, AreForPage, IsPlaceOf};
 
-use crate::journals::Journal;
 use crate::lobby::{Guest, Heard, Lobby, Speak};
 use crate::page_lines::DeskLines;
-use crate::places::{Serve, SessionDoor, session_door, take_seat};
+use crate::places::{Serve, SessionDoor, Site, door_and_shelf};
 use crate::service_end::ServiceEnd;
-use crate::session_ends::Others;
-use crate::settings::Settings;
 use crate::timed_stream::TimedStream;
 use crossbeam_channel::Sender;
-use deck_files::{FolderShelf, KnownFiles, Shelf};
+use deck_files::{FolderShelf, Shelf};
 use deck_workers::Bell;
 use desk_core::Desk;
 use journal::RecordsFile;
@@ -32,7 +29,7 @@ use std::rt::Files;
 use std::sync::{Mutex, Wait};
 use std::thread;
 use std::time::{Clock, Duration};
-use turn_office::{Office, SeatList};
+use turn_office::SeatList;
 
 /// How many connections of browsers are served at once, each by a thread of its own; others wait.
 pub(crate) const PAGE_THREADS: usize = 4;
@@ -194,16 +191,10 @@ where
     R::Dir: Send,
 {
     fn serve(self) {
-        let PagePlace {
-            rt,
-            alloc,
-            door,
-            session,
-            end,
-            mut page,
-        } = self;
+        let mut place = self;
+        let (rt, alloc, door) = (place.rt, place.alloc, place.door);
         for _ in rt.forever() {
-            if !serve_next(rt, alloc, door, session, end, &mut page) {
+            if !serve_next(rt, alloc, door, place.session, place.end, &mut place.page) {
                 return;
             }
         }
@@ -224,50 +215,36 @@ pub(crate) fn page_threads(door: Option<Entrance<'_>>) -> usize
 /// Places for the threads of the page, if there is a door, with seats from the list. Their numbers, in the
 /// journal and among the shelves of the folder, are those behind the sessions' and the readers'.
 pub(crate) fn page_places<'a, R, F: RecordsFile>(
-    rt: &'a R,
-    alloc: Global,
-    office: &'a Office<Desk>,
+    site: &Site<'a, R, F>,
     seats: &mut SeatList<Desk>,
-    settings: &Settings<'a>,
-    door: Option<Entrance<'a>>,
     bells: &Sender<Bell>,
-    known: &'a KnownFiles,
-    end: &'a ServiceEnd,
-    journal: Option<&'a Journal<F>>,
 ) -> Result<Vec<PagePlace<'a, R, F>>, AllocError>
-    requires own { AreOf office.now.id seats.old.items }
-    requires enough { page_threads door ≤ length seats.old.items }
-    requires few { session_count settings.now ≤ 32 }
-    requires kept { IfSome journal (λ journal. session_count settings.now + page_threads door ≤ journal.now) }
-    ensures own { OnOk result (AreOf office.now.id seats.new.items) }
-    ensures left { OnOk result (length seats.new.items ≡ length seats.old.items - page_threads door.entry) }
-    ensures all { IfOk result (λ places. length places.items ≡ page_threads door.entry) }
-    ensures numbers { IfOk result (λ places. AreForPage settings.now door.entry (map (λ place. place.page.1.1.number) places.items) (map (λ place. place.page.1.0.1.session) places.items)) }
-    ensures served { IfOk result (λ places. All (λ place. IsPlaceOf settings.now office.now.id place.page.1.1.folder place.page.1.0.0.seat.office) places.items) }
-    ensures port { IfSome door.entry (λ door. IfOk result (λ places. All (λ place. place.page.0 ≡ door.port) places.items)) }
+    requires own { AreOf site.now.office.now.id seats.old.items }
+    requires enough { page_threads site.now.door ≤ length seats.old.items }
+    requires few { session_count site.now.settings.now ≤ 32 }
+    requires kept { IfSome site.now.journal (λ journal. session_count site.now.settings.now + page_threads site.now.door ≤ journal.now) }
+    ensures own { OnOk result (AreOf site.now.office.now.id seats.new.items) }
+    ensures left { OnOk result (length seats.new.items ≡ length seats.old.items - page_threads site.now.door) }
+    ensures all { IfOk result (λ places. length places.items ≡ page_threads site.now.door) }
+    ensures numbers { IfOk result (λ places. AreForPage site.now.settings.now site.now.door (map (λ place. place.page.1.1.number) places.items) (map (λ place. place.page.1.0.1.session) places.items)) }
+    ensures served { IfOk result (λ places. All (λ place. IsPlaceOf site.now.settings.now site.now.office.now.id place.page.1.1.folder place.page.1.0.0.seat.office) places.items) }
+    ensures port { IfSome site.now.door (λ door. IfOk result (λ places. All (λ place. place.page.0 ≡ door.port) places.items)) }
 {
-    let mut places = Vec::new(alloc);
-    let Some(entrance) = door else {
+    let mut places = Vec::new(site.alloc);
+    let Some(door) = site.door else {
         return Ok(places);
     };
     for turn in 0..PAGE_THREADS {
-        let session = settings.sessions + settings.readers + turn;
-        let others = Others {
-            bells: bells.clone()?,
-            end,
-            may_sleep: false,
-        };
-        let seat = take_seat(office, seats);
-        let desk = session_door(rt, alloc, office, seat, session, others, journal);
-        let shelf = FolderShelf::new(rt, alloc, settings.root, session, known);
-        let lines = DeskLines::new(alloc, entrance.keys, desk, shelf);
-        let page = PageService::new(alloc, entrance.port, lines);
+        let session = site.settings.sessions + site.settings.readers + turn;
+        let (desk, shelf) = door_and_shelf(site, seats, session, bells.clone()?, false);
+        let lines = DeskLines::new(site.alloc, door.keys, desk, shelf);
+        let page = PageService::new(site.alloc, door.port, lines);
         places.push(PagePlace {
-            rt,
-            alloc,
-            door: entrance,
+            rt: site.rt,
+            alloc: site.alloc,
+            door,
             session,
-            end,
+            end: site.end,
             page,
         })?;
     }

@@ -1,14 +1,16 @@
 //! The places of a service's threads: what each works with, made before any thread starts.
 ghost use Rattle.std.specs.Prelude.{◌≡◌, ◌-◌, ◌<◌, ◌≤◌, All, length, map, IfOk, IfSome, OnOk};
 ghost use Rattle.desk_service.specs.Connections.{rights_of};
-ghost use Rattle.desk_service.specs.Seating.{session_count, AreForSessions, IsServedFor};
+ghost use Rattle.desk_service.specs.Seating.{session_count, AreForSessions, IsPlaceOf, IsServedFor};
 ghost use Rattle.turn_office.specs.Seats.{AreOf};
 
-use crate::clients::{Clients, ToEdit, ToRead, clients_for};
+use crate::clients::{Clients, clients_for};
 use crate::company::rights_at;
 use crate::connections::{Serving, serve_connections};
 use crate::journals::Journal;
+use crate::pages::Entrance;
 use crate::publications::PublicationsEnd;
+use crate::seating::Channels;
 use crate::service_end::ServiceEnd;
 use crate::session_ends::{Others, SessionEnds};
 use crate::settings::Settings;
@@ -34,6 +36,20 @@ pub(crate) trait Serve: Send + Drop {
     fn serve(self);
 }
 
+/// What the places of a service are made of.
+#[derive(Drop)]
+pub(crate) struct Site<'a, R, F: RecordsFile> {
+    pub(crate) rt: &'a R,
+    pub(crate) alloc: Global,
+    pub(crate) keys: RandomState,
+    pub(crate) settings: &'a Settings<'a>,
+    pub(crate) office: &'a Office<Desk>,
+    pub(crate) journal: Option<&'a Journal<F>>,
+    pub(crate) known: &'a KnownFiles,
+    pub(crate) end: &'a ServiceEnd,
+    pub(crate) door: Option<Entrance<'a>>,
+}
+
 /// What a worker works with: a seat of the office, the end of the bell that it hears, and where it reports
 /// of what it published.
 #[derive(Drop)]
@@ -51,26 +67,10 @@ pub(crate) struct WorkerPlace<'a, R> {
 /// A worker works until no bell can come any more.
 impl<R: Wait + Clock + Sync> Serve for WorkerPlace<'_, R> {
     fn serve(self) {
-        let WorkerPlace {
-            rt,
-            alloc,
-            keys,
-            office,
-            seat,
-            bells,
-            mut published,
-            ..
-        } = self;
-        worker(
-            rt,
-            alloc,
-            keys,
-            office,
-            seat,
-            &OpenGate,
-            &mut published,
-            bells,
-        );
+        let mut place = self;
+        let (rt, alloc, keys, office) = (place.rt, place.alloc, place.keys, place.office);
+        let (seat, bells, told) = (place.seat, place.bells, &mut place.published);
+        worker(rt, alloc, keys, office, seat, &OpenGate, told, bells);
     }
 }
 
@@ -80,10 +80,8 @@ pub(crate) type SessionDoor<'a, R, F> = Door<'a, R, SeatCalls<'a, R>, SessionEnd
 /// What a session thread works with: a desk, and a shelf.
 #[derive(Drop)]
 pub(crate) struct SessionPlace<'a, R, F: RecordsFile> {
-    rt: &'a R,
-    alloc: Global,
     clients: Clients,
-    serving: Serving<'a>,
+    serving: Serving<'a, R>,
     desk: SessionDoor<'a, R, F>,
     shelf: FolderShelf<'a, R>,
 }
@@ -99,14 +97,12 @@ where
 {
     fn serve(self) {
         let SessionPlace {
-            rt,
-            alloc,
             clients,
             serving,
             mut desk,
             mut shelf,
         } = self;
-        serve_connections(rt, alloc, &clients, serving, &mut desk, &mut shelf);
+        serve_connections(&serving, &clients, &mut desk, &mut shelf);
     }
 }
 
@@ -124,110 +120,101 @@ pub(crate) fn take_seat(office: &Office<Desk>, seats: &mut SeatList<Desk>) -> Se
     seat
 }
 
-/// Places for so many workers, with seats from the list.
-pub(crate) fn worker_places<'a, R>(
-    rt: &'a R,
-    alloc: Global,
-    keys: RandomState,
-    office: &'a Office<Desk>,
+/// Places for the workers of a service, with seats from the list.
+pub(crate) fn worker_places<'a, R, F: RecordsFile>(
+    site: &Site<'a, R, F>,
     seats: &mut SeatList<Desk>,
-    count: usize,
     bells: &Receiver<Bell>,
-    end: &'a ServiceEnd,
 ) -> Result<Vec<WorkerPlace<'a, R>>, AllocError>
-    requires own { AreOf office.now.id seats.old.items }
-    requires enough { count ≤ length seats.old.items }
-    ensures own { OnOk result (AreOf office.now.id seats.new.items) }
-    ensures left { OnOk result (length seats.new.items ≡ length seats.old.items - count) }
-    ensures all { IfOk result (λ places. length places.items ≡ count) }
-    ensures office { IfOk result (λ places. All (λ place. place.seat.office ≡ office.now.id) places.items) }
+    requires own { AreOf site.now.office.now.id seats.old.items }
+    requires enough { site.now.settings.now.workers ≤ length seats.old.items }
+    ensures own { OnOk result (AreOf site.now.office.now.id seats.new.items) }
+    ensures left { OnOk result (length seats.new.items ≡ length seats.old.items - site.now.settings.now.workers) }
+    ensures all { IfOk result (λ places. length places.items ≡ site.now.settings.now.workers) }
+    ensures office { IfOk result (λ places. All (λ place. place.seat.office ≡ site.now.office.now.id) places.items) }
 {
-    let mut places = Vec::new(alloc);
-    for _ in 0..count {
+    let mut places = Vec::new(site.alloc);
+    for _ in 0..site.settings.workers {
         places.push(WorkerPlace {
-            rt,
-            alloc,
-            keys,
-            office,
-            seat: take_seat(office, seats),
+            rt: site.rt,
+            alloc: site.alloc,
+            keys: site.keys,
+            office: site.office,
+            seat: take_seat(site.office, seats),
             bells: bells.clone()?,
-            published: PublicationsEnd::new(rt, end.publications()),
+            published: PublicationsEnd::new(site.rt, site.end.publications()),
         })?;
     }
     Ok(places)
 }
 
-/// The door of the session of this number, at a seat of the office.
-pub(crate) fn session_door<'a, R, F: RecordsFile>(
-    rt: &'a R,
-    alloc: Global,
-    office: &'a Office<Desk>,
-    seat: Seat<Desk>,
+/// The door of the session of this number, at a seat from the list, and its shelf. It rings the bell that it
+/// is given, and may sleep until a version is published, or not.
+pub(crate) fn door_and_shelf<'a, R, F: RecordsFile>(
+    site: &Site<'a, R, F>,
+    seats: &mut SeatList<Desk>,
     number: usize,
-    others: Others<'a>,
-    journal: Option<&'a Journal<F>>,
-) -> SessionDoor<'a, R, F>
-    requires own { seat.office ≡ office.now.id }
-    requires place { IfSome journal (λ journal. number < journal.now) }
-    ensures office { result.0.seat.office ≡ office.now.id }
-    ensures session { result.1.session ≡ number }
+    bells: Sender<Bell>,
+    may_sleep: bool,
+) -> (SessionDoor<'a, R, F>, FolderShelf<'a, R>)
+    requires own { AreOf site.now.office.now.id seats.old.items }
+    requires some { 1 ≤ length seats.old.items }
+    requires place { IfSome site.now.journal (λ journal. number < journal.now) }
+    ensures own { AreOf site.now.office.now.id seats.new.items }
+    ensures left { length seats.new.items ≡ length seats.old.items - 1 }
+    ensures door { IsPlaceOf site.now.settings.now site.now.office.now.id result.1.folder result.0.0.seat.office }
+    ensures session { (result.0.1.session ≡ number) × (result.1.number ≡ number) }
 {
-    let calls = SeatCalls::new(rt, office, seat);
-    let ends = SessionEnds::new(rt, alloc, journal, number).among(others);
-    Door::new(rt, calls, ends)
+    let (rt, alloc, office, end) = (site.rt, site.alloc, site.office, site.end);
+    let others = Others {
+        bells,
+        end,
+        may_sleep,
+    };
+    let calls = SeatCalls::new(rt, office, take_seat(office, seats));
+    let ends = SessionEnds::new(rt, alloc, site.journal, number).among(others);
+    let shelf = FolderShelf::new(rt, alloc, site.settings.root, number, site.known);
+    (Door::new(rt, calls, ends), shelf)
 }
 
 /// Places for the sessions of a service, those that may edit first, with seats from the list; each has an end
 /// of the bell, waits for connections, keeps its changes in the journal, if there is one, and has a shelf of a number of its own
 /// over the folder; all note what they loaded and saved at one place.
 pub(crate) fn session_places<'a, R, F: RecordsFile>(
-    rt: &'a R,
-    alloc: Global,
-    keys: RandomState,
-    office: &'a Office<Desk>,
+    site: &Site<'a, R, F>,
     seats: &mut SeatList<Desk>,
-    settings: &Settings<'a>,
-    bells: &Sender<Bell>,
-    to_edit: &Receiver<ToEdit>,
-    to_read: &Receiver<ToRead>,
-    known: &'a KnownFiles,
-    end: &'a ServiceEnd,
-    journal: Option<&'a Journal<F>>,
+    channels: &Channels,
 ) -> Result<Vec<SessionPlace<'a, R, F>>, AllocError>
-    requires own { AreOf office.now.id seats.old.items }
-    requires enough { session_count settings.now ≤ length seats.old.items }
-    requires few { session_count settings.now ≤ 32 }
-    requires kept { IfSome journal (λ journal. session_count settings.now ≤ journal.now) }
-    ensures all { IfOk result (λ places. length places.items ≡ session_count settings.now) }
-    ensures numbers { IfOk result (λ places. AreForSessions (session_count settings.now) (map (λ place. place.shelf.number) places.items) (map (λ place. place.serving.session) places.items) (map (λ place. place.desk.1.session) places.items)) }
-    ensures served { IfOk result (λ places. All (λ place. IsServedFor settings.now place.serving.session place.serving.rights place.serving.once place.shelf.folder) places.items) }
+    requires own { AreOf site.now.office.now.id seats.old.items }
+    requires enough { session_count site.now.settings.now ≤ length seats.old.items }
+    requires few { session_count site.now.settings.now ≤ 32 }
+    requires kept { IfSome site.now.journal (λ journal. session_count site.now.settings.now ≤ journal.now) }
+    ensures all { IfOk result (λ places. length places.items ≡ session_count site.now.settings.now) }
+    ensures numbers { IfOk result (λ places. AreForSessions (session_count site.now.settings.now) (map (λ place. place.shelf.number) places.items) (map (λ place. place.serving.session) places.items) (map (λ place. place.desk.1.session) places.items)) }
+    ensures served { IfOk result (λ places. All (λ place. IsServedFor site.now.settings.now place.serving.session place.serving.rights place.serving.once place.shelf.folder) places.items) }
     ensures clients { IfOk result (λ places. All (λ place. rights_of place.clients ≡ place.serving.rights) places.items) }
-    ensures office { IfOk result (λ places. All (λ place. place.desk.0.seat.office ≡ office.now.id) places.items) }
+    ensures office { IfOk result (λ places. All (λ place. place.desk.0.seat.office ≡ site.now.office.now.id) places.items) }
 {
-    let mut places = Vec::new(alloc);
+    let settings = site.settings;
+    let mut places = Vec::new(site.alloc);
     for number in 0..settings.sessions + settings.readers {
         let rights = rights_at(settings.sessions, number);
-        let clients = clients_for(rights, to_edit, to_read)?;
-        let others = Others {
-            bells: bells.clone()?,
-            end,
-            may_sleep: true,
+        let clients = clients_for(rights, channels)?;
+        let bells = channels.bells.clone()?;
+        let (desk, shelf) = door_and_shelf(site, seats, number, bells, true);
+        let serving = Serving {
+            rt: site.rt,
+            alloc: site.alloc,
+            keys: site.keys,
+            session: number,
+            rights,
+            idle: Duration::from_secs(settings.idle),
+            once: settings.once,
+            end: site.end,
         };
-        let seat = take_seat(office, seats);
-        let desk = session_door(rt, alloc, office, seat, number, others, journal);
-        let shelf = FolderShelf::new(rt, alloc, settings.root, number, known);
         places.push(SessionPlace {
-            rt,
-            alloc,
             clients,
-            serving: Serving {
-                keys,
-                session: number,
-                rights,
-                idle: Duration::from_secs(settings.idle),
-                once: settings.once,
-                end,
-            },
+            serving,
             desk,
             shelf,
         })?;

@@ -1,15 +1,17 @@
 //! The service: its threads start, and end.
-ghost use Rattle.std.specs.Prelude.{◌≡◌, ◌+◌, ◌≤◌, IfSome};
-ghost use Rattle.desk_service.specs.Seating.{page_threads};
+ghost use Rattle.std.specs.Prelude.{◌≡◌, ◌+◌, ◌≤◌, IfSome, length};
+ghost use Rattle.turn_office.specs.Seats.{AreOf};
+ghost use Rattle.desk_service.specs.Seating.{page_threads, session_count};
 ghost use Rattle.desk_service.specs.Services.{AreInRange, IsLocal};
 
 use crate::arrivals::{Arrivals, receive_clients};
 use crate::control::{Control, answer, try_path};
 use crate::faults::ServeFault;
+use crate::journals::Journal;
 use crate::lobby::Lobby;
 use crate::opening::{Opened, open};
-use crate::pages::{Entrance, PAGE_THREADS, PagePlace, page_threads};
-use crate::places::{Serve, SessionPlace, WorkerPlace};
+use crate::pages::{Entrance, PAGE_THREADS, page_threads};
+use crate::places::{Serve, Site};
 use crate::root::{JournalLock, take_folder, take_journal, try_files};
 use crate::seating::{Places, open_channels, seat_all};
 use crate::service_end::ServiceEnd;
@@ -29,7 +31,7 @@ use std::sync::{Mutex, Wait};
 use std::thread;
 use std::thread::{JoinHandle, Scope, Threads};
 use std::time::{Clock, Duration};
-use turn_office::Office;
+use turn_office::{Office, SeatList};
 
 /// How long waking a thread that waits at a port may take, in milliseconds.
 const WAKING: u64 = 200;
@@ -49,62 +51,108 @@ fn port_of(listener: &TcpListener, port: u16) -> u16 {
     }
 }
 
-/// Reports on standard error that the service listens: where, for which folder, with how many workers and
-/// sessions; how many further connections may ask, and where the page is, if there is one.
-fn announce<R: Eprint>(rt: &R, port: u16, settings: &Settings<'_>, page: Option<u16>) {
-    let address = local_address(port);
-    let Settings {
-        root,
-        workers,
-        sessions,
-        readers,
-        ..
-    } = *settings;
-    let _ = eprintln!(rt;
-        "compass: listening on {address}, folder {root}, workers {workers}, sessions {sessions}"
-    );
-    if readers > 0 {
-        let _ = eprintln!(rt; "compass: up to {readers} connections more may read");
-    }
-    if let Some(port) = page {
-        let _ = eprintln!(rt; "compass: the page is at http://127.0.0.1:{port}/");
+/// Wakes so many threads that wait at a port: each takes a connection, and finds that the end was asked for.
+fn wake<R: Net>(rt: &R, port: u16, threads: usize) {
+    let (address, waking) = (local_address(port), Duration::from_millis(WAKING));
+    for _ in 0..threads {
+        let _ = TcpStream::connect_timeout(rt, &address, waking);
     }
 }
 
-/// After how many connections a service ends, where it does.
-fn most_clients(settings: &Settings<'_>) -> Option<usize> {
-    if settings.once {
-        Some(settings.sessions.saturating_add(settings.readers))
-    } else {
-        None
+/// What a service is before its folder is asked: where clients come in, and browsers, if there is a door for
+/// them.
+#[derive(Drop)]
+struct Service<'a, R> {
+    rt: &'a R,
+    alloc: Global,
+    keys: RandomState,
+    settings: &'a Settings<'a>,
+    listener: &'a TcpListener,
+    door: Option<Entrance<'a>>,
+}
+
+impl<R> Service<'_, R> {
+    /// The port at which it listens.
+    fn port(&self) -> u16 {
+        port_of(self.listener, self.settings.port)
     }
+
+    /// The port of its page, if it has one.
+    fn page(&self) -> Option<u16> {
+        Some(self.door?.port)
+    }
+
+    /// After how many connections it ends, where it does.
+    fn most_clients(&self) -> Option<usize> {
+        if self.settings.once {
+            Some(self.settings.sessions.saturating_add(self.settings.readers))
+        } else {
+            None
+        }
+    }
+
+    /// How many of its threads change decks: those of its sessions and readers, and of the page, if there is a
+    /// door for browsers.
+    fn changing_threads(&self) -> usize
+        requires { AreInRange self.now.settings.now }
+        ensures count { result ≡ session_count self.now.settings.now + page_threads self.now.door }
+        ensures few { result ≤ 36 }
+    {
+        self.settings.sessions + self.settings.readers + page_threads(self.door)
+    }
+}
+
+impl<R: Eprint> Service<'_, R> {
+    /// Reports on standard error that it listens: where, for which folder, with how many workers and sessions;
+    /// how many further connections may ask, and where the page is, if there is one.
+    fn announce(&self) {
+        let address = local_address(self.port());
+        let Settings {
+            root,
+            workers,
+            sessions,
+            readers,
+            ..
+        } = *self.settings;
+        let _ = eprintln!(self.rt;
+            "compass: listening on {address}, folder {root}, workers {workers}, sessions {sessions}"
+        );
+        if readers > 0 {
+            let _ = eprintln!(self.rt; "compass: up to {readers} connections more may read");
+        }
+        if let Some(port) = self.page() {
+            let _ = eprintln!(self.rt; "compass: the page is at http://127.0.0.1:{port}/");
+        }
+    }
+}
+
+/// What watches over a service: its end, and who waits for that at its control connection, if there is one.
+#[derive(Drop)]
+struct Watch<'a, R> {
+    service: &'a Service<'a, R>,
+    control: Option<&'a Control>,
+    end: &'a ServiceEnd,
 }
 
 /// What receives the clients of a service.
 #[derive(Drop)]
 struct Receiving<'a, R> {
-    rt: &'a R,
-    alloc: Global,
-    listener: &'a TcpListener,
-    settings: &'a Settings<'a>,
-    port: u16,
-    page: Option<u16>,
+    watch: &'a Watch<'a, R>,
     arrivals: Arrivals,
-    end: &'a ServiceEnd,
 }
 
 /// It reports that the service listens, and receives clients to the end of the service.
 impl<R: Wait + Clock + Eprint + Sync> Serve for Receiving<'_, R> {
     fn serve(self) {
-        announce(self.rt, self.port, self.settings, self.page);
-        let most = most_clients(self.settings);
+        let (service, end) = (self.watch.service, self.watch.end);
+        service.announce();
         receive_clients(
-            self.rt,
-            self.alloc,
-            self.listener,
+            service.rt,
+            service.alloc,
+            service.listener,
             &self.arrivals,
-            most,
-            self.end,
+            service.most_clients(),
+            end,
         );
     }
 }
@@ -115,60 +163,37 @@ trait Hear: Serve + Copy {
     fn close(self);
 }
 
-/// What waits at the control connection of a service, if there is one.
-struct Hearing<'a, R> {
-    rt: &'a R,
-    control: Option<&'a Control>,
-    port: u16,
-    page: Option<u16>,
-    end: &'a ServiceEnd,
-}
-
-impl<R> Clone for Hearing<'_, R> {
-    fn clone(&self) -> Result<Self, AllocError> {
-        Ok(*self)
-    }
-}
-
-impl<R> Copy for Hearing<'_, R> {}
-
-/// Wakes so many threads that wait at a port: each takes a connection, and finds that the end was asked for.
-fn wake<R: Net>(rt: &R, port: u16, threads: usize) {
-    let (address, waking) = (local_address(port), Duration::from_millis(WAKING));
-    for _ in 0..threads {
-        let _ = TcpStream::connect_timeout(rt, &address, waking);
-    }
-}
-
-impl<R: Wait + Net> Hearing<'_, R> {
+impl<R: Wait + Net> Watch<'_, R> {
     /// Asks for the end, and wakes who waits at the ports of the service.
-    fn ask(self) {
-        self.end.ask(self.rt);
-        wake(self.rt, self.port, 1);
-        if let Some(port) = self.page {
-            wake(self.rt, port, PAGE_THREADS);
+    fn ask(&self) {
+        let rt = self.service.rt;
+        self.end.ask(rt);
+        wake(rt, self.service.port(), 1);
+        if let Some(port) = self.service.page() {
+            wake(rt, port, PAGE_THREADS);
         }
     }
 }
 
 /// It waits until somebody says `STOP`, or the service ends by itself.
-impl<R: Wait + Clock + Files + Net + Sync> Serve for Hearing<'_, R>
+impl<R: Wait + Clock + Net + Sync> Serve for &Watch<'_, R>
 where
     R::Listener: Send,
     R::Stream: Send,
 {
     fn serve(self) {
+        let rt = self.service.rt;
         let Some(control) = self.control else {
             return;
         };
-        if let Some(stream) = control.asked_by(self.rt, self.end) {
+        if let Some(stream) = control.asked_by(rt, self.end) {
             self.ask();
-            answer(self.rt, stream, self.end);
+            answer(rt, stream, self.end);
         }
     }
 }
 
-impl<R: Wait + Clock + Files + Net + Sync> Hear for Hearing<'_, R>
+impl<R: Wait + Clock + Files + Net + Sync> Hear for &Watch<'_, R>
 where
     R::Listener: Send,
     R::Stream: Send,
@@ -176,7 +201,7 @@ where
     fn close(self) {
         self.ask();
         if let Some(control) = self.control {
-            control.close(self.rt);
+            control.close(self.service.rt);
         }
     }
 }
@@ -202,7 +227,7 @@ fn start_all<'s, E, P: Serve + 's>(
 }
 
 /// Starts the threads of a service: one for each place, and one that hears of the end.
-fn start_threads<'s, E, W, S, P, C, H>(
+fn start_threads<'s, E, W: Serve + 's, S: Serve + 's, P: Serve + 's, C: Serve + 's, H: Hear + 's>(
     scope: &Scope<'s, E>,
     alloc: Global,
     workers: Vec<W>,
@@ -210,14 +235,7 @@ fn start_threads<'s, E, W, S, P, C, H>(
     pages: Vec<P>,
     receiving: C,
     hearing: H,
-) -> Result<(Vec<JoinHandle<()>>, JoinHandle<()>), AllocError>
-where
-    W: Serve + 's,
-    S: Serve + 's,
-    P: Serve + 's,
-    C: Serve + 's,
-    H: Hear + 's,
-{
+) -> Result<(Vec<JoinHandle<()>>, JoinHandle<()>), AllocError> {
     let mut threads = Vec::new(alloc);
     start_all(scope, workers, &mut threads)?;
     start_all(scope, sessions, &mut threads)?;
@@ -228,7 +246,7 @@ where
 
 /// Runs each place in a thread of its own, and returns when all have ended. Where a thread can't be made,
 /// those that were made end at once.
-fn run<R, W, S, P, C, H>(
+fn run<R: Threads + Wait + Sync, W: Serve, S: Serve, P: Serve, C: Serve, H: Hear>(
     rt: &R,
     alloc: Global,
     workers: Vec<W>,
@@ -236,15 +254,7 @@ fn run<R, W, S, P, C, H>(
     pages: Vec<P>,
     receiving: C,
     hearing: H,
-) -> Result<(), AllocError>
-where
-    R: Threads + Wait + Sync,
-    W: Serve,
-    S: Serve,
-    P: Serve,
-    C: Serve,
-    H: Hear,
-{
+) -> Result<(), AllocError> {
     thread::scope(
         thread::scope_env(),
         rt,
@@ -265,29 +275,7 @@ where
     )
 }
 
-/// How many threads of a service change decks: those of its sessions and readers, and of the page, if there is a
-/// door for browsers.
-fn changing_threads(settings: &Settings<'_>, door: Option<Entrance<'_>>) -> usize
-    requires { AreInRange settings.now }
-    ensures count { result ≡ settings.now.sessions + settings.now.readers + page_threads door.entry }
-    ensures few { result ≤ 36 }
-{
-    settings.sessions + settings.readers + page_threads(door)
-}
-
-/// Serves what was opened at a listener: each worker and each session has a seat of its own at its desk, and
-/// so has each thread of the page, if there is a door for browsers.
-fn serve_opened<'a, R>(
-    rt: &'a R,
-    alloc: Global,
-    keys: RandomState,
-    listener: &'a TcpListener,
-    door: Option<Entrance<'a>>,
-    control: Option<&'a Control>,
-    settings: &'a Settings<'a>,
-    opened: Opened<SystemFile<R::File>>,
-    known: KnownFiles,
-) -> Result<(), ServeFault>
+impl<R> Service<'_, R>
 where
     R: Threads
         + Wait
@@ -303,47 +291,89 @@ where
     R::Dir: Send,
     R::Listener: Send,
     R::Stream: Send,
-    requires range { AreInRange settings.now }
-    requires places { IfSome opened.journal (λ journal. journal ≡ settings.now.sessions + settings.now.readers + page_threads door) }
 {
-    let Opened { desk, journal } = opened;
-    let sessions = settings.sessions + settings.readers;
-    let threads = changing_threads(settings, door);
-    let (office, seats) = Office::open(alloc, desk, settings.workers + threads)?;
-    let end = &ServiceEnd::new(alloc, threads, sessions, settings.sessions)?;
-    let channels = open_channels(alloc)?;
-    let journal = journal.as_ref();
-    let Places {
-        workers,
-        sessions,
-        pages,
-    } = seat_all(
-        rt, alloc, keys, &office, seats, settings, door, &channels, &known, end, journal,
-    )?;
-    let arrivals = channels.into_arrivals();
-    let port = port_of(listener, settings.port);
-    let page = match door {
-        Some(door) => Some(door.port),
-        None => None,
-    };
-    let hearing = Hearing {
-        rt,
-        control,
-        port,
-        page,
-        end,
-    };
-    let receiving = Receiving {
-        rt,
-        alloc,
-        listener,
-        settings,
-        port,
-        page,
-        arrivals,
-        end,
-    };
-    Ok(run(rt, alloc, workers, sessions, pages, receiving, hearing)?)
+    /// Serves at an office, whose journal has a place for each thread that changes decks: each worker and each
+    /// session has a seat of its own, and so has each thread of the page.
+    fn serve_at(
+        &self,
+        office: &Office<Desk>,
+        seats: SeatList<Desk>,
+        journal: Option<&Journal<SystemFile<R::File>>>,
+        known: &KnownFiles,
+        control: Option<&Control>,
+    ) -> Result<(), ServeFault>
+        requires range { AreInRange self.now.settings.now }
+        requires own { AreOf office.now.id seats.items }
+        requires enough { length seats.items ≡ self.now.settings.now.workers + (session_count self.now.settings.now + page_threads self.now.door) }
+        requires places { IfSome journal (λ journal. journal.now ≡ session_count self.now.settings.now + page_threads self.now.door) }
+    {
+        let (alloc, settings) = (self.alloc, self.settings);
+        let sessions = settings.sessions + settings.readers;
+        let threads = self.changing_threads();
+        let end = &ServiceEnd::new(alloc, threads, sessions, settings.sessions)?;
+        let channels = open_channels(alloc)?;
+        let site = Site {
+            rt: self.rt,
+            alloc,
+            keys: self.keys,
+            settings,
+            office,
+            journal,
+            known,
+            end,
+            door: self.door,
+        };
+        let Places {
+            workers,
+            sessions,
+            pages,
+        } = seat_all(&site, seats, &channels)?;
+        let watch = &Watch {
+            service: self,
+            control,
+            end,
+        };
+        let arrivals = channels.into_arrivals();
+        let receiving = Receiving { watch, arrivals };
+        Ok(run(self.rt, alloc, workers, sessions, pages, receiving, watch)?)
+    }
+
+    /// Serves what was opened.
+    fn serve_opened(
+        &self,
+        opened: Opened<SystemFile<R::File>>,
+        known: &KnownFiles,
+        control: Option<&Control>,
+    ) -> Result<(), ServeFault>
+        requires range { AreInRange self.now.settings.now }
+        requires places { IfSome opened.journal (λ journal. journal ≡ session_count self.now.settings.now + page_threads self.now.door) }
+    {
+        let Opened { desk, journal } = opened;
+        let threads = self.changing_threads();
+        let (office, seats) = Office::open(self.alloc, desk, self.settings.workers + threads)?;
+        self.serve_at(&office, seats, journal.as_ref(), known, control)
+    }
+
+    /// The files that are known in the folder, for a desk that goes on behind a version.
+    fn known(&self, last: u64) -> Result<KnownFiles, ServeFault> {
+        match KnownFiles::kept_in(self.rt, self.alloc, self.keys, self.settings.root, last) {
+            Ok(known) => Ok(known),
+            Err(error) if error.kind() == ErrorKind::OutOfMemory => Err(ServeFault::OutOfMemory),
+            Err(_) => Err(ServeFault::NoFolder),
+        }
+    }
+
+    /// Serves the folder, whose journal is taken.
+    fn serve_folder(&self, lock: &mut JournalLock) -> Result<(), ServeFault>
+        requires { AreInRange self.now.settings.now }
+    {
+        let (rt, alloc, settings) = (self.rt, self.alloc, self.settings);
+        let seen = Seen::read(rt, alloc, settings.root)?;
+        let opened = open(rt, alloc, settings, self.changing_threads(), &seen, lock)?;
+        let control = Control::open(rt, alloc, settings.root);
+        let known = self.known(opened.desk.version())?;
+        self.serve_opened(opened, &known, control.as_ref())
+    }
 }
 
 /// Serves at a listener: the desk is new, or as its journal leaves it; each worker and each session has a
@@ -378,77 +408,18 @@ where
     let Ok(keys) = RandomState::new(rt) else {
         return Err(ServeFault::ReadFault);
     };
-    let seen = Seen::unasked(alloc);
-    let threads = changing_threads(settings, None);
-    let mut lock = JournalLock::new(alloc, settings.journal);
-    let opened = open(rt, alloc, keys, settings, threads, &seen, &mut lock)?;
-    let known = KnownFiles::new(alloc, keys);
-    serve_opened(
-        rt, alloc, keys, listener, None, None, settings, opened, known,
-    )
-}
-
-/// The files that are known in a folder, for a desk that goes on behind a version.
-fn known_in<R>(
-    rt: &R,
-    alloc: Global,
-    keys: RandomState,
-    folder: &str,
-    last: u64,
-) -> Result<KnownFiles, ServeFault>
-where
-    R: Files<File = File> + AllocGlobal + Clone + Drop,
-{
-    match KnownFiles::kept_in(rt, alloc, keys, folder, last) {
-        Ok(known) => Ok(known),
-        Err(error) if error.kind() == ErrorKind::OutOfMemory => Err(ServeFault::OutOfMemory),
-        Err(_) => Err(ServeFault::NoFolder),
-    }
-}
-
-/// Serves a folder on a listener, and browsers at a door, if there is one.
-fn serve_folder<'a, R>(
-    rt: &'a R,
-    alloc: Global,
-    keys: RandomState,
-    listener: &'a TcpListener,
-    door: Option<Entrance<'a>>,
-    settings: &'a Settings<'a>,
-    lock: &mut JournalLock,
-) -> Result<(), ServeFault>
-where
-    R: Threads
-        + Wait
-        + Sync
-        + Files<File = File>
-        + AllocGlobal
-        + Clone
-        + Drop
-        + Clock
-        + Eprint
-        + Net,
-    R::File: Send,
-    R::Dir: Send,
-    R::Listener: Send,
-    R::Stream: Send,
-    requires { AreInRange settings.now }
-{
-    let threads = changing_threads(settings, door);
-    let seen = Seen::read(rt, alloc, settings.root)?;
-    let opened = open(rt, alloc, keys, settings, threads, &seen, lock)?;
-    let control = Control::open(rt, alloc, settings.root);
-    let known = known_in(rt, alloc, keys, settings.root, opened.desk.version())?;
-    serve_opened(
+    let service = Service {
         rt,
         alloc,
         keys,
-        listener,
-        door,
-        control.as_ref(),
         settings,
-        opened,
-        known,
-    )
+        listener,
+        door: None,
+    };
+    let (seen, threads) = (Seen::unasked(alloc), service.changing_threads());
+    let mut lock = JournalLock::new(alloc, settings.journal);
+    let opened = open(rt, alloc, settings, threads, &seen, &mut lock)?;
+    service.serve_opened(opened, &KnownFiles::new(alloc, keys), None)
 }
 
 /// Serves on a port of 127.0.0.1, where no other service has the folder; what saves of a killed service
@@ -496,18 +467,30 @@ where
     let Ok(keys) = RandomState::new(rt) else {
         return Err(ServeFault::ReadFault);
     };
-    let Some(port) = page else {
-        return serve_folder(rt, alloc, keys, &listener, None, settings, &mut lock);
-    };
-    let Ok(browsers) = TcpListener::bind(rt, local_address(port)) else {
-        return Err(ServeFault::PageFault);
+    let browsers = match page {
+        Some(port) => match TcpListener::bind(rt, local_address(port)) {
+            Ok(browsers) => Some((browsers, port)),
+            Err(_) => return Err(ServeFault::PageFault),
+        },
+        None => None,
     };
     let silent = Mutex::new(Lobby::new(alloc));
-    let door = Entrance {
-        listener: &browsers,
-        silent: &silent,
-        port: port_of(&browsers, port),
-        keys,
+    let door = match &browsers {
+        Some((listener, port)) => Some(Entrance {
+            listener,
+            silent: &silent,
+            port: port_of(listener, *port),
+            keys,
+        }),
+        None => None,
     };
-    serve_folder(rt, alloc, keys, &listener, Some(door), settings, &mut lock)
+    let service = Service {
+        rt,
+        alloc,
+        keys,
+        settings,
+        listener: &listener,
+        door,
+    };
+    service.serve_folder(&mut lock)
 }
