@@ -30,10 +30,6 @@ drop-left decks n deck behind is =
 longer : (lines after : List ToldDeck) (line : ToldDeck) → after ≡ lines ++ line ∷ [] → length after ≡ length lines + 1
 longer lines after line put = ap length put ∙ length-append lines (line ∷ [])
 
--- there is room for a line of one that is left
-pub room-left : (decks : List Deck) (lines : List ToldDeck) (deck : Deck) (behind : List Deck) → deck ∷ behind ≡ drop (length lines) decks → length lines < length decks
-room-left decks lines deck behind is = left-some decks (length lines) deck behind (sym is)
-
 -- those behind it
 pub behind-left : (decks : List Deck) (lines after : List ToldDeck) (line : ToldDeck) (deck : Deck) (behind : List Deck) → deck ∷ behind ≡ drop (length lines) decks → after ≡ lines ++ line ∷ [] → behind ≡ drop (length after) decks
 behind-left decks lines after line deck behind is put =

@@ -101,10 +101,6 @@ deck-flags deck parts are = flags-same parts 0 0 deck.cards parts.lines.items (r
 pub shown-deck : (view : ErrorsView) (deck : Deck) (name : List ℕ) (shows : Bool) → shows ≡ shows_deck view name → name ≡ deck.name → shows ≡ true → errors_where view deck ≡ deck_errors deck
 shown-deck view deck name shows is same h = ap (λ (t : Bool). if t then deck_errors deck else []) (sym (is ∙ ap (shows_deck view) same) ∙ h)
 
--- and of one that is not
-pub hidden-deck : (view : ErrorsView) (deck : Deck) (name : List ℕ) (shows : Bool) → shows ≡ shows_deck view name → name ≡ deck.name → shows ≡ false → errors_where view deck ≡ []
-hidden-deck view deck name shows is same h = ap (λ (t : Bool). if t then deck_errors deck else []) (sym (is ∙ ap (shows_deck view) same) ∙ h)
-
 -- the lines of what a deck's parts have are those of what is shown of it
 pub deck-text : (view : ErrorsView) (deck : Deck) (parts : ObjectParts) (name other : List ℕ) (cards : List Card) (lines : List Line) (shows : Bool) →
     ArePartsOf deck.cards parts (object_of deck) → shows ≡ shows_deck view name → name ≡ deck.name → shows ≡ true → other ≡ deck.name → cards ≡ deck.cards → lines ≡ parts.lines.items →

@@ -20,10 +20,6 @@ are-append name (of ∷ letters) others lines rest are behind = record {
   is = ap (λ (l : List ℕ). l ++ rest) are.is ∙ append_assoc (line_of (message_text name of are.message)) are.behind rest;
 }
 
--- nothing is put so far
-pub far-start : (name : List ℕ) (all : List Lettered) (text : List ℕ) → IsSoFar name all all text text
-far-start name all text rest are = record { lines = rest; are = are; is = refl }
-
 -- some more are put
 pub far-more : (name : List ℕ) (all some left : List Lettered) (old text new : List ℕ) → IsSoFar name all (some ++ left) old text → AddsMessages name some text new → IsSoFar name all left old new
 far-more name all some left old text new far adds rest are =

@@ -2,9 +2,10 @@
 use Rattle.std.proofs.Common.{ℕ, ◌≡◌, true, false, List, Option, Result, Ok, Err, sym, ap, subst, ◌∙◌}
 use Rattle.definitions.specs.{Cards.Card, DeckInput.Deck}
 use Rattle.deck_files.specs.{declared.deck_shelf.ShelfLoadFault.ShelfLoadFault, ShelfRelations.ShelfRelations}
-use Rattle.desk_core.specs.declared.{calls.Change.Change, calls.Change.TheVariants.{AddDeck, PutDeck}, calls.Question.Question, calls.Question.TheVariants.{Cards, CardsAt, Show, Status}, replies.Reply.Reply, replies.Row.Row}
-use Rattle.session_line.specs.{declared.answers.Answer.Answer, declared.answers.Told.Told, declared.greetings.Greeting.Greeting, declared.told_decks.ToldDeck.ToldDeck, declared.tasks.Task.Task, declared.tasks.Task.TheVariants.{Make, Ask, AwaitVersion, ShowCards, ShowCardsAt, ShowText, ShowPart, ShowErrors, ShowWords, ShowNames, ShowSymbols, LoadDeck, LoadAll, ReloadDeck, SaveDeck, SaveAll, ShowFiles, ShowFileStatus, Greet, ShowHelp, Leave, Refuse}, Answers.{WhereStatus, told_of_call, called}, Asking.Asks, Executing.{AddsLoaded, Executes}, Reloading.{PutsBy, PutsLoaded, version_told}, Rights.allowed, declared.rights.Rights.Rights, Refusing.{is_refusal, tells_refusal, RefusesCommand}, Serving.Sides, DeckCuts.decks_in, LoadingAll.{TellsAdds, added_all, not_added, no_memory, AddsTold, AddsCut, AddsFile, cut, uncut, AddsLoadedDecks}, SavingAll.{SavesRow, SavesRows, is_saved, unsaved, no_row, next_row, TellsSaves, told_all, lacking, SavesAllTold}, DeskRelations.DeskRelations}
+use Rattle.desk_core.specs.declared.{calls.Change.Change, calls.Change.TheVariants.{AddDeck, PutDeck}, calls.Question.Question, calls.Question.TheVariants.{Cards, CardsAt, Status}, replies.Reply.Reply, replies.Row.Row}
+use Rattle.session_line.specs.{declared.answers.Answer.Answer, declared.answers.Told.Told, declared.greetings.Greeting.Greeting, declared.told_decks.ToldDeck.ToldDeck, declared.tasks.Task.Task, declared.tasks.Task.TheVariants.{Make, Ask, AwaitVersion, ShowCards, ShowCardsAt, Show, LoadDeck, LoadAll, ReloadDeck, SaveDeck, SaveAll, ShowFiles, ShowFileStatus, Greet, ShowHelp, Leave, Refuse}, Answers.{WhereStatus, told_of_call, called}, Asking.Asks, Executing.{AddsLoaded, Executes}, Reloading.{PutsBy, PutsLoaded, version_told}, Rights.allowed, declared.rights.Rights.Rights, Refusing.{is_refusal, tells_refusal, RefusesCommand}, Serving.Sides, DeckCuts.decks_in, LoadingAll.{TellsAdds, added_all, not_added, no_memory, AddsTold, AddsCut, AddsFile, cut, uncut, AddsLoadedDecks}, SavingAll.{SavesRow, SavesRows, is_saved, unsaved, no_row, next_row, TellsSaves, told_all, lacking, SavesAllTold}, DeskRelations.DeskRelations}
 use Rattle.session_line.specs.declared.answers.Told.TheVariants as told
+use Rattle.desk_core.specs.declared.calls.Question.TheVariants as question
 use Rattle.session_commands.specs.declared.refusals.Refusal.{Refusal}
 
 -- in a sense in which two states of a desk are the same, no change leaves another that is reported as refused, and no question, wait or greeting does
@@ -105,15 +106,10 @@ module _ {C S : Type 0} (calls : DeskRelations C) (files : ShelfRelations S)
       Executes calls files task desk next shelf after answer → is_refusal answer.told ≡ true → IsSame desk next
   refused-same (Make change) desk next shelf after answer is refused = made-same change desk next answer is.0 refused
   refused-same (Ask question) desk next shelf after answer is refused = steady.asked desk next question is.0.reply is.0.made
-  refused-same (AwaitVersion version) desk next shelf after answer is refused = steady.awaited desk next version is.0.reply is.0.awaited
+  refused-same (AwaitVersion version) desk next shelf after answer is refused = steady.awaited desk next version is.0.reply is.0.made
   refused-same (ShowCards name view) desk next shelf after answer is refused = steady.asked desk next (Cards name) is.0.reply is.0.made
   refused-same (ShowCardsAt name version) desk next shelf after answer is refused = steady.asked desk next (CardsAt name version) is.0.reply is.0.made
-  refused-same (ShowText text) desk next shelf after answer is refused = steady.asked desk next Show is.0.reply is.0.made
-  refused-same (ShowPart text name) desk next shelf after answer is refused = steady.asked desk next Show is.0.reply is.0.made
-  refused-same (ShowErrors view) desk next shelf after answer is refused = steady.asked desk next Show is.0.reply is.0.made
-  refused-same (ShowWords name) desk next shelf after answer is refused = steady.asked desk next Show is.0.reply is.0.made
-  refused-same ShowNames desk next shelf after answer is refused = steady.asked desk next Show is.0.reply is.0.made
-  refused-same (ShowSymbols name) desk next shelf after answer is refused = steady.asked desk next Show is.0.reply is.0.made
+  refused-same (Show view) desk next shelf after answer is refused = steady.asked desk next question.Show is.0.reply is.0.made
   refused-same (LoadDeck name) desk next shelf after answer is refused = adds-same name is.loaded desk next answer is.added refused
   refused-same (LoadAll name) desk next shelf after answer is refused = loaded-same is.loaded desk next answer is.added refused
   refused-same (ReloadDeck name) desk next shelf after answer is refused = puts-same name is.loaded desk next answer is.put refused
@@ -122,7 +118,7 @@ module _ {C S : Type 0} (calls : DeskRelations C) (files : ShelfRelations S)
       steady.joined desk is.between next (steady.asked desk is.between Status is.reply is.made) (all-same (told_of_call is.reply) is.between next shelf after answer is.kept)
   refused-same ShowFiles desk next shelf after answer is refused = steady.asked desk next Status is.reply is.made
   refused-same ShowFileStatus desk next shelf after answer is refused = steady.asked desk next Status is.reply is.made
-  refused-same (Greet name) desk next shelf after answer is refused = steady.greeted desk next name is.0.greeting is.0.greeted
+  refused-same (Greet name) desk next shelf after answer is refused = steady.greeted desk next name is.0.reply is.0.made
   refused-same ShowHelp desk next shelf after answer is refused = steady.asked desk next Status is.0.reply is.0.made
   refused-same Leave desk next shelf after answer is refused = uncalled-same desk next is.0
   refused-same (Refuse why) desk next shelf after answer is refused = uncalled-same desk next is.0

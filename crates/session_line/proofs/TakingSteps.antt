@@ -1,10 +1,11 @@
 -- The steps of reading a command: lines, the items that they show, and where the reader breaks off.
-use Rattle.std.{proofs.Common.{ℕ, suc, ◌≡◌, ◌+◌, ◌<◌, List, [], ◌∷◌, ◌++◌, Option, Result, Ok, Err, length, map, refl, sym, ap, subst, ◌∙◌, arith, append_assoc, length-append}, specs.Prelude.{IfErr, IfOk}, proofs.lemmas.List.map-append, proofs.KnownBytes.{Consumes-nil, Consumes-trans}}
+use Rattle.std.{proofs.Common.{ℕ, suc, ◌≡◌, ◌+◌, ◌<◌, List, [], ◌∷◌, ◌++◌, Option, Result, Ok, Err, inl, inr, length, map, refl, sym, ap, subst, ◌∙◌, arith, append_assoc, length-append}, proofs.lemmas.List.map-append, proofs.KnownBytes.{Consumes-nil, Consumes-trans}}
 use Rattle.definitions.specs.InputLines.{InputLine, Line, lines_of}
 use Rattle.text_ports.{specs.Lines.ReadsLine, proofs.LineLaws.lines_of-taken}
 use Rattle.text_ports.specs.declared.lines.LineIs.TheVariants as is
-use Rattle.session_commands.specs.{Commands.command_of, declared.commands.Command.Command, declared.refusals.Refusal.Refusal}
-use Rattle.session_line.specs.{declared.line_items.ItemsRead.ItemsRead, declared.reading.Stop.Stop, declared.tasks.Task.Task, Tasks.{item_in_front, items_from, lines_due, task_by}, Taking.{TakesLines, BreaksOff, Stops, StopsWithin, IsTaskFor, TakesBehind, TakesTask}, Joins.LineItems.{IsRead, item_behind, TakesItems}}
+use Rattle.session_commands.specs.{Commands.command_of, declared.refusals.Refusal.Refusal}
+use Rattle.deck_files.specs.ShelfRelations.{ShelfRelations}
+use Rattle.session_line.specs.{DeskRelations.DeskRelations, Serving.{Serves, ServesBehind, Sides, sides}, declared.rights.Rights.Rights, declared.serving.Outcome.Outcome, declared.line_items.ItemsRead.ItemsRead, declared.reading.Stop.Stop, declared.tasks.Task.Task, Tasks.{item_in_front, items_from, lines_due}, Taking.{TakesLines, BreaksOff, Stops, StopsWithin, TakesBehind, TakesTask}, Joins.LineItems.{IsRead, item_behind, TakesItems}}
 
 -- nothing is taken
 pub TakesLines-none : (a : Option (List ℕ)) → TakesLines a a []
@@ -50,10 +51,6 @@ module _ {A : Type 0} where
       ∙ item_in_front-behind (item number first) (items_from item (number + 1) lines) (item (number + 1 + length lines) line)
       ∙ ap (λ (n : ℕ). item_behind (item_in_front (item number first) (items_from item (number + 1) lines)) (item n line)) (let e : number + 1 + length lines ≡ number + suc (length lines) = omega arith in e)
 
-  -- no line is read yet
-  pub TakesItems-none : (item : ℕ → List ℕ → Result A Refusal) (a : Option (List ℕ)) (items : ItemsRead A) → IsRead (Ok []) items → TakesItems item a a 0 items
-  TakesItems-none item a items read = record { lines = []; taken = TakesLines-none a; count_is = refl; read = read }
-
   -- one line more is read
   pub TakesItems-more : (item : ℕ → List ℕ → Result A Refusal) (a b c : Option (List ℕ)) (count : ℕ) (items after : ItemsRead A) (line text : List ℕ) → TakesItems item a b count items → ReadsLine b c is.Line line → text ≡ line →
       ((read : Result (List A) Refusal) → IsRead read items → IsRead (item_behind read (item (count + 1) text)) after) → TakesItems item a c (count + 1) after
@@ -71,30 +68,6 @@ module _ {A : Type 0} where
         read = subst P e (goes (items_from item 1 taken.lines) taken.read);
       }
 
-  -- the reader breaks off behind some lines
-  pub StopsWithin-here : (item : ℕ → List ℕ → Result A Refusal) (a b c : Option (List ℕ)) (number count : ℕ) (items : ItemsRead A) (stop : Stop) → TakesItems item a b number items → number < count → BreaksOff b c stop →
-      StopsWithin a c count stop
-  StopsWithin-here item a b c number count items stop taken fewer broken = record {
-    lines = taken.lines;
-    between = b;
-    taken = taken.taken;
-    fewer = let n = taken.count_is in omega arith;
-    broken = broken;
-  }
-
-  -- all lines behind a first one are taken
-  pub TakesBehind-whole : (item : ℕ → List ℕ → Result A Refusal) (a b : Option (List ℕ)) (text : List ℕ) (command : Result Command Refusal) (count : ℕ) (items : ItemsRead A) (task : Task) →
-      command ≡ command_of text → count ≡ lines_due command → TakesItems item a b count items →
-      ((lines : List (List ℕ)) → IsRead (items_from item 1 lines) items → IsTaskFor (task_by command lines) task) → TakesBehind text a b task
-  TakesBehind-whole item a b text command count items task reading due taken goes =
-      let P : Result Command Refusal → Type 0 = λ (k : Result Command Refusal). IsTaskFor (task_by k taken.lines) task in
-      record {
-        others = taken.lines;
-        taken = taken.taken;
-        whole = taken.count_is ∙ due ∙ ap lines_due reading;
-        asked = subst P reading (goes taken.lines taken.read);
-      }
-
 -- a first line is taken, and then those behind it
 pub TakesTask-first : (a b c : Option (List ℕ)) (line text : List ℕ) (task : Task) → ReadsLine a b is.Line line → text ≡ line → TakesBehind text b c task → TakesTask a c task
 TakesTask-first a b c line text task reads same behind =
@@ -107,13 +80,6 @@ TakesTask-first a b c line text task reads same behind =
       whole = of_line.whole;
       asked = of_line.asked;
     }
-
--- the reader breaks off behind fewer lines than are due
-pub StopsWithin-due : (a b : Option (List ℕ)) (text : List ℕ) (command : Result Command Refusal) (count : ℕ) (stop : Stop) → command ≡ command_of text → count ≡ lines_due command → StopsWithin a b count stop →
-    StopsWithin a b (lines_due (command_of text)) stop
-StopsWithin-due a b text command count stop reading due stopped =
-    let P : ℕ → Type 0 = λ (n : ℕ). StopsWithin a b n stop in
-    subst P (due ∙ ap lines_due reading) stopped
 
 -- the reader breaks off in the first line
 pub Stops-first : (a b : Option (List ℕ)) (stop : Stop) → BreaksOff a b stop → Stops a b stop
@@ -131,12 +97,21 @@ Stops-later a b c line text stop reads same stopped =
       broken = stopped.broken;
     }
 
--- a first line is taken, and then those behind it are, or the reader breaks off in them
-pub TakesTask-behind : (a b c : Option (List ℕ)) (line text : List ℕ) (read : Result Task Stop) → ReadsLine a b is.Line line → text ≡ line → IfOk read (λ task. TakesBehind text b c task) → IfOk read (λ task. TakesTask a c task)
-TakesTask-behind a b c line text (Ok task) reads same behind = TakesTask-first a b c line text task reads same behind
-TakesTask-behind a b c line text (Err stop) reads same behind = tt
-
-pub Stops-behind : (a b c : Option (List ℕ)) (line text : List ℕ) (read : Result Task Stop) → ReadsLine a b is.Line line → text ≡ line → IfErr read (λ stop. StopsWithin b c (lines_due (command_of text)) stop) →
-    IfErr read (λ stop. Stops a c stop)
-Stops-behind a b c line text (Ok task) reads same stopped = tt
-Stops-behind a b c line text (Err stop) reads same stopped = Stops-later a b c line text stop reads same stopped
+-- a first line is taken, and then it is served
+pub Serves-first : {C S : Type 0} (rights : Rights) (calls : DeskRelations C) (files : ShelfRelations S) (a b : Option (List ℕ)) (line text : List ℕ) (output : Option (List ℕ)) (desk : C) (shelf : S) (new : Sides C S) (outcome : Outcome) →
+    ReadsLine a b is.Line line → text ≡ line → ServesBehind rights calls files text (sides b output desk shelf) new outcome → Serves rights calls files (sides a output desk shelf) new outcome
+Serves-first rights calls files a b line text output desk shelf new outcome reads same (inl served) = inl (record {
+  task = served.task;
+  answer = served.answer;
+  taken = TakesTask-first a b new.input line text served.task reads same served.taken;
+  executed = served.executed;
+  sent = served.sent;
+})
+Serves-first rights calls files a b line text output desk shelf new outcome reads same (inr stopped) = inr (record {
+  stop = stopped.stop;
+  stopped = Stops-later a b new.input line text stopped.stop reads same stopped.stopped;
+  told = stopped.told;
+  output = stopped.output;
+  desk = stopped.desk;
+  shelf = stopped.shelf;
+})

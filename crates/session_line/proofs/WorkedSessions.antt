@@ -14,8 +14,9 @@ use Rattle.session_commands.{specs.declared.words.Seen.TheVariants.{Exactly, Sin
 use Rattle.definitions.specs.{Cards.Card, DeckInput.Deck}
 use Rattle.desk_core.specs.declared.published_texts.DeckText.TheVariants as part
 use Rattle.desk_core.specs.declared.published_texts.PublishedText.TheVariants.{Image, Listing, Map}
-use Rattle.session_line.specs.{declared.tasks.Task.TheVariants.{Make, Ask, AwaitVersion, ShowCards, ShowCardsAt, ShowText, ShowPart, ShowErrors, ShowWords, LoadDeck, LoadAll, ReloadDeck, SaveDeck, SaveAll, ShowFiles, ShowFileStatus, Greet, ShowHelp, Leave, Refuse}, Tasks.{lines_due, task_of}, Answers.{told_of_call, told_of_wait, told_of_greeting, told_of_cards, told_of_cards_at, errors_told, part_told, text_told, told_text}, FileStatus.marked, ToldDecks.told_deck, DeckCuts.decks_in, Greetings.met, Rights.allowed, declared.rights.Rights.TheVariants.{Edits, Reads}}
+use Rattle.session_line.specs.{declared.tasks.Task.TheVariants.{Make, Ask, AwaitVersion, ShowCards, ShowCardsAt, Show, LoadDeck, LoadAll, ReloadDeck, SaveDeck, SaveAll, ShowFiles, ShowFileStatus, Greet, ShowHelp, Leave, Refuse}, Tasks.{lines_due, task_of}, Answers.{told_of_call, told_of_wait, told_of_greeting, told_of_cards, told_of_cards_at, errors_told, part_told, text_told, told_text}, FileStatus.marked, ToldDecks.told_deck, DeckCuts.decks_in, Greetings.met, Rights.allowed, declared.rights.Rights.TheVariants.{Edits, Reads}}
 use Rattle.session_line.specs.declared.answers.Told.TheVariants as told
+use Rattle.session_line.specs.declared.tasks.PublishedView.TheVariants as showing
 
 -- which call of the desk a line is
 pub tasks : Gives (λ line. task_of line []) (
@@ -32,13 +33,13 @@ pub tasks : Gives (λ line. task_of line []) (
     (codes "CHANGES M 7", Ask (question.Changes (codes "M") 7)) ∷
     (codes "UNDO M 7", Make (change.Undo (codes "M") 7)) ∷
     (codes "HELLO PAT", Greet (codes "PAT")) ∷
-    (codes "IMAGE", ShowText Image) ∷
-    (codes "MAP", ShowText Map) ∷
-    (codes "IMAGE M", ShowPart part.Section (codes "M")) ∷
-    (codes "LIST M", ShowPart part.Listing (codes "M")) ∷
-    (codes "ERRORS", ShowErrors Every) ∷
-    (codes "ERRORS M WORDS", ShowWords (codes "M")) ∷
-    (codes "ERRORS M", ShowErrors (Of (codes "M"))) ∷
+    (codes "IMAGE", Show (showing.Text Image)) ∷
+    (codes "MAP", Show (showing.Text Map)) ∷
+    (codes "IMAGE M", Show (showing.Part part.Section (codes "M"))) ∷
+    (codes "LIST M", Show (showing.Part part.Listing (codes "M"))) ∷
+    (codes "ERRORS", Show (showing.Errors Every)) ∷
+    (codes "ERRORS M WORDS", Show (showing.Words (codes "M"))) ∷
+    (codes "ERRORS M", Show (showing.Errors (Of (codes "M")))) ∷
     (codes "SAVEALL", SaveAll) ∷
     (codes "FILES", ShowFiles) ∷
     (codes "STATUS FILES", ShowFileStatus) ∷

@@ -6,9 +6,10 @@ use Rattle.desk_core.specs.{Desks.Publication, PublishedTexts.{shown_part, shown
 use Rattle.deck_files.specs.{DeckFiles.file_of, FileRows.most_files}
 use Rattle.session_commands.specs.{declared.refusals.Refusal.Refusal, Refusals.refusal_text, declared.views.CardsView.CardsView, declared.views.CardsView.TheVariants.{All, From, With}, declared.views.ErrorsView.ErrorsView}
 use Rattle.session_commands.specs.declared.refusals.Refusal.TheVariants as refusal
-use Rattle.session_line.specs.{Replies.{line_of, ok_text, unkept_text, counted_text, published_text, rows_text, marks_text, told_decks_text, sessions_text, numbers_text, text_of_lines}, FileLines.files_text, Reasons.desk_reason, Replied.{shown_in, status_in}, declared.replied.Status.Status, Greetings.service_text, Help.help_text, declared.greetings.Connected.Connected, declared.greetings.Greeting.Greeting, Views.{cards_from, numbers_of}, ChangeLines.change_lines, Errors.{error_lines, shows_any}, declared.answers.Told.Told, declared.answers.Answer.Answer}
+use Rattle.session_line.specs.{Replies.{line_of, ok_text, unkept_text, counted_text, published_text, rows_text, marks_text, told_decks_text, sessions_text, numbers_text, text_of_lines}, FileLines.files_text, Reasons.desk_reason, Replied.status_in, declared.replied.Status.Status, Greetings.service_text, Help.help_text, declared.greetings.Connected.Connected, declared.greetings.Greeting.Greeting, Views.{cards_from, numbers_of}, ChangeLines.change_lines, Errors.{deck_named, error_lines, shows_any}, Messages.{IsLines, IsLinesOf, IsSaidOf}, declared.tasks.PublishedView.PublishedView, declared.answers.Told.Told, declared.answers.Answer.Answer}
 use Rattle.cards.specs.{declared.edits.Edit.Edit, Edits.{first_fault, edited_by}}
 use Rattle.session_line.specs.declared.answers.Told.TheVariants as told
+use Rattle.session_line.specs.declared.tasks.PublishedView.TheVariants as showing
 
 -- how many cards a deck has at most
 abbrev pub most_cards : ℕ
@@ -94,16 +95,6 @@ has_backs _ = false
 abbrev pub IsToldAt : Reply → Told → Type 0
 IsToldAt reply what = (what ≡ told_of_cards_at reply) ⊎ (IsTrue (has_backs reply) × (what ≡ told.Refused refusal.OutOfMemory))
 
--- what is shown of the publication that a reply shows; or why it shows none
-abbrev pub IsToldBy : (Publication → Told → Type 0) → Result Publication Refusal → Told → Type 0
-IsToldBy telling (Ok publication) what = telling publication what
-IsToldBy telling (Err reason) what = what ≡ told.Refused reason
-
--- the publication, if it has no more decks than a desk may have
-abbrev pub few_decks : Result Publication Refusal → Result Publication Refusal
-few_decks (Ok publication) = if nat_le (length publication.decks) most_decks then Ok publication else Err refusal.Foreign
-few_decks (Err reason) = Err reason
-
 -- what is shown, or that there was no memory for it
 abbrev pub IsMade : Told → Told → Type 0
 IsMade made what = (what ≡ made) ⊎ (what ≡ told.Refused refusal.OutOfMemory)
@@ -121,21 +112,24 @@ told_where version None = told.Refused refusal.NoDeck
 abbrev pub part_told : DeckText → List ℕ → ℕ → List Deck → Told
 part_told text name version decks = told_where version (shown_part text name decks)
 
--- their flagged statements and LINK lines; where none of them is the deck that is asked for, there is no such deck
+-- their flagged statements and LINK lines, where they are no more than a desk may have; where none of them is the deck that is asked for, there is no such deck
 abbrev pub errors_told : ErrorsView → ℕ → List Deck → Told
-errors_told view version decks = if shows_any view decks then told.Errors version decks view else told.Refused refusal.NoDeck
+errors_told view version decks =
+    if nat_le (length decks) most_decks then (if shows_any view decks then told.Errors version decks view else told.Refused refusal.NoDeck) else foreign
 
--- what is shown of the reply to a call for the publication, of which this text is shown
-abbrev pub IsToldText : PublishedText → Reply → Told → Type 0
-IsToldText text reply what = IsToldBy (λ publication. IsMade (text_told text publication.version publication.decks)) (shown_in reply) what
+-- this of a publication is shown, where there is memory for it
+abbrev pub IsViewOf : PublishedView → Publication → Told → Type 0
+IsViewOf (showing.Text text) publication what = IsMade (text_told text publication.version publication.decks) what
+IsViewOf (showing.Part text name) publication what = IsMade (part_told text name publication.version publication.decks) what
+IsViewOf (showing.Errors errors) publication what = IsMade (errors_told errors publication.version publication.decks) what
+IsViewOf (showing.Words name) publication what = IsSaidOf publication.version (deck_named name publication.decks) what
+IsViewOf showing.Names publication what = IsLines publication.version what
+IsViewOf (showing.Symbols name) publication what = IsLinesOf publication.version (deck_named name publication.decks) what
 
--- what is shown of the reply to a call for the publication, of which this text of the deck of a name is shown
-abbrev pub IsToldPart : DeckText → List ℕ → Reply → Told → Type 0
-IsToldPart text name reply what = IsToldBy (λ publication. IsMade (part_told text name publication.version publication.decks)) (shown_in reply) what
-
--- what is shown of the reply to a call for the publication, of which the flagged statements and LINK lines are shown; no more decks than a desk may have
-abbrev pub IsToldErrors : ErrorsView → Reply → Told → Type 0
-IsToldErrors view reply what = IsToldBy (λ publication. IsMade (errors_told view publication.version publication.decks)) (few_decks (shown_in reply)) what
+-- this of the publication that a reply shows; or why it shows none
+abbrev pub IsToldBy : PublishedView → Result Publication Refusal → Told → Type 0
+IsToldBy view (Ok publication) what = IsViewOf view publication what
+IsToldBy view (Err reason) what = what ≡ told.Refused reason
 
 -- a first line, and what follows it
 abbrev pub with_body : List ℕ → List ℕ → List ℕ

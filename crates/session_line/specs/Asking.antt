@@ -2,16 +2,23 @@
 use Rattle.std.specs.Prelude.{ℕ, ◌≡◌, List, Result, Ok, Err}
 use Rattle.definitions.specs.Cards.{Card}
 use Rattle.deck_files.specs.{declared.deck_shelf.ShelfLoadFault.ShelfLoadFault, ShelfRelations.ShelfRelations}
-use Rattle.desk_core.specs.declared.replies.Reply.{Reply}
 use Rattle.session_line.specs.{declared.answers.Told.Told, declared.answers.Answer.Answer, Answers.called}
 use Rattle.session_line.specs.declared.answers.Told.TheVariants as told
 
-module _ {C A : Type 0} (makes : C → A → Reply → C → Type 0) where
+module _ {C A R : Type 0} (makes : C → A → R → C → Type 0) where
   -- one call of the desk, for a change or for an answer to a question, and what is shown of its reply
-  pub record Asks (asked : A) (telling : Reply → Told) (desk next : C) (answer : Answer) : Type 0 where
-    pub reply : Reply
+  pub record Asks (asked : A) (telling : R → Told) (desk next : C) (answer : Answer) : Type 0 where
+    pub reply : R
     pub made : makes desk asked reply next
     pub answered : answer ≡ called (telling reply)
+
+  -- the same, where more than one thing may be shown of the reply
+  pub record AsksFor (asked : A) (telling : R → Told → Type 0) (desk next : C) (answer : Answer) : Type 0 where
+    pub reply : R
+    pub made : makes desk asked reply next
+    pub what : Told
+    pub told : telling reply what
+    pub answered : answer ≡ called what
 
 module _ {S : Type 0} (files : ShelfRelations S) where
   -- what the shelf answers to one load

@@ -1,5 +1,5 @@
 -- What ERRORS shows of a publication: the flagged statements of its decks, with those behind END that begin another deck, and the LINK lines of its map (ours).
-use Rattle.std.specs.Prelude.{ℕ, ◌+◌, ◌==◌, Bool, true, false, ◌&&◌, ◌||◌, is_none, Option, None, Some, List, [], ◌∷◌, ◌++◌, codes, decimal, drop, filter, flat_map, map, reverse, if◌then◌else◌}
+use Rattle.std.specs.Prelude.{ℕ, ◌+◌, ◌==◌, Bool, true, false, ◌&&◌, ◌||◌, is_none, is_some, Option, None, Some, List, [], ◌∷◌, ◌++◌, codes, decimal, drop, filter, flat_map, map, reverse, if◌then◌else◌}
 use Rattle.definitions.specs.{Characters.{line_feed, same_text}, Cards.Card, DeckInput.Deck, Fields.unbroken_front, Objects.{Shown, object_of}}
 use Rattle.deck_cuts.specs.Cuts.{begins_deck}
 use Rattle.session_commands.specs.{Sought.begins_with, Words.{from_blank, behind_word}, declared.views.ErrorsView.ErrorsView, declared.views.ErrorsView.TheVariants.{Every, Of}}
@@ -77,12 +77,7 @@ abbrev pub deck_named : List ℕ → List Deck → Option Deck
 deck_named name [] = None
 deck_named name (deck ∷ decks) = if same_text deck.name name then Some deck else deck_named name decks
 
--- whether a deck of this name is among these
-abbrev pub has_deck : List ℕ → List Deck → Bool
-has_deck name [] = false
-has_deck name (deck ∷ decks) = same_text deck.name name || has_deck name decks
-
 -- whether the deck that is asked for is among these
 abbrev pub shows_any : ErrorsView → List Deck → Bool
 shows_any Every decks = true
-shows_any (Of name) decks = has_deck name decks
+shows_any (Of name) decks = is_some (deck_named name decks)

@@ -1,8 +1,7 @@
 -- What is shown of a publication that no definition fixes whole (ours): what is said of the flagged statements of a deck, and symbols. Of a flagged statement there is a line for each letter. Which of the statement's cards it is about, in which column, and the words are those of `card_messages`; no definition fixes them.
 use Rattle.std.specs.Prelude.{ℕ, ◌≡◌, ◌+◌, ◌≤◌, ◌&&◌, ◌⊎◌, List, [], ◌∷◌, ◌++◌, Option, Some, None, codes, decimal, flat_map, map, nat_le, if◌then◌else◌}
 use Rattle.definitions.specs.{Characters.line_feed, DeckInput.Deck}
-use Rattle.desk_core.specs.declared.replies.Reply.{Reply}
-use Rattle.session_line.specs.{Answers.IsToldBy, Errors.{Flag, Flagged, Begins, deck_named, flags_of}, Replied.shown_in, Replies.line_of, declared.answers.Told.Told}
+use Rattle.session_line.specs.{Errors.{Flag, Flagged, Begins, flags_of}, Replies.line_of, declared.answers.Told.Told}
 use Rattle.session_line.specs.declared.answers.Told.TheVariants as told
 use Rattle.session_commands.specs.declared.refusals.Refusal.TheVariants as refusal
 
@@ -70,10 +69,6 @@ abbrev pub IsSaidOf : ℕ → Option Deck → Told → Type 0
 IsSaidOf version (Some deck) what = IsSaid version deck what
 IsSaidOf version None what = what ≡ told.Refused refusal.NoDeck
 
--- what is shown of the reply to a call for the publication, of whose deck of this name it is asked what is said
-abbrev pub IsToldWords : List ℕ → Reply → Told → Type 0
-IsToldWords name reply what = IsToldBy (λ publication. IsSaidOf publication.version (deck_named name publication.decks)) (shown_in reply) what
-
 -- a text whose last line has its line feed
 pub record EndsLine (lines : List ℕ) : Type 0 where
   pub front : List ℕ
@@ -93,11 +88,3 @@ IsLines version _ = ⊥
 abbrev pub IsLinesOf : ℕ → Option Deck → Told → Type 0
 IsLinesOf version (Some deck) what = IsLines version what
 IsLinesOf version None what = what ≡ told.Refused refusal.NoDeck
-
--- what is shown of the reply to a call for the publication, of whose deck of this name the symbols are asked for
-abbrev pub IsToldSymbols : List ℕ → Reply → Told → Type 0
-IsToldSymbols name reply what = IsToldBy (λ publication. IsLinesOf publication.version (deck_named name publication.decks)) (shown_in reply) what
-
--- and of whose decks the names are asked for that they enter or have as externals
-abbrev pub IsToldNames : Reply → Told → Type 0
-IsToldNames reply what = IsToldBy (λ publication. IsLines publication.version) (shown_in reply) what

@@ -6,7 +6,8 @@ use Rattle.desk_core.specs.declared.{published_texts.PublishedText.TheVariants.{
 use Rattle.session_commands.specs.{declared.words.Seen.Seen, declared.commands.Command.Command, declared.refusals.Refusal.Refusal, Edits.{edit_in_batch, card_in_put}, Commands.command_of}
 use Rattle.session_commands.specs.declared.commands.Command.TheVariants as command
 use Rattle.desk_core.specs.declared.published_texts.DeckText.TheVariants as part
-use Rattle.session_line.specs.declared.{tasks.Task.Task, tasks.Task.TheVariants.{Make, Ask, AwaitVersion, ShowCards, ShowCardsAt, ShowText, ShowPart, ShowErrors, ShowWords, ShowNames, ShowSymbols, LoadDeck, LoadAll, ReloadDeck, SaveDeck, SaveAll, ShowFiles, ShowFileStatus, Greet, ShowHelp, Leave, Refuse}}
+use Rattle.session_line.specs.declared.tasks.PublishedView.TheVariants as showing
+use Rattle.session_line.specs.declared.{tasks.Task.Task, tasks.Task.TheVariants.{Make, Ask, AwaitVersion, ShowCards, ShowCardsAt, Show, LoadDeck, LoadAll, ReloadDeck, SaveDeck, SaveAll, ShowFiles, ShowFileStatus, Greet, ShowHelp, Leave, Refuse}}
 
 -- how many lines belong to a command behind its first
 abbrev pub lines_behind : Command → ℕ
@@ -80,15 +81,15 @@ task_of_command (command.CardsAt name version) lines = ShowCardsAt name version
 task_of_command (command.Changes name version) lines = Ask (Changes name version)
 task_of_command (command.Save name over) lines = SaveDeck name over
 task_of_command command.SaveAll lines = SaveAll
-task_of_command command.Image lines = ShowText Image
-task_of_command command.List lines = ShowText Listing
-task_of_command command.Map lines = ShowText Map
-task_of_command (command.ImageOf name) lines = ShowPart part.Section name
-task_of_command (command.ListOf name) lines = ShowPart part.Listing name
-task_of_command (command.Errors view) lines = ShowErrors view
-task_of_command (command.Words name) lines = ShowWords name
-task_of_command command.Names lines = ShowNames
-task_of_command (command.Symbols name) lines = ShowSymbols name
+task_of_command command.Image lines = Show (showing.Text Image)
+task_of_command command.List lines = Show (showing.Text Listing)
+task_of_command command.Map lines = Show (showing.Text Map)
+task_of_command (command.ImageOf name) lines = Show (showing.Part part.Section name)
+task_of_command (command.ListOf name) lines = Show (showing.Part part.Listing name)
+task_of_command (command.Errors errors) lines = Show (showing.Errors errors)
+task_of_command (command.Words name) lines = Show (showing.Words name)
+task_of_command command.Names lines = Show showing.Names
+task_of_command (command.Symbols name) lines = Show (showing.Symbols name)
 task_of_command command.Status lines = Ask Status
 task_of_command command.FileStatus lines = ShowFileStatus
 task_of_command command.Files lines = ShowFiles

@@ -1,29 +1,29 @@
 //! What a command is answered, and how the session is answered.
-ghost use Rattle.std.specs.Prelude.{◌≡◌, ◌≤◌, ◌⊎◌, length, IfOk};
+ghost use Rattle.std.specs.Prelude.{◌≡◌, ◌≤◌, ◌⊎◌, length};
 ghost use Rattle.session_line.specs.Replies.{text_of_reply, IsWithinLimits};
 ghost use Rattle.deck_linker.specs.Publishing.{map_of};
 ghost use Rattle.desk_core.specs.declared.replies.Reply.TheVariants.{CardsAre};
-ghost use Rattle.session_line.specs.Answers.{foreign, told_of_call, told_of_wait, told_of_greeting, told_of_help, told_of_sessions, told_of_cards, told_of_backs, errors_told, few_decks, part_told, text_told, errors_text, status_text, view_text, told_text, is_bye, IsMade, IsTellable, IsToldAt, IsToldErrors, IsToldPart, IsToldText};
+ghost use Rattle.session_line.specs.Answers.{foreign, told_of_call, told_of_wait, told_of_greeting, told_of_help, told_of_sessions, told_of_cards, told_of_backs, errors_told, part_told, text_told, errors_text, status_text, view_text, told_text, is_bye, IsMade, IsTellable, IsToldAt, IsToldBy, IsViewOf};
 ghost use Rattle.session_line.specs.Errors.{deck_named};
 ghost use Rattle.session_line.specs.Replied.{shown_in};
-ghost use Rattle.session_line.specs.Messages.{IsLinesOf, IsSaidOf, IsToldNames, IsToldSymbols, IsToldWords};
+ghost use Rattle.session_line.specs.Messages.{IsLines, IsLinesOf, IsSaidOf};
 
-use crate::errors::shows_any;
+use crate::errors::{object_named, shows_any};
 use crate::greetings::{Connected, Greeting};
 use crate::help::help_text;
 use crate::marked_rows::MarkedRow;
-use crate::messages::{object_named, told_of_messages};
+use crate::messages::told_of_messages;
 use crate::reasons::desk_reason;
 use crate::replied::{shown_in, status_in};
 use crate::symbol_lines::{told_of_deck_symbols, told_of_entered};
+use crate::tasks::PublishedView;
 use crate::told_decks::ToldDeck;
 use crate::views::cards_from;
 use cards::{Card, DeckName, Edit, MOST_CARDS, edited_copy, first_fault};
 use deck_files::FileRow;
 use deck_linker::{ListedPublication, PublishedListing};
 use desk_core::{
-    DeckText, KeptEdit, Listed, PublishedText, Reply, Row, SharedPublication, ShownText, show_part,
-    show_text,
+    DeckText, KeptEdit, Listed, PublishedText, Reply, Row, ShownText, show_part, show_text,
 };
 use session_commands::{CardsView, ErrorsView, Refusal};
 use std::alloc::Global;
@@ -257,23 +257,6 @@ fn text_told(
     }
 }
 
-/// What is shown of the reply to a call for the publication, of which this text is shown, where there is memory
-/// for it.
-pub(crate) fn told_of_text(
-    alloc: Global,
-    keys: RandomState,
-    text: PublishedText,
-    reply: Reply,
-) -> Told
-    ensures told { IsToldText text reply result }
-    ensures fits { IsTellable result }
-{
-    match shown_in(reply) {
-        Ok(shared) => text_told(alloc, keys, shared.publication(), text),
-        Err(refusal) => Told::Refused(refusal),
-    }
-}
-
 /// What is shown of a text of the deck of a name in a publication, where there is memory for it. Without one there
 /// is no such deck.
 fn part_told(
@@ -293,50 +276,20 @@ fn part_told(
     }
 }
 
-/// What is shown of the reply to a call for the publication, of which this text of the deck of a name is
-/// shown, where there is memory for it.
-pub(crate) fn told_of_part(
-    alloc: Global,
-    keys: RandomState,
-    text: DeckText,
-    name: &DeckName,
-    reply: Reply,
-) -> Told
-    ensures told { IsToldPart text name.now reply result }
-    ensures fits { IsTellable result }
-{
-    match shown_in(reply) {
-        Ok(shared) => part_told(alloc, keys, shared.publication(), text, name),
-        Err(refusal) => Told::Refused(refusal),
-    }
-}
-
-/// The publication that a reply shows, if it has no more decks than a desk may have.
-fn few_decks(reply: Reply) -> Result<SharedPublication, Refusal>
-    ensures is { result ≡ few_decks (shown_in reply) }
-    ensures few { IfOk result (λ shared. length shared.decks ≤ 64) }
-{
-    let shared = shown_in(reply)?;
-    if shared.publication().objects().len() <= MOST_DECKS {
-        Ok(shared)
-    } else {
-        shared.free();
-        Err(Refusal::Foreign)
-    }
-}
-
-/// What is shown of the flagged statements and LINK lines of a publication, where there is memory for them. Without
-/// the deck that is asked for there is no such deck.
+/// What is shown of the flagged statements and LINK lines of a publication with no more decks than a desk may have,
+/// where there is memory for them. Without the deck that is asked for there is no such deck.
 fn errors_told(
     alloc: Global,
     keys: RandomState,
     publication: &ListedPublication,
     view: ErrorsView,
 ) -> Told
-    requires { length publication.now.decks ≤ 64 }
     ensures told { IsMade (errors_told view publication.now.version publication.now.decks) result }
     ensures fits { IsTellable result }
 {
+    if publication.objects().len() > MOST_DECKS {
+        return foreign();
+    }
     if !shows_any(&view, publication.objects()) {
         return Told::Refused(Refusal::NoDeck);
     }
@@ -346,25 +299,8 @@ fn errors_told(
     }
 }
 
-/// What is shown of the reply to a call for the publication, of which the flagged statements and LINK lines
-/// are shown, where there is memory for them.
-pub(crate) fn told_of_errors(
-    alloc: Global,
-    keys: RandomState,
-    view: ErrorsView,
-    reply: Reply,
-) -> Told
-    ensures told { IsToldErrors view reply result }
-    ensures fits { IsTellable result }
-{
-    match few_decks(reply) {
-        Ok(shared) => errors_told(alloc, keys, shared.publication(), view),
-        Err(refusal) => Told::Refused(refusal),
-    }
-}
-
 /// What is shown of what is said of the deck of a name in a publication.
-fn told_of_words_in(
+fn words_told(
     alloc: Global,
     keys: RandomState,
     publication: &ListedPublication,
@@ -379,20 +315,8 @@ fn told_of_words_in(
     }
 }
 
-/// What is shown of the reply to a call for the publication, of whose deck of this name it is shown what is said
-/// of each flagged statement, where there is memory for that.
-pub(crate) fn told_of_words(alloc: Global, keys: RandomState, name: &DeckName, reply: Reply) -> Told
-    ensures told { IsToldWords name.now reply result }
-    ensures fits { IsTellable result }
-{
-    match shown_in(reply) {
-        Ok(publication) => told_of_words_in(alloc, keys, publication.publication(), name),
-        Err(refusal) => Told::Refused(refusal),
-    }
-}
-
 /// What is shown of the symbols of the deck of a name in a publication.
-fn told_of_symbols_in(
+fn symbols_told(
     alloc: Global,
     keys: RandomState,
     publication: &ListedPublication,
@@ -412,34 +336,46 @@ fn told_of_symbols_in(
     }
 }
 
-/// What is shown of the reply to a call for the publication, of whose deck of this name the symbols are shown,
-/// where there is memory for them.
-pub(crate) fn told_of_symbols(
-    alloc: Global,
-    keys: RandomState,
-    name: &DeckName,
-    reply: Reply,
-) -> Told
-    ensures told { IsToldSymbols name.now reply result }
+/// What is shown of the names that decks of a publication enter or have as externals.
+fn names_told(alloc: Global, publication: &ListedPublication) -> Told
+    ensures told { IsLines publication.now.version result }
     ensures fits { IsTellable result }
 {
-    match shown_in(reply) {
-        Ok(publication) => told_of_symbols_in(alloc, keys, publication.publication(), name),
-        Err(refusal) => Told::Refused(refusal),
+    told_of_entered(alloc, publication.version(), publication.objects())
+}
+
+/// What is shown of a publication, where there is memory for it.
+fn told_of_view(
+    alloc: Global,
+    keys: RandomState,
+    publication: &ListedPublication,
+    view: PublishedView,
+) -> Told
+    ensures told { IsViewOf view (record { version = publication.now.version; decks = publication.now.decks }) result }
+    ensures fits { IsTellable result }
+{
+    match view {
+        PublishedView::Text(text) => text_told(alloc, keys, publication, text),
+        PublishedView::Part(text, name) => part_told(alloc, keys, publication, text, &name),
+        PublishedView::Errors(view) => errors_told(alloc, keys, publication, view),
+        PublishedView::Words(name) => words_told(alloc, keys, publication, &name),
+        PublishedView::Names => names_told(alloc, publication),
+        PublishedView::Symbols(name) => symbols_told(alloc, keys, publication, &name),
     }
 }
 
-/// What is shown of the reply to a call for the publication, of which the names are shown that decks enter or have
-/// as externals, where there is memory for them.
-pub(crate) fn told_of_names(alloc: Global, reply: Reply) -> Told
-    ensures told { IsToldNames reply result }
+/// What is shown of the reply to a call for the publication, of which this is shown, where there is memory for it.
+pub(crate) fn told_of_published(
+    alloc: Global,
+    keys: RandomState,
+    view: PublishedView,
+    reply: Reply,
+) -> Told
+    ensures told { IsToldBy view (shown_in reply) result }
     ensures fits { IsTellable result }
 {
     match shown_in(reply) {
-        Ok(shared) => {
-            let publication = shared.publication();
-            told_of_entered(alloc, publication.version(), publication.objects())
-        }
+        Ok(shared) => told_of_view(alloc, keys, shared.publication(), view),
         Err(refusal) => Told::Refused(refusal),
     }
 }

@@ -1,8 +1,8 @@
 //! What ERRORS shows of a publication: statements of its decks that are flagged, or stand behind END and
 //! begin another deck, and LINK lines of its map.
-ghost use Rattle.std.specs.Prelude.{◌≡◌, ◌≤◌, ◌+◌, ◌*◌, ◌∷◌, cond, filter, flat_map, is_none, length, take, drop};
+ghost use Rattle.std.specs.Prelude.{◌≡◌, ◌≤◌, ◌+◌, ◌*◌, ◌∷◌, cond, filter, flat_map, is_none, length, option_map, take, drop};
 ghost use Rattle.definitions.specs.DeckInput.{Deck};
-ghost use Rattle.session_line.specs.Errors.{deck_errors, error_lines, errors_where, flag_of, has_deck, is_link, map_lines, link_deck, shows_any, shows_deck, shows_line};
+ghost use Rattle.session_line.specs.Errors.{deck_errors, deck_named, error_lines, errors_where, flag_of, is_link, map_lines, link_deck, shows_any, shows_deck, shows_line};
 ghost use Rattle.session_line.specs.Joins.FlagWalks.{flags_in, line_len};
 
 use cards::{Card, DeckName};
@@ -22,18 +22,21 @@ pub(crate) fn shows_deck(view: &ErrorsView, name: &DeckName) -> bool
     }
 }
 
-/// Whether a deck of this name is among these.
-fn has_deck(name: &DeckName, objects: &[ListedObject]) -> bool
-    ensures { result ≡ has_deck name.now objects.now }
+/// The object of the deck of a name among these, if there is one.
+pub(crate) fn object_named<'a>(
+    objects: &'a [ListedObject],
+    name: &DeckName,
+) -> Option<&'a ListedObject>
+    ensures { option_map (λ object. object.now) result ≡ deck_named name.now objects.now }
 {
     let mut rest = objects;
     while let Some((shared, others)) = rest.split_first() {
         if is_same_text(shared.object().name().as_slice(), name.as_slice()) {
-            return true;
+            return Some(shared);
         }
         rest = others;
     }
-    false
+    None
 }
 
 /// Whether the deck that is asked for is among these.
@@ -42,7 +45,7 @@ pub(crate) fn shows_any(view: &ErrorsView, objects: &[ListedObject]) -> bool
 {
     match view {
         ErrorsView::Every => true,
-        ErrorsView::Of(name) => has_deck(name, objects),
+        ErrorsView::Of(name) => object_named(objects, name).is_some(),
     }
 }
 

@@ -1,16 +1,15 @@
 //! Executes a task once.
 ghost use Rattle.std.specs.Prelude.{◌≡◌, ◌≤◌, length};
-ghost use Rattle.session_line.specs.Answers.{IsTellable, called, most_cards, told_of_call, told_of_cards, told_of_greeting, told_of_help, told_of_wait, uncalled, IsToldErrors, IsToldPart, IsToldText};
-ghost use Rattle.session_line.specs.Asking.{Asks, NotesTold};
-ghost use Rattle.session_line.specs.Executing.{AsksAt, AsksShown, AwaitsVersion, Executes, Greets, LoadsDeck};
-ghost use Rattle.session_line.specs.Messages.{IsToldNames, IsToldSymbols, IsToldWords};
+ghost use Rattle.session_line.specs.Answers.{IsTellable, called, most_cards, told_of_call, told_of_cards, told_of_greeting, told_of_help, told_of_wait, uncalled, IsToldAt, IsToldBy};
+ghost use Rattle.session_line.specs.Asking.{Asks, AsksFor, NotesTold};
+ghost use Rattle.session_line.specs.Executing.{Executes, LoadsDeck};
+ghost use Rattle.session_line.specs.Replied.{shown_in};
 ghost use Rattle.session_line.specs.SavingDecks.{SavesCards, SavesDeck};
-ghost use Rattle.desk_core.specs.declared.calls.Question.TheVariants.{Cards, Show, Status};
+ghost use Rattle.desk_core.specs.declared.calls.Question.TheVariants.{Cards, CardsAt, Show, Status};
 
 use crate::answers::{
-    Answer, Told, told_of_call, told_of_cards, told_of_cards_at, told_of_errors, told_of_greeting,
-    told_of_help, told_of_names, told_of_part, told_of_symbols, told_of_text, told_of_wait,
-    told_of_words,
+    Answer, Told, told_of_call, told_of_cards, told_of_cards_at, told_of_greeting, told_of_help,
+    told_of_published, told_of_wait,
 };
 use crate::calls::Calls;
 use crate::file_status::show_file_status;
@@ -19,11 +18,11 @@ use crate::loading_all::load_all;
 use crate::reasons::{load_reason, save_reason};
 use crate::reloading::reload_deck;
 use crate::saving_all::save_all;
-use crate::tasks::Task;
+use crate::tasks::{PublishedView, Task};
 use cards::{Card, DeckName};
 use deck_files::{SaveOver, Shelf};
-use desk_core::{Change, DeckText, NewDeck, PublishedText, Question};
-use session_commands::{CardsView, ErrorsView};
+use desk_core::{Change, NewDeck, Question};
+use session_commands::CardsView;
 use std::alloc::Global;
 use std::hash::RandomState;
 
@@ -65,7 +64,7 @@ fn ask<C: Calls>(desk: &mut C, question: Question) -> Answer
 
 /// The desk answers who waits for a version.
 fn await_version<C: Calls>(desk: &mut C, version: u64) -> Answer
-    ensures awaits { AwaitsVersion C.relations.awaits version desk.old desk.new result }
+    ensures awaits { Asks C.relations.awaits version told_of_wait desk.old desk.new result }
     ensures fits { IsTellable result.told }
 {
     called(told_of_wait(desk.await_version(version)))
@@ -73,7 +72,7 @@ fn await_version<C: Calls>(desk: &mut C, version: u64) -> Answer
 
 /// The desk is given the name of the session.
 fn greet<C: Calls>(alloc: Global, desk: &mut C, name: &DeckName) -> Answer
-    ensures greets { Greets C.relations.greets name.now desk.old desk.new result }
+    ensures greets { Asks C.relations.greets name.now told_of_greeting desk.old desk.new result }
     ensures fits { IsTellable result.told }
 {
     called(told_of_greeting(desk.greet(alloc, name)))
@@ -97,70 +96,24 @@ fn show_cards<C: Calls>(desk: &mut C, name: DeckName, view: CardsView) -> Answer
 
 /// The desk is asked for the cards of now and the changes since a version, and these are taken back.
 fn show_cards_at<C: Calls>(alloc: Global, desk: &mut C, name: DeckName, version: u64) -> Answer
-    ensures asks { AsksAt C.relations.asks name version desk.old desk.new result }
+    ensures asks { AsksFor C.relations.asks (CardsAt name version) IsToldAt desk.old desk.new result }
     ensures fits { IsTellable result.told }
 {
     let reply = desk.ask(Question::CardsAt { name, version });
     called(told_of_cards_at(alloc, reply))
 }
 
-/// The desk is asked for the publication, and a text of it is shown.
-fn show_text<C: Calls>(
+/// The desk is asked for the publication, and this of it is shown.
+fn show_published<C: Calls>(
     alloc: Global,
     keys: RandomState,
     desk: &mut C,
-    text: PublishedText,
+    view: PublishedView,
 ) -> Answer
-    ensures asks { AsksShown C.relations.asks (IsToldText text) desk.old desk.new result }
+    ensures asks { AsksFor C.relations.asks Show (λ reply. IsToldBy view (shown_in reply)) desk.old desk.new result }
     ensures fits { IsTellable result.told }
 {
-    called(told_of_text(alloc, keys, text, desk.ask(Question::Show)))
-}
-
-/// The desk is asked for the publication, and a text of one deck is shown.
-fn show_part<C: Calls>(
-    alloc: Global,
-    keys: RandomState,
-    desk: &mut C,
-    text: DeckText,
-    name: &DeckName,
-) -> Answer
-    ensures asks { AsksShown C.relations.asks (IsToldPart text name.now) desk.old desk.new result }
-    ensures fits { IsTellable result.told }
-{
-    called(told_of_part(alloc, keys, text, name, desk.ask(Question::Show)))
-}
-
-/// The desk is asked for the publication, and what is flagged in it is shown.
-fn show_errors<C: Calls>(alloc: Global, keys: RandomState, desk: &mut C, view: ErrorsView) -> Answer
-    ensures asks { AsksShown C.relations.asks (IsToldErrors view) desk.old desk.new result }
-    ensures fits { IsTellable result.told }
-{
-    called(told_of_errors(alloc, keys, view, desk.ask(Question::Show)))
-}
-
-/// The desk is asked for the publication, and what is said of what is flagged in one deck is shown.
-fn show_words<C: Calls>(alloc: Global, keys: RandomState, desk: &mut C, name: &DeckName) -> Answer
-    ensures asks { AsksShown C.relations.asks (IsToldWords name.now) desk.old desk.new result }
-    ensures fits { IsTellable result.told }
-{
-    called(told_of_words(alloc, keys, name, desk.ask(Question::Show)))
-}
-
-/// The desk is asked for the publication, and the names are shown that decks enter or have as externals.
-fn show_names<C: Calls>(alloc: Global, desk: &mut C) -> Answer
-    ensures asks { AsksShown C.relations.asks IsToldNames desk.old desk.new result }
-    ensures fits { IsTellable result.told }
-{
-    called(told_of_names(alloc, desk.ask(Question::Show)))
-}
-
-/// The desk is asked for the publication, and the symbols of one deck are shown.
-fn show_symbols<C: Calls>(alloc: Global, keys: RandomState, desk: &mut C, name: &DeckName) -> Answer
-    ensures asks { AsksShown C.relations.asks (IsToldSymbols name.now) desk.old desk.new result }
-    ensures fits { IsTellable result.told }
-{
-    called(told_of_symbols(alloc, keys, name, desk.ask(Question::Show)))
+    called(told_of_published(alloc, keys, view, desk.ask(Question::Show)))
 }
 
 /// The shelf notes the version that is shown of the deck, if one is.
@@ -242,12 +195,7 @@ pub(crate) fn execute<C: Calls, S: Shelf>(
         Task::AwaitVersion(version) => await_version(desk, version),
         Task::ShowCards(name, view) => show_cards(desk, name, view),
         Task::ShowCardsAt(name, version) => show_cards_at(alloc, desk, name, version),
-        Task::ShowText(text) => show_text(alloc, keys, desk, text),
-        Task::ShowPart(text, name) => show_part(alloc, keys, desk, text, &name),
-        Task::ShowErrors(view) => show_errors(alloc, keys, desk, view),
-        Task::ShowWords(name) => show_words(alloc, keys, desk, &name),
-        Task::ShowNames => show_names(alloc, desk),
-        Task::ShowSymbols(name) => show_symbols(alloc, keys, desk, &name),
+        Task::Show(view) => show_published(alloc, keys, desk, view),
         Task::LoadDeck(name) => load_deck(desk, shelf, name),
         Task::LoadAll(name) => load_all(alloc, desk, shelf, &name),
         Task::ReloadDeck(name) => reload_deck(desk, shelf, &name),

@@ -55,7 +55,6 @@ mod reloading;
 mod replied;
 mod saving_all;
 mod serving;
-mod taken_lines;
 
 // What clients may rest on.
 mod desk_laws;
@@ -67,7 +66,6 @@ pub use marked_rows::MarkedRow;
 pub use replies::Reply;
 pub use rights::Rights;
 pub use seat_calls::SeatCalls;
-pub use serving::{Outcome, serve_one};
-pub use taken_lines::serve_taken;
+pub use serving::{Outcome, serve_one, serve_taken};
 pub use told_decks::{DeckOutcome, ToldDeck};
 pub use writing::{reply_text, write_reply};

@@ -1,7 +1,7 @@
 //! What is said of the flagged statements of a deck, as the lines of a reply: one for each of their letters.
-ghost use Rattle.std.specs.Prelude.{◌≡◌, ◌≤◌, ◌<◌, ◌+◌, ◌++◌, ◌∷◌, All, codes, decimal, flat_map, length, map, option_map, IfOk, OnOk};
+ghost use Rattle.std.specs.Prelude.{◌≡◌, ◌≤◌, ◌<◌, ◌+◌, ◌++◌, ◌∷◌, All, codes, decimal, flat_map, length, map, IfOk, OnOk};
 ghost use Rattle.deck_objects.specs.declared.lines.Line.{Line};
-ghost use Rattle.session_line.specs.Errors.{deck_named, flag_of};
+ghost use Rattle.session_line.specs.Errors.{flag_of};
 ghost use Rattle.session_line.specs.Joins.FlagWalks.{flags_in};
 ghost use Rattle.session_line.specs.Joins.MessageWalks.{AddsMessages, told_letters};
 ghost use Rattle.session_line.specs.Messages.{AreMessages, IsMessage, IsSaid, deck_letters, letters_of, lettered, message_head, message_text, told_character};
@@ -12,9 +12,7 @@ use crate::errors::split_cards;
 use crate::reply_line::ReplyLine;
 use card_messages::{DeckWords, FlaggedStatement, Message, Words};
 use cards::{Card, DeckName, StatementRoom};
-use deck_listing::ListedObject;
 use deck_objects::{Line, Object};
-use definitions::is_same_text;
 use session_commands::Refusal;
 use std::alloc::{AllocError, Global};
 use std::hash::RandomState;
@@ -36,23 +34,6 @@ struct Said {
 struct Stand {
     cards: usize,
     statements: usize,
-}
-
-/// The object of the deck of a name among these, if there is one.
-pub(crate) fn object_named<'a>(
-    objects: &'a [ListedObject],
-    name: &DeckName,
-) -> Option<&'a ListedObject>
-    ensures { option_map (λ object. object.now) result ≡ deck_named name.now objects.now }
-{
-    let mut rest = objects;
-    while let Some((shared, others)) = rest.split_first() {
-        if is_same_text(shared.object().name().as_slice(), name.as_slice()) {
-            return Some(shared);
-        }
-        rest = others;
-    }
-    None
 }
 
 /// A character as it is shown.

@@ -1,9 +1,9 @@
-//! Reads one command whole: its line, and those that belong to it.
+//! Reads the line of a command, and those that belong to it.
 ghost use Rattle.std.specs.Prelude.{◌≡◌, IfErr, IfOk, OnOk};
 ghost use Rattle.text_ports.specs.Lines.{ReadsLine};
 ghost use Rattle.text_ports.specs.declared.lines.LineIs.TheVariants.{Line};
 ghost use Rattle.session_commands.specs.Commands.{command_of};
-ghost use Rattle.session_line.specs.Taking.{BreaksOff, Stops, StopsWithin, TakesBehind, TakesTask, count_after_reading};
+ghost use Rattle.session_line.specs.Taking.{BreaksOff, StopsWithin, TakesBehind, count_after_reading};
 ghost use Rattle.session_line.specs.Tasks.{lines_due};
 ghost use Rattle.session_line.specs.Joins.LineItems.{TakesItems};
 
@@ -27,7 +27,7 @@ pub(crate) enum Stop {
 }
 
 /// Takes one line into the buffer.
-fn take_line<R: Read>(input: &mut Counted<R>, line: &mut LineBuf) -> Result<(), Stop>
+pub(crate) fn take_line<R: Read>(input: &mut Counted<R>, line: &mut LineBuf) -> Result<(), Stop>
     ensures line { OnOk result (ReadsLine (R.remaining input.old.0) (R.remaining input.new.0) Line line.new) }
     ensures stop { IfErr result (λ stop. BreaksOff (R.remaining input.old.0) (R.remaining input.new.0) stop) }
     ensures count { input.new.1 ≡ count_after_reading result input.old.1 }
@@ -87,15 +87,4 @@ pub(crate) fn read_behind<R: Read>(
             Err(stop)
         }
     }
-}
-
-/// Reads one command whole. No line is looked at before all are read.
-pub(crate) fn read_task<R: Read>(alloc: Global, input: &mut Counted<R>) -> Result<Task, Stop>
-    ensures task { IfOk result (λ task. TakesTask (R.remaining input.old.0) (R.remaining input.new.0) task) }
-    ensures stop { IfErr result (λ stop. Stops (R.remaining input.old.0) (R.remaining input.new.0) stop) }
-    ensures count { input.new.1 ≡ count_after_reading result input.old.1 }
-{
-    let mut line = LineBuf::new();
-    take_line(input, &mut line)?;
-    read_behind(alloc, line.as_slice(), input)
 }

@@ -1,19 +1,19 @@
 //! Serves one line of a session.
 ghost use Rattle.std.specs.Prelude.{◌≡◌, ℕ};
 ghost use Rattle.session_line.specs.Answers.{IsTellable};
-ghost use Rattle.session_line.specs.Serving.{GoesOut, Serves, read_faults_after, sides, write_faults_after};
+ghost use Rattle.session_line.specs.Serving.{GoesOut, Serves, ServesBehind, outcome_of, read_faults_after, sides, write_faults_after};
 
 use crate::answers::Answer;
 use crate::calls::Calls;
 use crate::executing::execute;
-use crate::reading::{Stop, read_task};
+use crate::reading::{Stop, read_behind, take_line};
 use crate::rights::{Rights, allowed};
 use crate::write_reply;
 use deck_files::Shelf;
 use std::alloc::Global;
 use std::hash::RandomState;
 use std::io::{Read, Write};
-use text_ports::Counted;
+use text_ports::{Counted, LineBuf};
 
 /// How one line of a session was served.
 #[derive(Clone, Copy, Debug, PartialEq, Eq)]
@@ -31,7 +31,7 @@ pub enum Outcome {
 }
 
 /// Writes an answer.
-pub(crate) fn send<W: Write>(output: &mut Counted<W>, answer: &Answer) -> Outcome
+fn send<W: Write>(output: &mut Counted<W>, answer: &Answer) -> Outcome
     requires { IsTellable answer.now.told }
     ensures sent { GoesOut (W.contents output.old.0) (W.contents output.new.0) answer.now result }
     ensures count { output.new.1 ≡ write_faults_after result output.old.1 }
@@ -44,6 +44,16 @@ pub(crate) fn send<W: Write>(output: &mut Counted<W>, answer: &Answer) -> Outcom
             executed: answer.executed,
             sent: broken.sent,
         },
+    }
+}
+
+/// How a session ends where no command came whole.
+fn outcome_of(stop: Stop) -> Outcome
+    ensures { result ≡ outcome_of stop }
+{
+    match stop {
+        Stop::InputEnded => Outcome::Ended,
+        Stop::InputFailed => Outcome::ReadFault,
     }
 }
 
@@ -69,14 +79,47 @@ pub fn serve_one<R: Read, W: Write, C: Calls, S: Shelf>(
     ensures read_faults { input.new.1 ≡ read_faults_after result input.old.1 }
     ensures write_faults { output.new.1 ≡ write_faults_after result output.old.1 }
 {
-    match read_task(alloc, input) {
+    let mut line = LineBuf::new();
+    match take_line(input, &mut line) {
+        Ok(()) => serve_taken(
+            alloc,
+            keys,
+            rights,
+            line.as_slice(),
+            input,
+            output,
+            desk,
+            shelf,
+        ),
+        Err(stop) => outcome_of(stop),
+    }
+}
+
+/// Serves one line of a session as `serve_one` does, where this line was taken from the reader already, and
+/// those that belong to it were not.
+pub fn serve_taken<R: Read, W: Write, C: Calls, S: Shelf>(
+    alloc: Global,
+    keys: RandomState,
+    rights: Rights,
+    first: &[u8],
+    input: &mut Counted<R>,
+    output: &mut Counted<W>,
+    desk: &mut C,
+    shelf: &mut S,
+) -> Outcome
+    ensures serves { ServesBehind rights C.relations S.relations first.now
+        (sides (R.remaining input.old.0) (W.contents output.old.0) desk.old shelf.old)
+        (sides (R.remaining input.new.0) (W.contents output.new.0) desk.new shelf.new) result }
+    ensures read_faults { input.new.1 ≡ read_faults_after result input.old.1 }
+    ensures write_faults { output.new.1 ≡ write_faults_after result output.old.1 }
+{
+    match read_behind(alloc, first, input) {
         Ok(task) => {
             let answer = execute(alloc, keys, desk, shelf, allowed(rights, task));
             let outcome = send(output, &answer);
             answer.told.free();
             outcome
         }
-        Err(Stop::InputEnded) => Outcome::Ended,
-        Err(Stop::InputFailed) => Outcome::ReadFault,
+        Err(stop) => outcome_of(stop),
     }
 }

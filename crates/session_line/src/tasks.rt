@@ -14,6 +14,23 @@ use desk_core::{Change, DeckText, Edits, Listed, NewDeck, PublishedText, Questio
 use session_commands::{BatchHead, CardsView, Command, ErrorsView, LinesHead, Refusal, Seen};
 use std::alloc::Global;
 
+/// What is shown of the publication.
+#[derive(Drop)]
+pub(crate) enum PublishedView {
+    /// This text of it.
+    Text(PublishedText),
+    /// This text of the deck of this name.
+    Part(DeckText, DeckName),
+    /// The flagged statements and LINK lines, those of all decks or of one.
+    Errors(ErrorsView),
+    /// What is said of each flagged statement of the deck of this name.
+    Words(DeckName),
+    /// The names that decks enter or have as externals.
+    Names,
+    /// The symbols of the deck of this name.
+    Symbols(DeckName),
+}
+
 /// What a command asks for that was read whole.
 #[derive(Drop)]
 pub(crate) enum Task {
@@ -27,18 +44,8 @@ pub(crate) enum Task {
     ShowCards(DeckName, CardsView),
     /// The cards that the deck of this name had at this version are shown.
     ShowCardsAt(DeckName, u64),
-    /// This text of the publication is shown.
-    ShowText(PublishedText),
-    /// This text of the deck of this name is shown, as the publication has it.
-    ShowPart(DeckText, DeckName),
-    /// The flagged statements and LINK lines of the publication are shown, those of all decks or of one.
-    ShowErrors(ErrorsView),
-    /// What is said of each flagged statement of the deck of this name is shown, as the publication has it.
-    ShowWords(DeckName),
-    /// The names that decks enter or have as externals are shown, as the publication has them.
-    ShowNames,
-    /// The symbols of the deck of this name are shown, as the publication has it.
-    ShowSymbols(DeckName),
+    /// This of the publication is shown.
+    Show(PublishedView),
     /// The shelf's deck of this name is added.
     LoadDeck(DeckName),
     /// The decks of the shelf's file of this name are added.
@@ -180,15 +187,15 @@ fn task_of_command(alloc: Global, command: Command, edits: ItemsRead<Edit>) -> T
         }),
         Command::Save { name, over } => Task::SaveDeck(name, over),
         Command::SaveAll => Task::SaveAll,
-        Command::Image => Task::ShowText(PublishedText::Image),
-        Command::List => Task::ShowText(PublishedText::Listing),
-        Command::Map => Task::ShowText(PublishedText::Map),
-        Command::ImageOf { name } => Task::ShowPart(DeckText::Section, name),
-        Command::ListOf { name } => Task::ShowPart(DeckText::Listing, name),
-        Command::Errors(view) => Task::ShowErrors(view),
-        Command::Words { name } => Task::ShowWords(name),
-        Command::Names => Task::ShowNames,
-        Command::Symbols { name } => Task::ShowSymbols(name),
+        Command::Image => Task::Show(PublishedView::Text(PublishedText::Image)),
+        Command::List => Task::Show(PublishedView::Text(PublishedText::Listing)),
+        Command::Map => Task::Show(PublishedView::Text(PublishedText::Map)),
+        Command::ImageOf { name } => Task::Show(PublishedView::Part(DeckText::Section, name)),
+        Command::ListOf { name } => Task::Show(PublishedView::Part(DeckText::Listing, name)),
+        Command::Errors(view) => Task::Show(PublishedView::Errors(view)),
+        Command::Words { name } => Task::Show(PublishedView::Words(name)),
+        Command::Names => Task::Show(PublishedView::Names),
+        Command::Symbols { name } => Task::Show(PublishedView::Symbols(name)),
         Command::Status => Task::Ask(Question::Status),
         Command::FileStatus => Task::ShowFileStatus,
         Command::Files => Task::ShowFiles,

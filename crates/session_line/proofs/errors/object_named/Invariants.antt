@@ -1,6 +1,6 @@
 use Rattle.std.proofs.Common.{◌≡◌, length}
 use Rattle.session_line.specs.Errors.{deck_named}
-use Rattle.session_line.proofs.messages.object_named.Given as goal
+use Rattle.session_line.proofs.errors.object_named.Given as goal
 
 -- the first deck of the name among all is the first among those that are left
 abbrev pub invariant-loop-shared : goal.invariant-loop-shared
