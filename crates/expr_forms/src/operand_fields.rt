@@ -10,18 +10,6 @@ use crate::operands::{Operand, Subfield};
 use crate::subfields::Subfields;
 use definitions::{Letter, NumberBase};
 
-/// The subfield that a text of at most 711 characters is, in this number base: V where it spells no
-/// expression.
-fn lawful_subfield(text: &[u8], base: NumberBase) -> Result<Subfield<'_>, Letter>
-    requires { length text.now ≤ 711 }
-    ensures { MatchResult result
-        (λ subfield. IsSubfield base (pieces_of text.now) subfield)
-        (λ letter. (letter ≡ Letter.V) × (is_subfield base (pieces_of text.now) ≡ false)) }
-{
-    let expression = Expr::parse(text, base)?;
-    Ok(Subfield { text, expression })
-}
-
 /// The next subfield, if one is left: V where it spells no expression.
 fn next_subfield<'a>(
     subfields: &mut Subfields<'a>,
@@ -35,14 +23,32 @@ fn next_subfield<'a>(
 {
     match subfields.next() {
         None => Ok(None),
-        Some(text) => Ok(Some(lawful_subfield(text, base)?)),
+        Some(text) => {
+            let expression = Expr::parse(text, base)?;
+            Ok(Some(Subfield { text, expression }))
+        }
     }
 }
 
 /// The operand that a variable field of at most 711 characters is, in this number base: V where it
-/// has more than three subfields, or one that spells no expression.
-#[tactic(auto, using(crate::proofs::OperandLaws::refused_one, crate::proofs::OperandLaws::refused_behind))]
+/// has more than three subfields, or one that spells no expression. A field that is an expression has
+/// no comma, so it is not cut.
 pub fn operand(text: &[u8], base: NumberBase) -> Result<Operand<'_>, Letter>
+    requires { length text.now ≤ 711 }
+    ensures { MatchResult result
+        (λ operand. IsOperand base (subfields_of (pieces_of text.now)) operand)
+        (λ letter. (letter ≡ Letter.V) × (is_operand base (subfields_of (pieces_of text.now)) ≡ false)) }
+{
+    match Expr::parse(text, base) {
+        Ok(expression) => Ok(Operand::One(Subfield { text, expression })),
+        Err(_) => operand_by_subfields(text, base),
+    }
+}
+
+/// The operand that a variable field is, cut at its commas.
+#[inline(never)]
+#[tactic(auto, using(crate::proofs::OperandLaws::refused_one, crate::proofs::OperandLaws::refused_behind))]
+fn operand_by_subfields(text: &[u8], base: NumberBase) -> Result<Operand<'_>, Letter>
     requires { length text.now ≤ 711 }
     ensures { MatchResult result
         (λ operand. IsOperand base (subfields_of (pieces_of text.now)) operand)
