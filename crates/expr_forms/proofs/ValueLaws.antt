@@ -1,6 +1,7 @@
 -- The value of an expression, one link more at a time.
-use Rattle.std.{proofs.Common.{◌≡◌, ℕ, subst, List, [], ◌∷◌, refl, sym, ◌∙◌, ap}, specs.Prelude.{Result, Ok, Err, pos}}
-use Rattle.definitions.{specs.Expressions.{Element, Operator, OperatorElement, Term, Expression, Grouped, grouped}, specs.Forms.{Form, Names, Running, element_form, combined_with, product, plus_term, sum_from, closed, value_of, absolute}, specs.declared.letter.Letter.Letter, proofs.TermLaws.{JoinsFactors, JoinsTerms, term_of, onto_grouped-factor, onto_grouped-term}}
+use Rattle.std.{proofs.Math.IntN.+ℤ_idl, proofs.Common.{◌≡◌, ℕ, subst, Bool, true, false, if◌then◌else◌, List, [], ◌∷◌, Option, Some, None, refl, sym, ◌∙◌, ap}, specs.Prelude.{Result, Ok, Err, pos}}
+use Rattle.definitions.{specs.Expressions.{Element, Operator, Add, OperatorElement, Term, Expression, Grouped, grouped}, specs.Forms.{Part, Added, Subtracted, Form, Names, Running, is_in_range, running_part, running_in_range, plus_relocations, element_form, combined_with, product, plus_term, sum_from, closed, value_of, absolute}, specs.declared.letter.Letter.Letter, proofs.TermLaws.{JoinsFactors, JoinsTerms, term_of, onto_grouped-factor, onto_grouped-term}}
+use Rattle.definitions.specs.declared.letter.Letter.TheVariants as letter
 use Rattle.expr_forms.specs.{Joins.Parsed.BeginsTerm, Joins.Running.{bases_as, AreSmall}, Joins.Walks.value_at, declared.running.Base.Base}
 
 -- a fault stays the product
@@ -92,6 +93,33 @@ value-start_fault names e links more first l terms split begins is =
 pub value-nothing : (names : Names) (e : Expression) (links : List OperatorElement) → (grouped links).terms ≡ e.terms → links ≡ [] → value_of names e ≡ Ok (absolute (pos 0))
 value-nothing names e links terms none =
     ap (λ (ts : List Term). closed (sum_from names (Ok (record { number = pos 0; relocations = [] })) ts)) (sym terms ∙ ap (λ (l : List OperatorElement). (grouped l).terms) none)
+
+-- one element that is added
+abbrev nothing_yet : Running
+nothing_yet = record { number = pos 0; relocations = [] }
+
+sum-lone : (form : Form) → closed (plus_term Add nothing_yet (Ok form)) ≡ (if is_in_range form.number then Ok form else Err letter.A)
+sum-lone form =
+    ap (λ n. closed (running_in_range (record { number = n; relocations = plus_relocations Add (running_part form.part) [] }))) (+ℤ_idl form.number)
+    ∙ by form.part (is_in_range form.number)
+  where
+    by : (part : Option Part) (b : Bool) → closed (if b then Ok (record { number = form.number; relocations = plus_relocations Add (running_part part) [] }) else Err letter.A) ≡ (if b then Ok (record { number = form.number; part = part }) else Err letter.A)
+    by None true = refl
+    by (Some (Added relocation)) true = refl
+    by (Some (Subtracted relocation)) true = refl
+    by part false = refl
+
+pub value-lone : (names : Names) (e : Expression) (element : Element) (form : Form) → e.terms ≡ term_of Add element [] ∷ [] → Ok form ≡ element_form names element →
+    value_of names e ≡ (if is_in_range form.number then Ok form else Err letter.A)
+value-lone names e element form terms is =
+    ap (λ (ts : List Term). closed (sum_from names (Ok nothing_yet) ts)) terms
+    ∙ ap (λ (r : Result Form Letter). closed (plus_term Add nothing_yet r)) (sym is)
+    ∙ sum-lone form
+
+pub value-lone_fault : (names : Names) (e : Expression) (element : Element) (l : Letter) → e.terms ≡ term_of Add element [] ∷ [] → Err l ≡ element_form names element → value_of names e ≡ Err l
+value-lone_fault names e element l terms is =
+    ap (λ (ts : List Term). closed (sum_from names (Ok nothing_yet) ts)) terms
+    ∙ ap (λ (r : Result Form Letter). closed (plus_term Add nothing_yet r)) (sym is)
 
 -- no base is small
 pub AreSmall-none : (most bases : ℕ) (room : List Base) → bases ≡ 0 → AreSmall most (bases_as bases room)

@@ -11,7 +11,7 @@ use crate::links::Operator;
 use definitions::Letter;
 
 /// The greatest size of a value.
-const GREATEST: u64 = (1 << 60) - 1;
+pub(crate) const GREATEST: u64 = (1 << 60) - 1;
 
 /// A number that a checked operation gave, where it is in range, else A.
 pub(crate) fn ranged(number: Option<i64>) -> Result<i64, Letter>
@@ -64,8 +64,6 @@ pub(crate) fn combined(operator: Operator, a: Form, b: Form) -> Result<Form, Let
     }
     match operator {
         Operator::Divide => quotient(a.number(), b.number()),
-        Operator::Times => product(a.number(), b.number()),
-        Operator::Add => product(a.number(), b.number()),
-        Operator::Subtract => product(a.number(), b.number()),
+        _ => product(a.number(), b.number()),
     }
 }

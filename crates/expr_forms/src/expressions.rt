@@ -1,12 +1,12 @@
 //! One expression: a subfield's text that was read once, and its elements from left to right
 //! (COMPASS 60492600, address expressions).
-ghost use Rattle.std.specs.Prelude.{◌≡◌, ◌≤◌, ◌<◌, ◌∷◌, [], length, option_map, MatchOption, MatchResult, Some, None};
+ghost use Rattle.std.specs.Prelude.{◌≡◌, ◌≤◌, ◌<◌, ◌∷◌, [], length, option_map, IfSome, MatchOption, MatchResult, Some, None};
 ghost use Rattle.definitions.specs.Pieces.{Inside, pieces_at, pieces_of};
-ghost use Rattle.definitions.specs.Expressions.{pairs_of, grouped, with_sign, expression_of};
+ghost use Rattle.definitions.specs.Expressions.{Add, pairs_of, grouped, with_sign, expression_of};
 ghost use Rattle.definitions.specs.Laws.Grammar.{operator_of};
 ghost use Rattle.definitions.specs.declared.number_base.NumberBase.{NumberBase};
 ghost use Rattle.definitions.proofs.GrammarLaws.{pairs_from};
-ghost use Rattle.expr_forms.specs.Joins.Elements.{sign_as};
+ghost use Rattle.expr_forms.specs.Joins.Elements.{sign_as, element_as};
 ghost use Rattle.expr_forms.specs.Joins.Links.{operator_as};
 ghost use Rattle.expr_forms.specs.Joins.LoneRegisters.{other_terms};
 ghost use Rattle.expr_forms.specs.Joins.Parsed.{are_plain, links_of, BeginsTerm};
@@ -157,6 +157,20 @@ impl<'a> Expr<'a> {
         };
         let all = TextLinks::new(self.base, first, self.rest);
         Links::new(all, self.registers)
+    }
+
+    /// The element that is all of it, if one is, and is added: none of K of a sum.
+    #[inline(always)]
+    pub(crate) fn lone_element(&self) -> Option<Element<'a>>
+        ensures { IfSome result (λ element. self.now.terms ≡ record { operator = Add; element = element_as element; factors = [] } ∷ []) }
+    {
+        if !self.rest.is_empty() {
+            return None;
+        }
+        match (self.registers, self.operator) {
+            (LoneRegisters::Kept, Operator::Add) => Some(self.element),
+            _ => None,
+        }
     }
 
     /// The same expression once more.

@@ -1,8 +1,9 @@
 //! The value of an expression: its terms from left to right, and then their sum (COMPASS 60492600,
 //! evaluation of expressions).
-ghost use Rattle.std.specs.Prelude.{◌≡◌, ◌≤◌, ◌+◌, ℕ, List, length, IfSome, IfNone, IsSome, Ok, ◌∷◌};
+ghost use Rattle.std.specs.Prelude.{◌≡◌, ◌≤◌, ◌+◌, ℕ, List, length, IfSome, IfNone, IsSome, Ok, Err, ◌∷◌, if◌then◌else◌};
 ghost use Rattle.definitions.specs.Expressions.{OperatorElement};
-ghost use Rattle.definitions.specs.Forms.{number_form, element_form, combined_with, plus_term, closed, value_of};
+ghost use Rattle.definitions.specs.Forms.{number_form, element_form, combined_with, is_in_range, plus_term, closed, value_of};
+ghost use Rattle.definitions.specs.declared.letter.Letter.TheVariants as letter;
 ghost use Rattle.definitions.proofs.TermLaws.{JoinsFactors, JoinsTerms};
 ghost use Rattle.expr_forms.specs.Joins.Numbers.{number_as};
 ghost use Rattle.expr_forms.specs.Joins.Elements.{element_as};
@@ -10,7 +11,7 @@ ghost use Rattle.expr_forms.specs.Joins.Links.{operator_as, link_as};
 ghost use Rattle.expr_forms.specs.Joins.Running.{bases_as, running_as, AreSmall};
 ghost use Rattle.expr_forms.specs.Joins.Walks.{walk_value, WalksOn, ForNext, ForNoRoom};
 
-use crate::arithmetic::combined;
+use crate::arithmetic::{GREATEST, combined};
 use crate::elements::Element;
 use crate::expressions::Expr;
 use crate::forms::{Form, Names, Relocation};
@@ -226,16 +227,41 @@ fn value_of_many<N: Names>(expr: &Expr<'_>, names: &N) -> Result<Form, Letter>
     }
 }
 
-/// The value of an expression: a number and at most one block or external, or the letter of its
-/// first fault from left to right: A out of range, R relocation that is not allowed, U a symbol
-/// without a definition, V a register, Z a division by zero. Faults that only the end shows come
-/// last. Quotients lose their fraction.
-pub fn value<N: Names>(expr: &Expr<'_>, names: &N) -> Result<Form, Letter>
+/// The value of an expression, most likely with a base in four terms at most.
+#[inline(never)]
+fn value_of_few<N: Names>(expr: &Expr<'_>, names: &N) -> Result<Form, Letter>
     ensures { result ≡ value_of (N.names names.now) expr.now }
 {
     let mut room = [no_base(); 4];
     match value_in(&mut room, names, expr) {
         Some(form) => form,
         None => value_of_many(expr, names),
+    }
+}
+
+/// A form, or A where its number is out of range.
+fn form_in_range(form: Form) -> Result<Form, Letter>
+    ensures { result ≡ (if is_in_range form.number then Ok form else Err letter.A) }
+{
+    if form.number().unsigned_abs() <= GREATEST {
+        Ok(form)
+    } else {
+        Err(Letter::A)
+    }
+}
+
+/// The value of an expression: a number and at most one block or external, or the letter of its
+/// first fault from left to right: A out of range, R relocation that is not allowed, U a symbol
+/// without a definition, V a register, Z a division by zero. Faults that only the end shows come
+/// last. Quotients lose their fraction. An element alone is told without a sum.
+pub fn value<N: Names>(expr: &Expr<'_>, names: &N) -> Result<Form, Letter>
+    ensures { result ≡ value_of (N.names names.now) expr.now }
+{
+    match expr.lone_element() {
+        None => value_of_few(expr, names),
+        Some(element) => match element_form(names, element) {
+            Ok(form) => form_in_range(form),
+            Err(letter) => Err(letter),
+        },
     }
 }
