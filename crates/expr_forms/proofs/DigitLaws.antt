@@ -1,6 +1,6 @@
 -- A subfield of digits and nothing else.
-use Rattle.std.{proofs.Common.{◌≡◌, ℕ, zero, suc, ◌+◌, ◌-◌, ◌<◌, ◌≤◌, List, [], ◌∷◌, Bool, true, false, cond, ◌==◌, nat_le, if◌then◌else◌, Option, Some, None, length, take, drop, refl, sym, ◌∙◌, ap, ap₂, subst, arith}, specs.Prelude.{is_none, slice_index}, specs.List.{prefix_len, onto_first}, proofs.lemmas.Bool.le-leb, proofs.lemmas.List.Folds.length-prefix_len, proofs.Math.Seq.{drop-length, take-length}}
-use Rattle.definitions.specs.{Characters.{is_digit, comma, equals}, Numerals.number_of, CountedItems.{CountedSpan, counted_item_behind, counted_item_at}, Pieces.{Mark, Equals, AtStart, AtEquals, Inside, ByMark, Piece, Plain, mark_of, begun_by_counted_item, pieces_at, pieces_of, subfields_of}, Symbols.{Number, scaled, behind_digits, bounded, number_read}, declared.number_base.NumberBase.NumberBase}
+use Rattle.std.{proofs.Common.{◌≡◌, ℕ, suc, ◌+◌, ◌<◌, List, [], ◌∷◌, Bool, true, false, cond, ◌==◌, nat_le, if◌then◌else◌, Option, None, length, take, drop, refl, sym, ◌∙◌, ap, ap₂, subst, arith}, specs.Prelude.{is_none}, specs.List.{prefix_len, onto_first}, proofs.lemmas.Bool.le-leb, proofs.lemmas.List.Folds.length-prefix_len, proofs.Math.Seq.{drop-length, take-length}}
+use Rattle.definitions.specs.{Characters.{is_digit, comma, equals}, Numerals.number_of, CountedItems.{counted_item_behind, counted_item_at}, Pieces.{Mark, Equals, Inside, ByMark, Plain, mark_of, begun_by_counted_item, pieces_at, pieces_of, subfields_of}, Symbols.{Number, scaled, behind_digits, bounded, number_read}, declared.number_base.NumberBase.NumberBase}
 use Rattle.expr_forms.{specs.Joins.Numbers.AreDigits, specs.Joins.Subfields.{is_ended, subfields_left}, proofs.PieceLaws.{is_of_run, pieces_begun, pieces-run}}
 
 -- the number of a text, by its digits

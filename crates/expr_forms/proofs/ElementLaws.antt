@@ -1,6 +1,6 @@
 -- The pairs of a text by the pieces that begin it.
-use Rattle.std.{proofs.Common.{◌≡◌, ◌≢◌, ℕ, List, [], ◌∷◌, ◌++◌, Bool, true, false, if◌then◌else◌, ◌==◌, Option, Some, None, refl, sym, ◌∙◌, ap, ap₂, subst, arith, suc, length, codes, ◌&&◌, eq-eqb, ne_eqb}, specs.Prelude.slice_index, proofs.Math.Bool.and-false}
-use Rattle.definitions.{specs.Characters.same_text, specs.CountedItems.{CountedSpan, counted_item_at}, specs.Pieces.{Mark, Plus, Minus, Star, Equals, Spot, AtStart, AtEquals, Inside, Begun, ByMark, Piece, IsMark, IsCountedItem, Plain, mark_of, begun_by, begun_by_counted_item, spot_behind, left_of, onto_pieces, pieces_at, pieces_of}, specs.Symbols.number_read, specs.Expressions.{Sign, PlusSign, MinusSign, Element, LocationCounter, OriginCounter, Operator, OperatorElement, counter_of, literal_of, onto_pairs, pairs_of}, specs.declared.number_base.NumberBase.NumberBase, proofs.GrammarLaws.{EndsElement, pairs_from-star, pairs_from}}
+use Rattle.std.{proofs.Common.{◌≡◌, ◌≢◌, ℕ, List, [], ◌∷◌, Bool, true, false, if◌then◌else◌, ◌==◌, Option, Some, None, refl, sym, ◌∙◌, ap, ap₂, subst, arith, suc, length, codes, ◌&&◌, eq-eqb, ne_eqb}, specs.Prelude.slice_index, proofs.Math.Bool.and-false}
+use Rattle.definitions.{specs.Characters.same_text, specs.CountedItems.{CountedSpan, counted_item_at}, specs.Pieces.{Mark, Plus, Minus, Star, Equals, Inside, ByMark, Piece, IsMark, IsCountedItem, Plain, begun_by_counted_item, spot_behind, left_of, onto_pieces, pieces_at, pieces_of}, specs.Expressions.{PlusSign, MinusSign, LocationCounter, OriginCounter, Operator, counter_of, onto_pairs, pairs_of}, specs.declared.number_base.NumberBase.NumberBase, proofs.GrammarLaws.{EndsElement, pairs_from-star, pairs_from}}
 use Rattle.expr_forms.specs.Joins.{Elements.{ends_element, signed_literal}, PiecesFound.{piece_as, spot_behind_piece}}
 use Rattle.expr_forms.specs.declared.pieces.Piece as codes
 

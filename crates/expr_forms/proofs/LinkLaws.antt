@@ -1,6 +1,6 @@
 -- The pairs behind an element by the character that begins them.
 use Rattle.std.{proofs.Common.{◌≡◌, ℕ, List, [], ◌∷◌, Option, Some, None, refl, ◌∙◌, ap}, specs.Prelude.option_and_then}
-use Rattle.definitions.{specs.Pieces.{Mark, Comma, Plus, Minus, Star, Slash, Equals, AtStart, Inside, Begun, Piece, IsMark, IsCountedItem, Plain, mark_of, begun_by, spot_behind, left_of, onto_plain, onto_pieces, pieces_at, pieces_of}, specs.Expressions.{Operator, Times, Divide, Add, Subtract, OperatorElement, pairs_of, operator_of_mark}, specs.declared.number_base.NumberBase.NumberBase, proofs.GrammarLaws.pairs_from}
+use Rattle.definitions.{specs.Pieces.{Mark, Comma, Plus, Minus, Star, Slash, Equals, Inside, Piece, IsMark, IsCountedItem, Plain, mark_of, begun_by, spot_behind, left_of, onto_plain, onto_pieces, pieces_at, pieces_of}, specs.Expressions.{Operator, Times, Divide, Add, Subtract, OperatorElement, pairs_of, operator_of_mark}, specs.declared.number_base.NumberBase.NumberBase, proofs.GrammarLaws.pairs_from}
 
 -- a run is no operator
 run-unlawful : (base : NumberBase) (c : ℕ) (pieces : List Piece) → pairs_of base 0 (onto_plain c pieces) ≡ None

@@ -1,5 +1,5 @@
 -- Names as they lie in memory, and the test of two texts.
-use Rattle.std.{proofs.Common.{◌≡◌, ℕ, ◌-◌, ◌≤◌, List, [], ◌∷◌, ◌++◌, ◌==◌, length, take, drop, refl, sym, ◌∙◌, ap, ap₂, arith, length-append, Decides}, specs.Prelude.replicate, proofs.lemmas.List.{drop-replicate, length-replicate}, proofs.Math.Seq.drop-append_seam, proofs.lemmas.Bool.Decides.{Decides-eqb, Decides-and}}
+use Rattle.std.{proofs.Common.{◌≡◌, ℕ, ◌-◌, ◌≤◌, List, [], ◌∷◌, ◌++◌, ◌==◌, length, drop, refl, sym, ◌∙◌, ap, ap₂, arith, length-append, Decides}, specs.Prelude.replicate, proofs.lemmas.List.{drop-replicate, length-replicate}, proofs.Math.Seq.drop-append_seam, proofs.lemmas.Bool.Decides.{Decides-eqb, Decides-and}}
 use Rattle.definitions.specs.Characters.{same_text}
 use Rattle.expr_forms.specs.Joins.NamesInline.{IsName}
 

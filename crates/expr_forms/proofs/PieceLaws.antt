@@ -1,6 +1,6 @@
 -- The pieces of a text by what begins it.
-use Rattle.std.{proofs.Common.{◌≡◌, ℕ, zero, suc, ◌+◌, ◌-◌, ◌<◌, List, [], ◌∷◌, Bool, true, false, cond, Option, Some, None, length, take, drop, refl, sym, ◌∙◌, ap, subst, arith}, specs.Prelude.{is_none, slice_index}, specs.List.prefix_len}
-use Rattle.definitions.specs.{CountedItems.{CountedItem, CountedSpan, counted_item_at}, Pieces.{Mark, Spot, AtEquals, Inside, Begun, ByMark, ByCountedItem, ByOther, Piece, IsMark, IsCountedItem, Plain, mark_of, begun_by, begun_by_counted_item, spot_behind, left_of, onto_plain, onto_pieces, pieces_at}}
+use Rattle.std.{proofs.Common.{◌≡◌, ℕ, zero, suc, ◌+◌, ◌-◌, ◌<◌, List, [], ◌∷◌, Bool, cond, Option, Some, None, length, take, drop, refl, sym, ◌∙◌, ap, arith}, specs.Prelude.{is_none, slice_index}, specs.List.prefix_len}
+use Rattle.definitions.specs.{CountedItems.{CountedSpan, counted_item_at}, Pieces.{Mark, Spot, AtEquals, Inside, Begun, ByMark, Piece, IsMark, IsCountedItem, Plain, mark_of, begun_by, begun_by_counted_item, spot_behind, left_of, onto_plain, onto_pieces, pieces_at}}
 
 -- whether a character belongs to a run
 abbrev pub is_of_run : ℕ → Bool

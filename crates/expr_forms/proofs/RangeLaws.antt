@@ -1,6 +1,6 @@
 -- Checked arithmetic against the range of values.
-use Rattle.std.{proofs.Common.{◌≡◌, ℕ, zero, suc, ne_eqb, ◌<◌, ◌≤◌, ◌^◌, inl, inr, Bool, true, false, Option, Some, None, refl, sym, ◌∙◌, ap, arith, if◌then◌else◌}, specs.Prelude.{ℤ, pos, negsuc, int_div, Result, Ok, Err, FitsSigned, unsigned_abs, nat_le}, specs.Int.{w64, IsNonZero}, specs.Option.SomeIff, proofs.lemmas.Int.fits_signed_from_abs, proofs.lemmas.Bool.{lt-leb, le-leb}, proofs.lemmas.Bool.Decides.leb_tells}
-use Rattle.definitions.specs.{Symbols.greatest, Forms.{is_in_range, in_range, quotient}, declared.letter.Letter.Letter}
+use Rattle.std.{proofs.Common.{◌≡◌, zero, suc, ne_eqb, ◌<◌, ◌≤◌, ◌^◌, inl, inr, Bool, Option, Some, None, refl, sym, ◌∙◌, ap, arith, if◌then◌else◌}, specs.Prelude.{ℤ, pos, negsuc, int_div, Ok, Err, FitsSigned, unsigned_abs}, specs.Int.{w64, IsNonZero}, specs.Option.SomeIff, proofs.lemmas.Int.fits_signed_from_abs, proofs.lemmas.Bool.{lt-leb, le-leb}, proofs.lemmas.Bool.Decides.leb_tells}
+use Rattle.definitions.specs.{Symbols.greatest, Forms.{in_range, quotient}}
 use Rattle.definitions.specs.declared.letter.Letter.TheVariants as letter
 use Rattle.expr_forms.specs.Joins.Ranges.{ranged}
 

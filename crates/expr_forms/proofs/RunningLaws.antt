@@ -1,8 +1,8 @@
 -- The bases of a sum, one more at a time.
-use Rattle.std.{proofs.Common.{◌≡◌, ◌≢◌, ℕ, zero, suc, ◌+◌, ◌<◌, ◌≤◌, inl, inr, List, [], ◌∷◌, ◌++◌, Bool, true, false, not, cond, if◌then◌else◌, ◌==◌, Option, Some, None, length, take, drop, get_or, set, refl, sym, ◌∙◌, ap, subst, arith, eq-eqb, ne_eqb}, specs.Prelude.{ℤ, pos, negsuc, ◌+ℤ◌, unsigned_abs, map, Result, Ok, Err}, specs.List.prefix_len, proofs.lemmas.Int.ints, proofs.lemmas.List.{length-take-le, get_or-take, take_more_set, map_push}, proofs.Math.Seq.take-set-lt}
+use Rattle.std.{proofs.Common.{◌≡◌, ◌≢◌, ℕ, zero, suc, ◌+◌, ◌<◌, ◌≤◌, List, [], ◌∷◌, ◌++◌, Bool, true, false, not, cond, if◌then◌else◌, Option, Some, None, length, take, get_or, set, refl, sym, ◌∙◌, ap, subst, arith, ne_eqb}, specs.Prelude.{ℤ, pos, negsuc, ◌+ℤ◌, unsigned_abs, map, Result, Ok, Err}, specs.List.prefix_len, proofs.lemmas.Int.ints, proofs.lemmas.List.{length-take-le, get_or-take, take_more_set, map_push}, proofs.Math.Seq.take-set-lt}
 use Rattle.definitions.specs.{Forms.{Relocation, Part, Added, Subtracted, Form, Running, same_relocation, running_part, plus_relocation, plus_relocations, is_in_range, is_zero, is_negative, running_in_range, remaining, part_of, plus_term, signed}, Expressions.{Operator, Times, Divide, Add, Subtract}, declared.letter.Letter.Letter}
 use Rattle.definitions.specs.declared.letter.Letter.TheVariants as letter
-use Rattle.expr_forms.specs.{Joins.Ranges.ranged, Joins.FormsAs.relocation_as, Joins.Running.{base_as, is_other, AreSmall, left_list, part_times, part_relocation}, declared.running.Base.Base}
+use Rattle.expr_forms.specs.{Joins.Ranges.ranged, Joins.FormsAs.relocation_as, Joins.Running.{base_as, is_other, AreSmall, part_times, part_relocation}, declared.running.Base.Base}
 
 -- the size of a sum
 pub abs-add : (n t : ℤ) → unsigned_abs (n +ℤ t) ≤ unsigned_abs n + unsigned_abs t

@@ -1,6 +1,6 @@
 -- A number times a power of two, where the number is known up to a cap.
-use Rattle.std.proofs.{Common.{◌≡◌, ◌≢◌, ℕ, ◌+◌, ◌-◌, ◌*◌, ◌^◌, ◌/◌, ◌<◌, ◌≤◌, min, Bool, true, false, Option, Some, refl, sym, ◌∙◌, ap, arith, if◌then◌else◌, inl, inr}, lemmas.Bool.{le-leb, lt-leb}, lemmas.Bool.Decides.leb_tells, lemmas.Nat.{shr_le, le-div, pow_pos}, Math.Pow.pow_mono, Math.Nat.{div-mul-le_self, mul-le-mul_right, mul-le-mul}}
-use Rattle.definitions.specs.Symbols.{Number, Value, TooGreat, bounded, greatest}
+use Rattle.std.proofs.{Common.{◌≡◌, ◌≢◌, ℕ, ◌*◌, ◌^◌, ◌/◌, ◌<◌, ◌≤◌, min, Bool, Some, sym, ◌∙◌, ap, arith, if◌then◌else◌, inl, inr}, lemmas.Bool.{le-leb, lt-leb}, lemmas.Bool.Decides.leb_tells, lemmas.Nat.{shr_le, le-div, pow_pos}, Math.Pow.pow_mono, Math.Nat.{div-mul-le_self, mul-le-mul_right, mul-le-mul}}
+use Rattle.definitions.specs.Symbols.{Value, TooGreat, bounded, greatest}
 
 -- a number above the greatest
 bounded-TooGreat : (number : ℕ) → greatest < number → bounded (Some number) ≡ Some TooGreat

@@ -81,15 +81,8 @@ fn behind_width<'a>(
     match text.split_first() {
         None => None,
         Some((c, behind)) => match mark_of(*c) {
-            None => None,
-            Some(mark) => match mark {
-                Mark::Slash => behind_slash(literals, base, width, behind),
-                Mark::Comma => None,
-                Mark::Plus => None,
-                Mark::Minus => None,
-                Mark::Star => None,
-                Mark::Equals => None,
-            },
+            Some(Mark::Slash) => behind_slash(literals, base, width, behind),
+            _ => None,
         },
     }
 }
@@ -105,8 +98,7 @@ fn vfd_field(literals: bool, base: NumberBase, text: &[u8]) -> Option<BitField<'
         None => None,
         Some(found) => match found.piece {
             Piece::Run(width) => behind_width(literals, base, width, found.rest),
-            Piece::Item(_) => None,
-            Piece::Mark(_) => None,
+            _ => None,
         },
     }
 }

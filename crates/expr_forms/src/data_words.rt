@@ -69,8 +69,7 @@ fn signed_number(base: NumberBase, sign: Sign, text: &[u8]) -> Option<Datum<'_>>
         None => None,
         Some(found) => match found.piece {
             Piece::Run(run) => lone_number(base, sign, run, found.rest),
-            Piece::Item(_) => None,
-            Piece::Mark(_) => None,
+            _ => None,
         },
     }
 }
@@ -82,10 +81,7 @@ fn data_behind(base: NumberBase, mark: Mark, text: &[u8]) -> Option<Datum<'_>>
     match mark {
         Mark::Plus => signed_number(base, Sign::Plus, text),
         Mark::Minus => signed_number(base, Sign::Minus, text),
-        Mark::Comma => None,
-        Mark::Star => None,
-        Mark::Slash => None,
-        Mark::Equals => None,
+        _ => None,
     }
 }
 

@@ -53,8 +53,7 @@ pub(crate) fn count_read(most: u64, number: Option<Number>) -> Option<u64>
                 None
             }
         }
-        Some(Number::TooGreat) => None,
-        None => None,
+        _ => None,
     }
 }
 

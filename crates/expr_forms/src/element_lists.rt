@@ -53,12 +53,7 @@ fn next_literal<'a>(links: &mut Links<'a>) -> Option<Literal<'a>>
             None => return None,
             Some(link) => match link.element {
                 Element::Literal(literal) => return Some(literal),
-                Element::Number(_) => {}
-                Element::Item(_) => {}
-                Element::Symbol(_) => {}
-                Element::Register(_) => {}
-                Element::LocationCounter => {}
-                Element::OriginCounter => {}
+                _ => {}
             },
         }
     }
@@ -74,12 +69,7 @@ fn next_symbol<'a>(links: &mut Links<'a>) -> Option<&'a [u8]>
             None => return None,
             Some(link) => match link.element {
                 Element::Symbol(name) => return Some(name),
-                Element::Number(_) => {}
-                Element::Item(_) => {}
-                Element::Literal(_) => {}
-                Element::Register(_) => {}
-                Element::LocationCounter => {}
-                Element::OriginCounter => {}
+                _ => {}
             },
         }
     }

@@ -101,12 +101,8 @@ fn ends_element(mark: Mark) -> bool
     ensures { result ≡ ends_element (mark_as mark) }
 {
     match mark {
-        Mark::Comma => true,
-        Mark::Plus => true,
-        Mark::Minus => true,
-        Mark::Star => true,
-        Mark::Slash => true,
         Mark::Equals => false,
+        _ => true,
     }
 }
 
@@ -160,8 +156,7 @@ fn behind_sign(base: NumberBase, sign: Sign, text: &[u8]) -> Option<ElementFound
         None => None,
         Some(found) => match found.piece {
             Piece::Run(run) => number_literal(base, sign, run, found.rest),
-            Piece::Item(_) => None,
-            Piece::Mark(_) => None,
+            _ => None,
         },
     }
 }
@@ -175,10 +170,7 @@ fn behind_equals_mark(base: NumberBase, mark: Mark, text: &[u8]) -> Option<Eleme
     match mark {
         Mark::Plus => behind_sign(base, Sign::Plus, text),
         Mark::Minus => behind_sign(base, Sign::Minus, text),
-        Mark::Comma => None,
-        Mark::Star => None,
-        Mark::Slash => None,
-        Mark::Equals => None,
+        _ => None,
     }
 }
 
@@ -210,10 +202,7 @@ fn behind_mark(base: NumberBase, mark: Mark, text: &[u8]) -> Option<ElementFound
     match mark {
         Mark::Star => behind_star(text),
         Mark::Equals => behind_equals(base, text),
-        Mark::Comma => None,
-        Mark::Plus => None,
-        Mark::Minus => None,
-        Mark::Slash => None,
+        _ => None,
     }
 }
 

@@ -17,8 +17,7 @@ fn linked_name(text: &[u8]) -> Option<&[u8]>
         None => None,
         Some(found) => match found.piece {
             Piece::Run(run) => lone_name(run, found.rest),
-            Piece::Item(_) => None,
-            Piece::Mark(_) => None,
+            _ => None,
         },
     }
 }

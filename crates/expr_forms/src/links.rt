@@ -61,10 +61,8 @@ pub(crate) fn joins_terms(operator: Operator) -> bool
     ensures { result ≡ joins_terms (operator_as operator) }
 {
     match operator {
-        Operator::Times => false,
-        Operator::Divide => false,
-        Operator::Add => true,
-        Operator::Subtract => true,
+        Operator::Times | Operator::Divide => false,
+        Operator::Add | Operator::Subtract => true,
     }
 }
 
@@ -74,12 +72,7 @@ fn is_register(element: Element<'_>) -> bool
 {
     match element {
         Element::Register(_) => true,
-        Element::Number(_) => false,
-        Element::Item(_) => false,
-        Element::Symbol(_) => false,
-        Element::LocationCounter => false,
-        Element::OriginCounter => false,
-        Element::Literal(_) => false,
+        _ => false,
     }
 }
 

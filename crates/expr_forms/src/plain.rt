@@ -43,11 +43,7 @@ pub(crate) fn is_allowed(literals: bool, element: Element<'_>) -> bool
     match element {
         Element::Register(_) => false,
         Element::Literal(literal) => is_allowed_literal(literals, literal),
-        Element::Number(_) => true,
-        Element::Item(_) => true,
-        Element::Symbol(_) => true,
-        Element::LocationCounter => true,
-        Element::OriginCounter => true,
+        _ => true,
     }
 }
 
@@ -86,12 +82,7 @@ fn whole_item(element: Element<'_>) -> Option<ItemText<'_>>
 {
     match element {
         Element::Item(item) => Some(item),
-        Element::Number(_) => None,
-        Element::Symbol(_) => None,
-        Element::Register(_) => None,
-        Element::LocationCounter => None,
-        Element::OriginCounter => None,
-        Element::Literal(_) => None,
+        _ => None,
     }
 }
 
@@ -133,8 +124,7 @@ impl<'a> Expr<'a> {
     {
         match self.sign() {
             Sign::Absent => item_alone(&mut self.links()),
-            Sign::Plus => None,
-            Sign::Minus => None,
+            Sign::Plus | Sign::Minus => None,
         }
     }
 }

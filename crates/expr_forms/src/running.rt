@@ -118,9 +118,7 @@ fn part_base(operator: Operator, part: Part) -> Base
 {
     match operator {
         Operator::Subtract => subtracted_base(part),
-        Operator::Add => added_base(part),
-        Operator::Times => added_base(part),
-        Operator::Divide => added_base(part),
+        _ => added_base(part),
     }
 }
 
@@ -146,9 +144,7 @@ fn signed_sum(operator: Operator, a: i64, b: i64) -> Result<i64, Letter>
 {
     match operator {
         Operator::Subtract => ranged(a.checked_sub(b)),
-        Operator::Add => ranged(a.checked_add(b)),
-        Operator::Times => ranged(a.checked_add(b)),
-        Operator::Divide => ranged(a.checked_add(b)),
+        _ => ranged(a.checked_add(b)),
     }
 }
 

@@ -43,14 +43,8 @@ impl<'a> Field<'a> {
     {
         match self {
             Field::Absent => 0,
-            Field::Address(_) => 18,
-            Field::Count(_) => 6,
-            Field::Zero => 6,
-            Field::Short(_) => 6,
-            Field::Displacement(_) => 6,
-            Field::Shift(_) => 6,
-            Field::Wide(_) => 18,
-            Field::Long(_, _) => 18,
+            Field::Address(_) | Field::Wide(_) | Field::Long(_, _) => 18,
+            _ => 6,
         }
     }
 }

@@ -86,9 +86,7 @@ fn with_register(text: RegisterText, operator: Operator, register: Register) -> 
 {
     match operator {
         Operator::Subtract => with_sign(text, b'-', register),
-        Operator::Add => behind_plus(text, register),
-        Operator::Times => behind_plus(text, register),
-        Operator::Divide => behind_plus(text, register),
+        _ => behind_plus(text, register),
     }
 }
 
@@ -147,12 +145,7 @@ fn with_term(parts: Parts, link: Link<'_>, alone: bool) -> Parts
     }
     match link.element {
         Element::Register(register) => with_lone(parts, link.operator, register),
-        Element::Number(_) => with_other(parts),
-        Element::Item(_) => with_other(parts),
-        Element::Symbol(_) => with_other(parts),
-        Element::LocationCounter => with_other(parts),
-        Element::OriginCounter => with_other(parts),
-        Element::Literal(_) => with_other(parts),
+        _ => with_other(parts),
     }
 }
 

@@ -96,8 +96,7 @@ fn common_block(text: &[u8], kind: DeckKind) -> UseField
                 UseField::Refused
             }
         }
-        DeckKind::Abs => UseField::Refused,
-        DeckKind::Periph => UseField::Refused,
+        DeckKind::Abs | DeckKind::Periph => UseField::Refused,
     }
 }
 

@@ -1,6 +1,6 @@
 -- A counted item as characters in places of six bits each (COMPASS 60492600, data items).
 use Rattle.std.specs.Prelude.{ℕ, ◌-◌, List, ◌++◌, Bool, true, false, Option, Some, None, ◌&&◌, nat_le, length, replicate, if◌then◌else◌}
-use Rattle.definitions.specs.{Characters.blank, CountedItems.{CountedItem, item_letter_of}, declared.item_letter.ItemLetter.ItemLetter, declared.item_letter.ItemLetter.TheVariants.{H, A, L, R, C}}
+use Rattle.definitions.specs.{Characters.blank, CountedItems.{CountedItem, item_letter_of}, declared.item_letter.ItemLetter.ItemLetter, declared.item_letter.ItemLetter.TheVariants.{H, A, R}}
 
 -- A and R: the characters stand at the end
 abbrev pub is_at_end : ItemLetter → Bool

@@ -1,5 +1,5 @@
 -- Elements of the code, in the words of the definitions.
-use Rattle.std.specs.Prelude.{ℕ, List, [], ◌∷◌, Option, Some, None, Bool, true, false}
+use Rattle.std.specs.Prelude.{List, ◌∷◌, Option, Some, None, Bool, true, false}
 use Rattle.definitions.specs.{Pieces.{Mark, Equals, Piece, Plain, Inside, pieces_at}, Symbols.number_read, Expressions.{Sign, NoSign, PlusSign, MinusSign, Literal, OfNumber, OfCountedItem, Element, ANumber, ACountedItem, ASymbol, ARegister, LocationCounter, OriginCounter, ALiteral, Operator, OperatorElement, literal_of, onto_pairs, pairs_of}, declared.number_base.NumberBase.NumberBase, Laws.ItemTexts.item_as}
 use Rattle.expr_forms.specs.Joins.{Numbers.number_as, Registers.register_as}
 use Rattle.expr_forms.specs.declared.elements.Sign as signs

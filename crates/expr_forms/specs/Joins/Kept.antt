@@ -1,5 +1,4 @@
 -- What is kept of a reading, in the words of what was read.
-use Rattle.std.specs.Prelude.{ℕ}
 use Rattle.definitions.specs.{Symbols.Value, Expressions.{Element, ANumber, ASymbol, ARegister, LocationCounter, OriginCounter, ALiteral, OfNumber, OperatorElement}}
 use Rattle.expr_forms.specs.{Joins.Elements.sign_as, Joins.Links.operator_as, Joins.Registers.register_as, declared.links.Operator.Operator, declared.shapes.Field.Field, declared.shapes.Shape.Shape}
 use Rattle.expr_forms.specs.declared.kept_expressions.KeptElement as elements

@@ -1,5 +1,5 @@
 -- The pieces that were found in a text, in the words of the definitions.
-use Rattle.std.specs.Prelude.{ℕ, List, [], ◌∷◌, Option, Some, None}
+use Rattle.std.specs.Prelude.{List, [], ◌∷◌, Option, Some, None}
 use Rattle.definitions.specs.{Laws.ItemTexts.item_as, Pieces.{Mark, Comma, Plus, Minus, Star, Slash, Equals, Piece, IsMark, IsCountedItem, Plain, Spot, Inside, ByMark, spot_behind, pieces_at}}
 use Rattle.expr_forms.specs.declared.pieces.Mark as marks
 use Rattle.expr_forms.specs.declared.pieces.Mark.TheVariants as mark

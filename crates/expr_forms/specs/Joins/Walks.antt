@@ -1,5 +1,5 @@
 -- The value of an expression while its links are walked over.
-use Rattle.std.specs.Prelude.{ℕ, ◌≡◌, List, Result, Ok, Err, ⊤}
+use Rattle.std.specs.Prelude.{◌≡◌, List, Result, Ok, Err, ⊤}
 use Rattle.definitions.specs.{Expressions.{Operator, OperatorElement, grouped}, Forms.{Form, Names, Running, product, plus_term, sum_from, closed}, declared.letter.Letter.Letter}
 use Rattle.expr_forms.specs.{Joins.Links.operator_as, Joins.Running.running_as, declared.running.Base.Base, declared.values.Walk.Walk}
 use Rattle.expr_forms.specs.declared.values.Walked as codes

@@ -1,4 +1,4 @@
-use Rattle.std.proofs.{Common.{ℕ, ◌≤◌, ◌<◌, ◌^◌, ap, arith, length, take}, lemmas.List.{length-take-le, take_all}}
+use Rattle.std.proofs.{Common.{ap, arith, take}, lemmas.List.{length-take-le, take_all}}
 use Rattle.definitions.specs.Forms.{characters_number}
 use Rattle.expr_forms.proofs.ItemLaws.{characters_number-small, characters_number-fits}
 use Rattle.expr_forms.proofs.coding.characters_number.Goals as goal

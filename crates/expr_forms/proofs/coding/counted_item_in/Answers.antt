@@ -1,4 +1,4 @@
-use Rattle.std.proofs.{Common.{◌≡◌, ◌≤◌, ◌*◌, ◌/◌, ◌∙◌, sym, ap, Some, arith}, Math.Nat.mod-eq_of_lt}
+use Rattle.std.proofs.{Common.{◌≤◌, ◌*◌, ◌/◌, ◌∙◌, sym, ap, Some, arith}, Math.Nat.mod-eq_of_lt}
 use Rattle.definitions.specs.CountedItems.{bits_needed}
 use Rattle.expr_forms.{specs.Joins.CodedItems.in_places, proofs.CodedLaws.{counted_item_in-at_end, counted_item_in-in_front, shifted-small}}
 use Rattle.expr_forms.proofs.coding.counted_item_in.Goals as goal

@@ -1,6 +1,5 @@
-use Rattle.std.proofs.Common.{◌≡◌, ℕ, ◌+◌, ◌*◌, ◌/◌, ◌≤◌, ◌<◌, ◌∙◌, sym, ap, length, mul-le-mul, arith}
-use Rattle.definitions.specs.Kinds.{word_bits}
-use Rattle.expr_forms.proofs.CodedLaws.{word_bits-few, words_needed-room, counted_item_word}
+use Rattle.std.proofs.Common.{ℕ, ◌*◌, ◌/◌, ◌≤◌, ◌∙◌, sym, mul-le-mul, arith}
+use Rattle.expr_forms.proofs.CodedLaws.{word_bits-few, counted_item_word}
 use Rattle.expr_forms.proofs.coding.counted_item_word.Goals as goal
 
 -- at most 51 words of at most 10 characters

@@ -1,4 +1,4 @@
-use Rattle.std.proofs.{Common.{◌≡◌, ℕ, ◌+◌, ◌-◌, ◌*◌, ◌≤◌, ◌<◌, arith, length, take, drop, ap, ◌∙◌, sym}, lemmas.List.{length-take-le, length-drop}}
+use Rattle.std.proofs.{Common.{◌≡◌, ◌+◌, ◌-◌, ◌*◌, arith, length, take, drop, ap, ◌∙◌, sym}, lemmas.List.{length-take-le, length-drop}}
 use Rattle.definitions.specs.Forms.{characters_number}
 use Rattle.expr_forms.{specs.Joins.CodedItems.in_places, proofs.ItemLaws.characters_number-small, proofs.CodedLaws.{characters_number-more_from, code_or_zero, length-in_places}}
 use Rattle.expr_forms.proofs.coding.number_in_places.Goals as goal

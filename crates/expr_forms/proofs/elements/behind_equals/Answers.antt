@@ -1,4 +1,4 @@
-use Rattle.std.proofs.Common.{◌≡◌, ◌∙◌, ◌∷◌, List, ap, sym}
+use Rattle.std.proofs.Common.{◌∙◌, ◌∷◌, List, ap, sym}
 use Rattle.definitions.{specs.Pieces.{Equals, AtEquals, Piece, IsMark, pieces_at}, proofs.GrammarLaws.pairs_from}
 use Rattle.expr_forms.proofs.ElementLaws.{found_is}
 use Rattle.expr_forms.proofs.elements.behind_equals.Goals as goal

@@ -1,4 +1,4 @@
-use Rattle.std.proofs.Common.{◌≡◌, ◌∙◌, ◌∷◌, [], List, ap, sym}
+use Rattle.std.proofs.Common.{◌∙◌, ◌∷◌, [], List, ap, sym}
 use Rattle.definitions.{specs.Pieces.{Star, ByMark, Piece, IsMark, spot_behind, pieces_at, pieces_of}, proofs.GrammarLaws.pairs_from}
 use Rattle.expr_forms.{specs.Joins.PiecesFound.mark_as, proofs.ElementLaws.{found_is, star-alone, star-equals, mark-ends}}
 use Rattle.expr_forms.proofs.elements.behind_star.Goals as goal

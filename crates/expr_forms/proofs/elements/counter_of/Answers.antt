@@ -1,5 +1,5 @@
-use Rattle.std.proofs.Common.{◌∙◌, sym}
-use Rattle.expr_forms.proofs.ElementLaws.{one_of, counter-O, counter-L, counter-other, counter-length}
+use Rattle.std.proofs.Common.{sym}
+use Rattle.expr_forms.proofs.ElementLaws.{counter-length}
 use Rattle.expr_forms.proofs.elements.counter_of.Goals as goal
 
 pub returns-then-run-ne1 : goal.returns-then-run-ne1

@@ -1,4 +1,4 @@
-use Rattle.std.proofs.Common.{◌≡◌, ◌∙◌, List, ap, sym}
+use Rattle.std.proofs.Common.{◌∙◌, List, ap, sym}
 use Rattle.definitions.{specs.Pieces.{Piece, pieces_of}, proofs.GrammarLaws.pairs_from}
 use Rattle.expr_forms.proofs.ElementLaws.{found_is}
 use Rattle.expr_forms.proofs.elements.next_element.Goals as goal

@@ -1,5 +1,4 @@
-use Rattle.std.proofs.Common.{arith}
-use Rattle.expr_forms.proofs.ScaleLaws.{too_great-scale, too_great-value, in_range-value}
+use Rattle.expr_forms.proofs.ScaleLaws.{too_great-scale}
 use Rattle.expr_forms.proofs.numbers.with_scale.Goals as goal
 
 pub returns-then-scale-ge60 : goal.returns-then-scale-ge60

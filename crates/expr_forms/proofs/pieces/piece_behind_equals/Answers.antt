@@ -1,5 +1,5 @@
 use Rattle.std.proofs.Common.{◌∙◌, ◌∷◌, List, ℕ, ap, sym}
-use Rattle.definitions.specs.{Pieces.{Inside, Piece, IsCountedItem, pieces_at}, Laws.ItemTexts.{item_as, span_as}}
+use Rattle.definitions.specs.{Pieces.{Inside, IsCountedItem, pieces_at}, Laws.ItemTexts.{item_as, span_as}}
 use Rattle.expr_forms.proofs.PieceLaws.{pieces-item}
 use Rattle.expr_forms.proofs.pieces.piece_behind_equals.Goals as goal
 

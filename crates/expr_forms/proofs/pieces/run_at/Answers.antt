@@ -1,5 +1,5 @@
-use Rattle.std.{proofs.Common.{◌≡◌, ◌∙◌, ◌+◌, ◌∷◌, List, ℕ, ap, ap₂, sym, take, drop}, specs.List.prefix_len, specs.Prelude.is_none}
-use Rattle.definitions.specs.Pieces.{Inside, Piece, Plain, mark_of, pieces_at}
+use Rattle.std.{proofs.Common.{◌∙◌, ◌∷◌, List, ℕ, ap, ap₂, sym}, specs.List.prefix_len, specs.Prelude.is_none}
+use Rattle.definitions.specs.Pieces.{Inside, Plain, mark_of, pieces_at}
 use Rattle.expr_forms.proofs.PieceLaws.{pieces-run}
 use Rattle.expr_forms.proofs.pieces.run_at.Goals as goal
 

@@ -1,4 +1,4 @@
-use Rattle.std.{proofs.Common.{◌∙◌, ap, arith, refl, set, take}, specs.Prelude.ℤ, proofs.lemmas.Int.ints}
+use Rattle.std.{proofs.Common.{◌∙◌, ap, arith, refl, set}, specs.Prelude.ℤ, proofs.lemmas.Int.ints}
 use Rattle.expr_forms.{specs.Joins.FormsAs.relocation_as, specs.Joins.Running.bases_as, proofs.RunningLaws.{add-found, add-new, small-at, with_times}}
 use Rattle.expr_forms.proofs.running.add_base.Goals as goal
 

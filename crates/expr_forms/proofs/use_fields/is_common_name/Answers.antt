@@ -1,4 +1,4 @@
-use Rattle.std.proofs.Common.{◌∙◌, ◌&&◌, sym, ap, ap₂, eq-eqb, ne_eqb}
+use Rattle.std.proofs.Common.{◌∙◌, ◌&&◌, sym, ap₂, eq-eqb, ne_eqb}
 use Rattle.definitions.specs.Symbols.{is_linked_name}
 use Rattle.expr_forms.proofs.ReadingLaws.{is_common_name-by}
 use Rattle.expr_forms.proofs.use_fields.is_common_name.Goals as goal
