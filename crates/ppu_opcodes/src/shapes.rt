@@ -34,8 +34,7 @@ fn only_value<'a>(operand: &Operand<'a>) -> Option<Expr<'a>>
 {
     match operand {
         Operand::One(first) => plain_value(first),
-        Operand::Two(_, _) => None,
-        Operand::Three(_, _, _) => None,
+        _ => None,
     }
 }
 
@@ -125,11 +124,7 @@ pub fn ignoring<'a>(operation: &[u8]) -> Option<Shape<'a>>
         None => None,
         Some(code) => match code.form {
             Form::Ignored => Some(shape_of(code.digits, Field::Zero)),
-            Form::Short => None,
-            Form::ShortJump => None,
-            Form::Shift => None,
-            Form::Wide => None,
-            Form::Long => None,
+            _ => None,
         },
     }
 }
