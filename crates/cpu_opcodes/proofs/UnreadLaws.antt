@@ -1,6 +1,6 @@
 -- Where a subfield spells no expression, or there are none or more than three, no row fits.
 use Rattle.std.{proofs.Common.{◌≡◌, ℕ, ◌-◌, Bool, true, false, not, cond, ◌&&◌, ◌||◌, List, [], ◌∷◌, Option, Some, None, map, filter, eqb, codes, refl, sym, ap, ◌∙◌, inl, inr}, specs.Prelude.{suc, zero, is_none, is_some, option_map}, specs.List.{list_all, list_any, onto_first, slice_split}, proofs.lemmas.Bool.and_parts, proofs.lemmas.Bool.Decides.eqb_tells}
-use Rattle.definitions.{specs.Characters.same_text, specs.CountedItems.{CountedItem, CountedSpan, counted_item_at}, specs.Pieces.{Mark, Comma, Plus, Minus, Star, Slash, Equals, Spot, AtStart, AtEquals, Inside, Begun, ByMark, ByCountedItem, ByOther, Piece, IsMark, IsCountedItem, Plain, mark_of, begun_by, begun_by_counted_item, begun_at, spot_behind, left_of, onto_plain, onto_pieces, pieces_at, pieces_of, subfields_of}, specs.Expressions.{Sign, NoSign, MinusSign, Add, Subtract, OperatorElement, with_sign, expression_of}, specs.CentralTable.{Row, central_rows, ignoring_rows, sum_rows}, specs.Matching.{RegisterDigits, no_ijk, is_octal_digit, with_ijk, matched, is_operation, NoField, OfK, OfN, Match, plain_text, plain_field, with_field, subfield_matched, subfields_matched, Instruction, instruction_of, ignoring_fit, row_fit, sum_fit, sum_read, single, sum_rows_for, first_fit, central_of}, specs.declared.number_base.NumberBase.NumberBase, proofs.GrammarLaws.pairs_from}
+use Rattle.definitions.{specs.Characters.same_text, specs.CountedItems.{CountedItem, CountedSpan, counted_item_at}, specs.Pieces.{Mark, Comma, Plus, Minus, Star, Slash, Equals, Spot, AtStart, AtEquals, Inside, Begun, ByMark, ByCountedItem, ByOther, Piece, IsMark, IsCountedItem, Plain, mark_of, begun_by, begun_by_counted_item, begun_at, spot_behind, left_of, onto_plain, onto_pieces, pieces_at, pieces_of, subfields_of}, specs.Expressions.{Sign, NoSign, MinusSign, Add, Subtract, OperatorElement, with_sign, expression_of}, specs.CentralTable.{Row, central_rows, ignoring_rows, sum_rows}, specs.Matching.{RegisterDigits, no_ijk, is_octal_digit, with_ijk, matched, is_operation, NoField, OfK, OfN, Match, plain_text, plain_field, with_field, subfield_matched, subfields_matched, Instruction, instruction_of, ignoring_fit, row_fit, sum_fit, sum_read, single, sum_rows_for, rows_for, first_fit, central_of}, specs.declared.number_base.NumberBase.NumberBase, proofs.GrammarLaws.pairs_from}
 use Rattle.expr_forms.specs.Joins.Operands.{is_subfield, is_operand}
 use Rattle.cpu_opcodes.{specs.Joins.RegisterPieces.{pieces_fit, is_of_run, begins_with_run, is_run, are_of_field, is_sum_of_registers, is_register_pattern, is_pattern_part}, specs.Joins.RegisterLinks.read_links_fit, proofs.OperationLaws.is_not, proofs.RegisterPieceLaws.pattern_fits, proofs.RegisterLinkLaws.{registers_fit-links, minus_fit-links}, proofs.RowLaws.no_sum-fits, proofs.SearchLaws.by_central}
 
@@ -211,6 +211,10 @@ none_kept : {X : Type 0} (p : X → Bool) (xs : List X) → list_any p xs ≡ fa
 none_kept p [] none = refl
 none_kept p (x ∷ xs) none = kept_empty (p x) (list_any p xs) x (filter p xs) none (none_kept p xs)
 
+-- an operation that reads its operand has no row that ignores it
+pub none_ignored : (operation : List ℕ) → list_any (λ (row : Row). is_operation row.operation operation) ignoring_rows ≡ false → None ≡ first_fit (map ignoring_fit (rows_for operation ignoring_rows))
+none_ignored operation reads = sym (ap (λ rows. first_fit (map ignoring_fit rows)) (none_kept (λ (row : Row). is_operation row.operation operation) ignoring_rows reads))
+
 row_unread : (base : NumberBase) (operation : List ℕ) (subfields : List (List Piece)) (row : Row) → is_lawful (slice_split (λ c. eqb c 44) row.operand) ≡ true → list_all are_of_field subfields ≡ true →
     is_operand base subfields ≡ false → row_fit base operation subfields row ≡ None
 row_unread base operation subfields row lawful fields unread =
@@ -222,7 +226,7 @@ pub unread-none : (base : NumberBase) (operation : List ℕ) (subfields : List (
 unread-none base operation subfields fields read unread =
     let is_row = λ (row : Row). is_operation row.operation operation in
     sym (by_central base operation subfields None
-    (sym (ap (λ rows. first_fit (map ignoring_fit rows)) (none_kept is_row ignoring_rows read)))
+    (none_ignored operation read)
     (sym (ap (λ e. first_fit (map (sum_fit operation (sum_read e)) (sum_rows_for operation sum_rows))) (single_unread base subfields unread) ∙ no_sum-fits operation))
     (sym (no_row_fits (λ (row : Row). is_lawful (slice_split (λ c. eqb c 44) row.operand)) is_row (row_fit base operation subfields) central_rows (λ row lawful. row_unread base operation subfields row lawful fields unread) refl)))
 

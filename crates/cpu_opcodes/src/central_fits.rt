@@ -54,16 +54,11 @@ fn first_fit<'e, 'a>(
 {
     let mut rest = rows;
     'rows: loop {
-        match rest.split_first() {
-            None => return None,
-            Some((row, behind)) => {
-                match row_fit(row, operand, registers) {
-                    Some(fitted) => return Some(fitted),
-                    None => {}
-                }
-                rest = behind;
-            }
+        let (row, behind) = rest.split_first()?;
+        if let Some(fitted) = row_fit(row, operand, registers) {
+            return Some(fitted);
         }
+        rest = behind;
     }
 }
 

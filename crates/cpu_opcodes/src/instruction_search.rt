@@ -1,6 +1,6 @@
 //! The instruction of an operation and its operand.
-ghost use Rattle.std.specs.Prelude.{◌≡◌, ◌≤◌, ◌||◌, List, IsTrue, false, map, is_some, option_and_then, IfSome, IfOk, IfErr, None, if◌then◌else◌};
-ghost use Rattle.std.specs.List.{list_all, list_any};
+ghost use Rattle.std.specs.Prelude.{◌≡◌, ◌≤◌, List, IsTrue, true, map, is_some, option_and_then, IfSome, IfOk, IfErr, None, if◌then◌else◌};
+ghost use Rattle.std.specs.List.{list_any};
 ghost use Rattle.definitions.specs.Pieces.{Piece};
 ghost use Rattle.definitions.specs.CentralTable as table;
 ghost use Rattle.definitions.specs.Operations.{is_central};
@@ -9,20 +9,15 @@ ghost use Rattle.definitions.specs.declared.number_base.NumberBase.{NumberBase};
 ghost use Rattle.definitions.specs.declared.letter.Letter.TheVariants as letters;
 ghost use Rattle.expr_forms.specs.Joins.Operands.{IsOperand};
 ghost use Rattle.expr_forms.specs.Joins.Shapes.{instruction_as};
-ghost use Rattle.cpu_opcodes.specs.Joins.CentralTables.{operand_row, sum_row, operand_rows_of, sum_rows_of, is_some_of};
-ghost use Rattle.cpu_opcodes.specs.Joins.LawfulCodes.{has_lawful_code, has_lawful_codes};
-ghost use Rattle.cpu_opcodes.specs.Joins.Found.{ReadsAs};
 
 use crate::central_fits::central_fit;
-use crate::code::{OperandForm, SumForm};
 use crate::found::{CentralField, Found};
 use crate::registers_found::RegistersFound;
 use crate::shapes::shape_of;
 use crate::sum_fits::sum_fit;
-use crate::tables::{central_rows, has_rows, ignoring_rows, sum_rows};
+use crate::tables::{central_rows, ignoring_rows, is_central, is_ignoring, sum_rows};
 use definitions::Letter;
 use expr_forms::{Operand, Shape};
-use operations::Row;
 
 /// The instruction of the first row that has an operation and ignores its operand.
 fn ignoring_fit<'a>(operation: &[u8]) -> Option<Shape<'a>>
@@ -54,43 +49,30 @@ pub fn ignoring<'a>(operation: &[u8]) -> Option<Shape<'a>>
     ignoring_fit(operation)
 }
 
-/// V of an operation that has rows, O of one that has none.
-fn letter_of(sums: &[Row<SumForm>], others: &[Row<OperandForm>]) -> Letter
-    ensures { result ≡ (if is_some_of sums.now || is_some_of others.now then letters.V else letters.O) }
-{
-    if has_rows(sums) || has_rows(others) {
-        Letter::V
-    } else {
-        Letter::O
-    }
-}
-
-/// The instruction of an operation that reads its operand, by the first of its rows that the operand
-/// fits.
-fn fit<'a>(
-    operation: &[u8],
-    sums: &[Row<SumForm>],
-    others: &[Row<OperandForm>],
-    operand: &Operand<'a>,
-) -> Result<Shape<'a>, Letter>
-    requires reads { list_any (λ (row : table.Row). is_operation row.operation operation.now) table.ignoring_rows ≡ false }
-    requires no_fit { None ≡ first_fit (map ignoring_fit (rows_for operation.now table.ignoring_rows)) }
-    requires sums { map sum_row sums.now ≡ sum_rows_of operation.now }
-    requires others { map operand_row others.now ≡ operand_rows_of operation.now }
-    requires lawful_sums { IsTrue (list_all has_lawful_codes sums.now) }
-    requires lawful_others { IsTrue (list_all has_lawful_code others.now) }
-    ensures found { IfOk result (λ shape. ReadsAs operation.now operand.now (instruction_as shape)) }
-    ensures refused { IfErr result (λ letter. ReadsAs operation.now operand.now None) }
-    ensures letter { IfErr result (λ letter. letter ≡ (if is_central operation.now then letters.V else letters.O)) }
+/// The same as `find` answers it.
+#[inline(never)]
+fn found_ignoring<'a>(operation: &[u8]) -> Result<Shape<'a>, Letter>
+    requires { list_any (λ (row : table.Row). is_operation row.operation operation.now) table.ignoring_rows ≡ true }
+    ensures found { IfOk result (λ shape. (base : NumberBase) (subfields : List (List Piece)) → central_of base operation.now subfields ≡ instruction_as shape) }
+    ensures never { IfErr result (λ letter. ⊥) }
     ensures central { IfOk result (λ shape. IsTrue (is_some (instruction_as shape))) }
     ensures short { IfOk result (λ shape. shape.digit_count ≤ 10) }
 {
-    if let Some(shape) = sum_fit(operation, sums, operand) {
-        return Ok(shape);
+    match ignoring(operation) {
+        Some(shape) => Ok(shape),
+        None => unreachable!(),
     }
-    match central_fit(operation, others, operand) {
-        Some(fitted) => Ok(shape_of(fitted.code, fitted.found)),
-        None => Err(letter_of(sums, others)),
+}
+
+/// V of an operation that has rows, O of one that has none.
+#[inline(never)]
+fn letter_of(operation: &[u8]) -> Letter
+    ensures { result ≡ (if is_central operation.now then letters.V else letters.O) }
+{
+    if is_central(operation) {
+        Letter::V
+    } else {
+        Letter::O
     }
 }
 
@@ -105,7 +87,7 @@ fn fit<'a>(
 /// operation, seven comparisons and four more. So NO and PS take one, each other operation of a table
 /// five at most, and what is no two letters, with an octal digit or none behind them, takes none.
 /// Then the operand is compared with the rows of the operation alone, in the order of the
-/// definitions.
+/// definitions. Where none fits, the operation is looked up once more, to tell V from O.
 pub fn find<'a>(operation: &[u8], operand: &Operand<'a>) -> Result<Shape<'a>, Letter>
     ensures found { IfOk result (λ shape. (base : NumberBase) (subfields : List (List Piece)) → IsOperand base subfields operand.now →
         central_of base operation.now subfields ≡ instruction_as shape) }
@@ -115,13 +97,14 @@ pub fn find<'a>(operation: &[u8], operand: &Operand<'a>) -> Result<Shape<'a>, Le
     ensures central { IfOk result (λ shape. IsTrue (is_some (instruction_as shape))) }
     ensures short { IfOk result (λ shape. shape.digit_count ≤ 10) }
 {
-    if let Some(shape) = ignoring_fit(operation) {
+    if is_ignoring(operation) {
+        return found_ignoring(operation);
+    }
+    if let Some(shape) = sum_fit(operation, sum_rows(operation), operand) {
         return Ok(shape);
     }
-    fit(
-        operation,
-        sum_rows(operation),
-        central_rows(operation),
-        operand,
-    )
+    match central_fit(operation, central_rows(operation), operand) {
+        Some(fitted) => Ok(shape_of(fitted.code, fitted.found)),
+        None => Err(letter_of(operation)),
+    }
 }

@@ -2,9 +2,9 @@
 //! instruction of an operation with its operand. What an operand is worth is not here.
 //!
 //! A table has a row for each form, to be compared with the manual row by row; a code is written
-//! with a character for each octal digit. `ignoring` is asked first: PS and NO have their
-//! instruction whatever stands in the field. `find` takes any other operation with its operand, and
-//! answers its `Shape`, or O or V. An operation that begins with J or S has rows of sums alone,
+//! with a character for each octal digit. `find` takes an operation with its operand, and answers
+//! its `Shape`, or O or V. `ignoring` is asked where the field is no operand: PS and NO have their
+//! instruction whatever stands there. An operation that begins with J or S has rows of sums alone,
 //! every other one none, so one table of two is searched. A pattern of registers fits the text of a
 //! subfield exactly where it fits the elements of its expression. A row that is wrong is mended
 //! here and in the definitions. Nothing here takes memory.

@@ -79,7 +79,7 @@ pub fn is_central(operation: &[u8]) -> bool
     is_ignoring(operation) || is_sum(operation) || is_read_by_subfields(operation)
 }
 
-fn is_ignoring(operation: &[u8]) -> bool
+pub(crate) fn is_ignoring(operation: &[u8]) -> bool
     ensures { result ≡ list_any (λ (row : table.Row). is_operation row.operation operation.now) table.ignoring_rows }
 {
     has_rows(ignoring_rows(operation))

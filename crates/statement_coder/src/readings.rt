@@ -1,12 +1,13 @@
 //! What the variable field of a statement is to its operation, before any name is known
 //! (COMPASS 60492600, variable field).
-ghost use Rattle.std.specs.Prelude.{◌≡◌, ◌≤◌, true, false, length};
+ghost use Rattle.std.specs.Prelude.{◌≡◌, ◌≤◌, ℕ, List, true, false, length};
 ghost use Rattle.definitions.specs.Pieces.{pieces_of, subfields_of};
 ghost use Rattle.definitions.specs.PeripheralTable.{peripheral_row};
 ghost use Rattle.definitions.specs.Operands.{operand_of, central_operand, peripheral_operand, base_operand, words_operand, bits_operand, all_read, data_word, con_word, vfd_field, one_value, dis_operand, use_operand};
 ghost use Rattle.definitions.specs.Matching.{central_of};
 ghost use Rattle.definitions.specs.Kinds.{allows_literals};
 ghost use Rattle.definitions.specs.Operations.{is_data};
+ghost use Rattle.expr_forms.specs.Joins.Operands.{is_operand};
 ghost use Rattle.operations.specs.Joins.OperationsAs.{operation_as};
 ghost use Rattle.statement_coder.specs.Joins.Readings.{IsReading, IsLawful, is_listed};
 
@@ -36,6 +37,20 @@ pub enum Reading<'a> {
     Use(UseField),
 }
 
+/// What is no operand: to PS and NO alone, which read none, it is one.
+#[inline(never)]
+fn read_ignoring<'a>(name: &[u8]) -> Reading<'a>
+    ensures reading { (base : NumberBase) (text : List ℕ) → is_operand base (subfields_of (pieces_of text)) ≡ false →
+        IsReading result (central_operand (central_of base name.now (subfields_of (pieces_of text)))) }
+    ensures lawful { IsLawful result }
+    ensures unlisted { is_listed result ≡ false }
+{
+    match cpu_opcodes::ignoring(name) {
+        Some(shape) => Reading::Instruction(shape),
+        None => Reading::Bad,
+    }
+}
+
 /// The operand of a central instruction.
 #[inline(always)]
 fn read_central<'a>(base: NumberBase, name: &[u8], text: &'a [u8]) -> Reading<'a>
@@ -44,12 +59,9 @@ fn read_central<'a>(base: NumberBase, name: &[u8], text: &'a [u8]) -> Reading<'a
     ensures lawful { IsLawful result }
     ensures unlisted { is_listed result ≡ false }
 {
-    if let Some(shape) = cpu_opcodes::ignoring(name) {
-        return Reading::Instruction(shape);
-    }
     let read = operand(text, base);
     let Ok(operand) = &read else {
-        return Reading::Bad;
+        return read_ignoring(name);
     };
     let Ok(shape) = cpu_opcodes::find(name, operand) else {
         return Reading::Bad;

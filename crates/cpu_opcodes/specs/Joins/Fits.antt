@@ -2,7 +2,6 @@
 use Rattle.std.specs.{Prelude.{ℕ, ◌-◌, ◌==◌, List, [], ◌∷◌, Option, Some, None, nat_le, length, option_map, if◌then◌else◌, option_and_then}, List.slice_split}
 use Rattle.definitions.specs.{Characters.{comma, zero_digit}, Pieces.Piece, CentralTable.SumRow, Matching.{RegisterDigits, no_ijk, is_octal_digit, matched, Field, NoField, Match, is_plain_field, Instruction, Sum, instruction_of, subfields_matched, sum_code, sum_instruction}, declared.number_base.NumberBase.NumberBase}
 use Rattle.definitions.specs.CentralTable as table
-use Rattle.cpu_opcodes.specs.{declared.registers_found.RegistersFound.RegistersFound, Joins.RegistersFound.digits_as}
 
 -- the digit that the name of an operation has for i: 6 of BX6
 abbrev pub named_digits : List ℕ → RegisterDigits

@@ -1,7 +1,6 @@
 -- What an operand gives while it is matched, in the words of the definitions.
-use Rattle.std.specs.Prelude.{ℕ, ◌≡◌, List, Option, option_map}
-use Rattle.definitions.specs.{Pieces.Piece, Matching.{Field, NoField, OfK, OfN, Match, Instruction, central_of, instruction_of}, declared.number_base.NumberBase.NumberBase}
-use Rattle.expr_forms.specs.{Joins.Operands.IsOperand, declared.operands.Operand.Operand}
+use Rattle.std.specs.Prelude.{Option, option_map}
+use Rattle.definitions.specs.Matching.{Field, NoField, OfK, OfN, Match, Instruction, instruction_of}
 use Rattle.cpu_opcodes.specs.Joins.{RegistersFound.digits_as, CodeTexts.code_text}
 use Rattle.cpu_opcodes.specs.declared.found.CentralField as fields
 use Rattle.cpu_opcodes.specs.declared.found.CentralField.TheVariants as field
@@ -21,7 +20,3 @@ found_as found = record { ijk = digits_as found.registers; field = central_field
 -- the instruction of a code with what was found, if there is one
 abbrev pub fitted_as : Option fitteds.Fitted → Option Instruction
 fitted_as fitted = option_map (λ (found : fitteds.Fitted). instruction_of (code_text found.code) (found_as found.found)) fitted
-
--- an operation with this operand, however it is cut, is this instruction, if any
-abbrev pub ReadsAs : List ℕ → Operand → Option Instruction → Type 0
-ReadsAs operation operand found = (base : NumberBase) (subfields : List (List Piece)) → IsOperand base subfields operand → central_of base operation subfields ≡ found
