@@ -94,12 +94,10 @@ fn vfd_field(literals: bool, base: NumberBase, text: &[u8]) -> Option<BitField<'
     ensures some { IfSome result (λ field. 1 ≤ field.width) }
     ensures few { IfSome result (λ field. field.width ≤ 60) }
 {
-    match piece_at_start(text) {
-        None => None,
-        Some(found) => match found.piece {
-            Piece::Run(width) => behind_width(literals, base, width, found.rest),
-            _ => None,
-        },
+    let found = piece_at_start(text)?;
+    match found.piece {
+        Piece::Run(width) => behind_width(literals, base, width, found.rest),
+        _ => None,
     }
 }
 

@@ -65,12 +65,10 @@ fn lone_item<'a>(item: ItemText<'a>, behind: &'a [u8]) -> Option<Datum<'a>>
 fn signed_number(base: NumberBase, sign: Sign, text: &[u8]) -> Option<Datum<'_>>
     ensures { option_map datum_as result ≡ signed_word base (sign_as sign) (pieces_of text.now) }
 {
-    match piece_at_start(text) {
-        None => None,
-        Some(found) => match found.piece {
-            Piece::Run(run) => lone_number(base, sign, run, found.rest),
-            _ => None,
-        },
+    let found = piece_at_start(text)?;
+    match found.piece {
+        Piece::Run(run) => lone_number(base, sign, run, found.rest),
+        _ => None,
     }
 }
 

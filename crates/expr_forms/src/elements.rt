@@ -152,12 +152,10 @@ fn behind_sign(base: NumberBase, sign: Sign, text: &[u8]) -> Option<ElementFound
     ensures elements { (o : Operator) → signed_literal base o (sign_as sign) (pieces_of text.now) ≡ elements_found base o result }
     ensures shorter { IfSome result (λ found. length found.rest.now < length text.now) }
 {
-    match piece_at_start(text) {
-        None => None,
-        Some(found) => match found.piece {
-            Piece::Run(run) => number_literal(base, sign, run, found.rest),
-            _ => None,
-        },
+    let found = piece_at_start(text)?;
+    match found.piece {
+        Piece::Run(run) => number_literal(base, sign, run, found.rest),
+        _ => None,
     }
 }
 

@@ -58,14 +58,11 @@ fn kept_literal(literal: Literal<'_>) -> Option<KeptElement>
     ensures { IfSome result (λ kept. kept_element_as kept ≡ element_as (Element.Literal literal.entry)) }
 {
     match literal {
-        Literal::Number(sign, number) => match number {
-            Number::Value(size) => match u32::try_from(size.value) {
-                Ok(value) => Some(KeptElement::Literal(sign, value)),
-                Err(_) => None,
-            },
-            Number::TooGreat => None,
+        Literal::Number(sign, Number::Value(size)) => match u32::try_from(size.value) {
+            Ok(value) => Some(KeptElement::Literal(sign, value)),
+            Err(_) => None,
         },
-        Literal::Item(_) => None,
+        _ => None,
     }
 }
 

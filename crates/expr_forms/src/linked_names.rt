@@ -13,12 +13,10 @@ fn linked_name(text: &[u8]) -> Option<&[u8]>
     ensures name { option_copied result ≡ linked_name (pieces_of text.now) }
     ensures short { IfSome result (λ name. length name.now ≤ 7) }
 {
-    match piece_at_start(text) {
-        None => None,
-        Some(found) => match found.piece {
-            Piece::Run(run) => lone_name(run, found.rest),
-            _ => None,
-        },
+    let found = piece_at_start(text)?;
+    match found.piece {
+        Piece::Run(run) => lone_name(run, found.rest),
+        _ => None,
     }
 }
 

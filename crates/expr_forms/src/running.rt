@@ -74,42 +74,6 @@ fn add_base(room: &mut [Base], len: usize, added: Base) -> Option<usize>
     Some(len + 1)
 }
 
-/// What a part is a base of, where it is added.
-fn added_base(part: Part) -> Base
-    ensures relocation { relocation_as result.relocation ≡ part_relocation (part_as part) }
-    ensures times { result.times ≡ part_times (part_as part) }
-    ensures once { unsigned_abs result.times ≤ 1 }
-{
-    match part {
-        Part::Added(relocation) => Base {
-            relocation,
-            times: 1,
-        },
-        Part::Subtracted(relocation) => Base {
-            relocation,
-            times: -1,
-        },
-    }
-}
-
-/// And where it is subtracted.
-fn subtracted_base(part: Part) -> Base
-    ensures relocation { relocation_as result.relocation ≡ part_relocation (part_as part) }
-    ensures times { result.times ≡ neg_ℤ (part_times (part_as part)) }
-    ensures once { unsigned_abs result.times ≤ 1 }
-{
-    match part {
-        Part::Added(relocation) => Base {
-            relocation,
-            times: -1,
-        },
-        Part::Subtracted(relocation) => Base {
-            relocation,
-            times: 1,
-        },
-    }
-}
-
 /// What a part is a base of behind this operator.
 fn part_base(operator: Operator, part: Part) -> Base
     ensures relocation { relocation_as result.relocation ≡ part_relocation (part_as part) }
@@ -117,8 +81,26 @@ fn part_base(operator: Operator, part: Part) -> Base
     ensures once { unsigned_abs result.times ≤ 1 }
 {
     match operator {
-        Operator::Subtract => subtracted_base(part),
-        _ => added_base(part),
+        Operator::Subtract => match part {
+            Part::Added(relocation) => Base {
+                relocation,
+                times: -1,
+            },
+            Part::Subtracted(relocation) => Base {
+                relocation,
+                times: 1,
+            },
+        },
+        _ => match part {
+            Part::Added(relocation) => Base {
+                relocation,
+                times: 1,
+            },
+            Part::Subtracted(relocation) => Base {
+                relocation,
+                times: -1,
+            },
+        },
     }
 }
 
