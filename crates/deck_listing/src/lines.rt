@@ -6,10 +6,13 @@ ghost use Rattle.definitions.specs.Numerals.{decimal_of};
 
 use crate::sheet::Sheet;
 use cards::{Card, DeckName};
-use definitions::DeckKind;
+use definitions::{DeckKind, InlineText};
 use operations::Letters;
 use text_ports::ShortText;
 use use_blocks::BlockRow;
+
+/// How long the line of a card is at most.
+const MOST_OF_CARD_LINE: usize = 88;
 
 /// The first line: the name and the kind of the deck.
 pub(crate) fn push_deck_line(text: &mut Sheet, name: &DeckName, kind: DeckKind)
@@ -30,9 +33,10 @@ fn push_card_line(text: &mut Sheet, before: usize, card: &Card)
     let mut front = ShortText::new();
     front.put_byte(b' ');
     front.put_padded(5, before as u64 + 1);
-    text.put(front.as_slice());
-    text.put(card.as_slice());
-    text.put(b"\n");
+    let mut line = InlineText::<MOST_OF_CARD_LINE>::of(front.as_slice());
+    line.append(card.as_slice());
+    line.push(b'\n');
+    text.put(line.as_slice());
 }
 
 /// Cards behind their numbers in the deck, where so many stand before them.
