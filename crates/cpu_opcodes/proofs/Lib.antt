@@ -1,8 +1,6 @@
 pub mod OperationLaws
 pub mod CentralLaws
 pub mod DigitLaws
-pub mod RegisterPieceLaws
-pub mod RegisterLinkLaws
 pub mod PatternTextLaws
 pub mod FitLaws
 pub mod CodeLaws

@@ -1,10 +1,69 @@
 -- A pattern of registers fits the text of pieces where it fits the text that they are the pieces of.
-use Rattle.std.{proofs.Common.{◌≡◌, ℕ, ◌-◌, Bool, true, false, not, cond, ◌&&◌, ◌||◌, List, [], ◌∷◌, Option, Some, None, eqb, refl, sym, ap, ◌∙◌, inl, inr}, specs.Prelude.is_none, proofs.lemmas.Bool.{and_parts, eqb-true}, proofs.lemmas.Bool.Decides.eqb_tells}
-use Rattle.definitions.specs.{Characters.{is_digit, equals}, CountedItems.{CountedSpan, counted_item_at}, Pieces.{Mark, Comma, Plus, Minus, Star, Slash, Equals, AtStart, AtEquals, Inside, Begun, ByMark, ByCountedItem, Piece, IsMark, IsCountedItem, Plain, mark_of, begun_by, begun_by_counted_item, spot_behind, left_of, onto_plain, onto_pieces, pieces_at, pieces_of}, Matching.{RegisterDigits, is_ijk, with_ijk, is_octal_digit, matched, plain_text}}
-use Rattle.cpu_opcodes.{specs.Joins.RegisterPieces.{mark_character, is_of_run}, specs.Joins.PatternTexts.{begins_apart, is_apart, is_text_pattern}, proofs.OperationLaws.{matched-letter, is_not}, proofs.RegisterPieceLaws.{plain_text-mark, no_digit}}
+use Rattle.std.{proofs.Common.{◌≡◌, ◌≤◌, ◌<◌, ℕ, ◌+◌, ◌-◌, Bool, true, false, not, cond, ◌&&◌, List, [], ◌∷◌, Option, Some, None, eqb, leb, refl, sym, ap, ◌∙◌, inl, inr, arith}, specs.Prelude.{suc, zero}, proofs.lemmas.Bool.{and_parts, eqb-true, leb-true}, proofs.lemmas.Bool.Decides.eqb_tells}
+use Rattle.definitions.specs.{CountedItems.{CountedSpan, counted_item_at}, Pieces.{Mark, Comma, Plus, Minus, Star, Slash, Equals, Spot, AtStart, AtEquals, Inside, Begun, ByMark, Piece, IsMark, IsCountedItem, Plain, mark_of, begun_by, begun_by_counted_item, spot_behind, left_of, onto_plain, onto_pieces, pieces_at, pieces_of}, Matching.{RegisterDigits, is_ijk, with_ijk, is_octal_digit, matched, plain_text}}
+use Rattle.cpu_opcodes.{specs.Joins.PatternTexts.{all_digits, holds, shows_all, is_text_pattern}, proofs.OperationLaws.matched-letter}
+
+both_ways : true ≡ false → ⊥
+both_ways e = cc
+
+digit_holds : (test : ℕ → Bool) (n c : ℕ) → all_digits test n ≡ true → 48 ≤ c → c < 48 + n → test c ≡ true
+digit_holds test zero c all from below = absurd (omega (arith, from, below))
+digit_holds test (suc n) c all from below =
+    let parts = and_parts (test (48 + n)) (all_digits test n) all in
+    elim (eqb_tells c (48 + n)) [
+      | inl h ↦ ap test h.1 ∙ parts.0
+      | inr h ↦ let other = h.1 in digit_holds test n c parts.1 from (omega (arith, below, other))
+    ]
+
+matched-digit : (p : ℕ) (ps : List ℕ) (c : ℕ) (cs : List ℕ) (ijk : RegisterDigits) → is_ijk p ≡ true →
+    matched (p ∷ ps) (c ∷ cs) ijk ≡ cond (is_octal_digit c) (matched ps cs (with_ijk p (c - 48) ijk)) None
+matched-digit p ps c cs ijk place = rw place refl
+
+cond_none : (b : Bool) (o : Option RegisterDigits) → (b ≡ true → o ≡ None) → cond b o None ≡ None
+cond_none true o none = none refl
+cond_none false o none = refl
+
+one_fits_none : (test : List ℕ → Bool) (p : ℕ) (ps : List ℕ) (c : ℕ) (cs : List ℕ) (ijk : RegisterDigits) →
+    ((behind : List ℕ → Bool) (next : RegisterDigits) → holds behind ps ≡ true → behind cs ≡ false → matched ps cs next ≡ None) →
+    (b : Bool) → is_ijk p ≡ b → cond b (all_digits (λ d. holds (λ t. test (d ∷ t)) ps) 8) (holds (λ t. test (p ∷ t)) ps) ≡ true → test (c ∷ cs) ≡ false → matched (p ∷ ps) (c ∷ cs) ijk ≡ None
+one_fits_none test p ps c cs ijk rest true place all fails =
+    let next = with_ijk p (c - 48) ijk in
+    matched-digit p ps c cs ijk place
+    ∙ cond_none (is_octal_digit c) (matched ps cs next) (λ octal.
+    let parts = and_parts (leb 48 c) (leb c 55) octal in
+    let below = leb-true c 55 parts.1 in
+    rest (λ t. test (c ∷ t)) next (digit_holds (λ d. holds (λ t. test (d ∷ t)) ps) 8 c all (leb-true 48 c parts.0) (omega (arith, below))) fails)
+one_fits_none test p ps c cs ijk rest false letter all fails =
+    matched-letter p ps c cs ijk letter
+    ∙ cond_none (eqb p c) (matched ps cs ijk) (λ same. rest (λ t. test (p ∷ t)) ijk all (ap (λ d. test (d ∷ cs)) (eqb-true p c same) ∙ fails))
+
+-- so the pattern does not fit a text of which it does not hold
+pub fits_none : (test : List ℕ → Bool) (ps cs : List ℕ) (ijk : RegisterDigits) → holds test ps ≡ true → test cs ≡ false → matched ps cs ijk ≡ None
+fits_none test [] [] ijk all fails = absurd (both_ways (sym all ∙ fails))
+fits_none test [] (c ∷ cs) ijk all fails = refl
+fits_none test (p ∷ ps) [] ijk all fails = refl
+fits_none test (p ∷ ps) (c ∷ cs) ijk all fails = one_fits_none test p ps c cs ijk (λ behind next. fits_none behind ps cs next) (is_ijk p) refl all fails
+
+-- the character of a mark
+abbrev mark_character : Mark → ℕ
+mark_character Comma = 44
+mark_character Plus = 43
+mark_character Minus = 45
+mark_character Star = 42
+mark_character Slash = 47
+mark_character Equals = 61
+
+-- the text of a mark and what is behind it
+plain_text-mark : (mark : Mark) (pieces : List Piece) → plain_text (IsMark mark ∷ pieces) ≡ mark_character mark ∷ plain_text pieces
+plain_text-mark Comma pieces = refl
+plain_text-mark Plus pieces = refl
+plain_text-mark Minus pieces = refl
+plain_text-mark Star pieces = refl
+plain_text-mark Slash pieces = refl
+plain_text-mark Equals pieces = refl
 
 -- the text of a character in front of pieces
-plain_text-onto_plain : (c : ℕ) (pieces : List Piece) → plain_text (onto_plain c pieces) ≡ c ∷ plain_text pieces
+pub plain_text-onto_plain : (c : ℕ) (pieces : List Piece) → plain_text (onto_plain c pieces) ≡ c ∷ plain_text pieces
 plain_text-onto_plain c [] = refl
 plain_text-onto_plain c (Plain text ∷ pieces) = refl
 plain_text-onto_plain c (IsMark mark ∷ pieces) = refl
@@ -49,135 +108,43 @@ plain_text-begun c cs (Some mark) e =
     plain_text-mark mark (pieces_at (spot_behind (ByMark mark)) 0 cs)
     ∙ ap (λ d. d ∷ plain_text (pieces_at (spot_behind (ByMark mark)) 0 cs)) (character_of_mark c mark e)
 
-cond_agree : {A : Type 0} (b : Bool) (x y z : A) → (b ≡ true → x ≡ y) → cond b x z ≡ cond b y z
-cond_agree true x y z same = same refl
-cond_agree false x y z same = refl
+-- where its pieces show all of a text, their text is the text
+abbrev IsShown : Begun → ℕ → List ℕ → Type 0
+IsShown begun c cs = shows_all (plain_text (pieces_begun begun cs)) ≡ true → plain_text (pieces_begun begun cs) ≡ c ∷ cs
 
--- whether a character of a pattern takes one of a text
-abbrev takes : ℕ → ℕ → Bool
-takes p c = cond (is_ijk p) (is_octal_digit c) (eqb p c)
+character_shown : (c : ℕ) (cs : List ℕ) (o : Option Mark) → mark_of c ≡ o →
+    (shows_all (plain_text (pieces_at (spot_behind (begun_by c o)) 0 cs)) ≡ true → plain_text (pieces_at (spot_behind (begun_by c o)) 0 cs) ≡ cs) → IsShown (begun_by c o) c cs
+character_shown c cs o is rest all =
+    let behind = plain_text (pieces_at (spot_behind (begun_by c o)) 0 cs) in
+    let text = plain_text-begun c cs o is in
+    let parts = and_parts (not (eqb c 32) && not (eqb c 61)) (shows_all behind) (sym (ap shows_all text) ∙ all) in
+    text ∙ ap (λ t. c ∷ t) (rest parts.1)
 
-abbrev AgreesAtStart : List ℕ → Type 0
-AgreesAtStart text = (ps : List ℕ) (ijk : RegisterDigits) → begins_apart ps ≡ true → is_apart ps ≡ true →
-    matched ps (plain_text (pieces_at AtStart 0 text)) ijk ≡ matched ps text ijk
+abbrev IsShownBehind : List ℕ → Type 0
+IsShownBehind cs = (spot : Spot) → shows_all (plain_text (pieces_at spot 0 cs)) ≡ true → plain_text (pieces_at spot 0 cs) ≡ cs
 
-abbrev AgreesInside : List ℕ → Type 0
-AgreesInside text = (ps : List ℕ) (ijk : RegisterDigits) → is_apart ps ≡ true → matched ps (plain_text (pieces_at Inside 0 text)) ijk ≡ matched ps text ijk
+item_shown : (c : ℕ) (cs : List ℕ) (o : Option CountedSpan) → IsShownBehind cs → IsShown (begun_by_counted_item c o) c cs
+item_shown c cs None rest = character_shown c cs (mark_of c) refl (rest (spot_behind (begun_by c (mark_of c))))
+item_shown c cs (Some counted) rest = λ all. absurd (both_ways (sym all))
 
-both_ways : true ≡ false → ⊥
-both_ways e = cc
+equals_shown : (c : ℕ) (cs : List ℕ) (o : Option CountedSpan) (b : Bool) → IsShownBehind cs → IsShown (cond b (ByMark Equals) (begun_by_counted_item c o)) c cs
+equals_shown c cs o true rest = λ all. absurd (both_ways (sym all))
+equals_shown c cs o false rest = item_shown c cs o rest
 
-takes_mark : (p : ℕ) (mark : Mark) (b : Bool) → is_ijk p ≡ b → takes p (mark_character mark) ≡ true → p ≡ mark_character mark
-takes_mark p mark true place took =
-    let digit = ap (λ b. cond b (is_octal_digit (mark_character mark)) (eqb p (mark_character mark))) place in
-    absurd (both_ways (sym took ∙ (digit ∙ no_digit mark)))
-takes_mark p mark false place took =
-    eqb-true p (mark_character mark) (sym (ap (λ b. cond b (is_octal_digit (mark_character mark)) (eqb p (mark_character mark))) place) ∙ took)
+text_shown : (text : List ℕ) → IsShownBehind text
+text_shown [] spot all = refl
+text_shown (c ∷ cs) AtStart all = equals_shown c cs (counted_item_at (c ∷ cs)) (eqb c 61) (text_shown cs) all
+text_shown (c ∷ cs) AtEquals all = item_shown c cs (counted_item_at (c ∷ cs)) (text_shown cs) all
+text_shown (c ∷ cs) Inside all = character_shown c cs (mark_of c) refl (text_shown cs (spot_behind (begun_by c (mark_of c)))) all
 
-behind_mark : (c : ℕ) (cs : List ℕ) (mark : Mark) → mark_of c ≡ Some mark → AgreesAtStart cs →
-    (p : ℕ) (ps : List ℕ) (ijk : RegisterDigits) → is_apart (p ∷ ps) ≡ true → takes p c ≡ true → spot_behind (ByMark mark) ≡ AtStart →
-    matched ps (plain_text (pieces_at (spot_behind (ByMark mark)) 0 cs)) ijk ≡ matched ps cs ijk
-behind_mark c cs mark e at_start p ps ijk shaped took spot =
-    let one = and_parts (not (eqb p 61)) ((is_of_run p || begins_apart ps) && is_apart ps) shaped in
-    let two = and_parts (is_of_run p || begins_apart ps) (is_apart ps) one.1 in
-    let is : mark_character mark ≡ c = character_of_mark c mark e in
-    let same : p ≡ mark_character mark = takes_mark p mark (is_ijk p) refl (ap (takes p) is ∙ took) in
-    let no_run : is_of_run p ≡ false = ap is_of_run (same ∙ is) ∙ ap (λ o. is_none o) e in
-    let begins : begins_apart ps ≡ true = sym (ap (λ b. b || begins_apart ps) no_run) ∙ two.0 in
-    ap (λ s. matched ps (plain_text (pieces_at s 0 cs)) ijk) spot ∙ at_start ps ijk begins two.1
-
--- at a character that is no item's, the next ones decide
-behind_character : (c : ℕ) (cs : List ℕ) (o : Option Mark) → mark_of c ≡ o → AgreesAtStart cs → AgreesInside cs →
-    (p : ℕ) (ps : List ℕ) (ijk : RegisterDigits) → is_apart (p ∷ ps) ≡ true → takes p c ≡ true →
-    matched ps (plain_text (pieces_at (spot_behind (begun_by c o)) 0 cs)) ijk ≡ matched ps cs ijk
-behind_character c cs None e at_start inside p ps ijk shaped took =
-    let one = and_parts (not (eqb p 61)) ((is_of_run p || begins_apart ps) && is_apart ps) shaped in
-    let two = and_parts (is_of_run p || begins_apart ps) (is_apart ps) one.1 in
-    inside ps ijk two.1
-behind_character c cs (Some Equals) e at_start inside p ps ijk shaped took =
-    let is : 61 ≡ c = character_of_mark c Equals e in
-    let none : mark_of 61 ≡ Some Equals = ap mark_of is ∙ e in
-    absurd (cc)
-behind_character c cs (Some Comma) e at_start inside p ps ijk shaped took = behind_mark c cs Comma e at_start p ps ijk shaped took refl
-behind_character c cs (Some Plus) e at_start inside p ps ijk shaped took = behind_mark c cs Plus e at_start p ps ijk shaped took refl
-behind_character c cs (Some Minus) e at_start inside p ps ijk shaped took = behind_mark c cs Minus e at_start p ps ijk shaped took refl
-behind_character c cs (Some Star) e at_start inside p ps ijk shaped took = behind_mark c cs Star e at_start p ps ijk shaped took refl
-behind_character c cs (Some Slash) e at_start inside p ps ijk shaped took = behind_mark c cs Slash e at_start p ps ijk shaped took refl
-
--- at a character that is no item's, both texts fit a pattern or neither does
-at_character : (c : ℕ) (cs : List ℕ) → AgreesAtStart cs → AgreesInside cs → (ps : List ℕ) (ijk : RegisterDigits) → is_apart ps ≡ true →
-    matched ps (plain_text (pieces_begun (begun_by c (mark_of c)) cs)) ijk ≡ matched ps (c ∷ cs) ijk
-at_character c cs at_start inside [] ijk shaped = ap (λ t. matched [] t ijk) (plain_text-begun c cs (mark_of c) refl)
-at_character c cs at_start inside (p ∷ ps) ijk shaped =
-    let next = cond (is_ijk p) (with_ijk p (c - 48) ijk) ijk in
-    ap (λ t. matched (p ∷ ps) t ijk) (plain_text-begun c cs (mark_of c) refl)
-    ∙ cond_agree (takes p c) (matched ps (plain_text (pieces_at (spot_behind (begun_by c (mark_of c))) 0 cs)) next) (matched ps cs next) None
-    (behind_character c cs (mark_of c) refl at_start inside p ps next shaped)
-
-digit_first : (c : ℕ) (cs : List ℕ) (counted : CountedSpan) (b : Bool) → is_digit c ≡ b → counted_item_at (c ∷ cs) ≡ Some counted → is_digit c ≡ true
-digit_first c cs counted true digit e = digit
-digit_first c cs counted false other e =
-    let none : counted_item_at (c ∷ cs) ≡ None = rw other refl in
-    absurd (cc)
-
-head_differs : (p c : ℕ) (ps cs : List ℕ) (ijk : RegisterDigits) → is_ijk p ≡ false → eqb p c ≡ false → matched (p ∷ ps) (c ∷ cs) ijk ≡ None
-head_differs p c ps cs ijk letter other = matched-letter p ps c cs ijk letter ∙ ap (λ b. cond b (matched ps cs ijk) None) other
-
-no_digit_there : (p c : ℕ) → is_digit p ≡ false → is_digit c ≡ true → eqb p c ≡ false
-no_digit_there p c other digit =
-    elim (eqb_tells p c) [
-      | inl h ↦ absurd (both_ways (sym digit ∙ (ap is_digit (sym h.1) ∙ other)))
-      | inr h ↦ h.0
-    ]
-
--- where an item begins, no pattern fits
-at_item : (c : ℕ) (cs : List ℕ) (counted : CountedSpan) → counted_item_at (c ∷ cs) ≡ Some counted → (ps : List ℕ) (ijk : RegisterDigits) → begins_apart ps ≡ true →
-    matched ps (plain_text (pieces_begun (ByCountedItem counted) cs)) ijk ≡ matched ps (c ∷ cs) ijk
-at_item c cs counted e [] ijk begins = refl
-at_item c cs counted e (p ∷ ps) ijk begins =
-    let one = and_parts (not (is_ijk p)) (not (is_digit p) && not (eqb p 32)) begins in
-    let two = and_parts (not (is_digit p)) (not (eqb p 32)) one.1 in
-    let letter = is_not (is_ijk p) one.0 in
-    let digit = digit_first c cs counted (is_digit c) refl e in
-    head_differs p 32 ps [] ijk letter (is_not (eqb p 32) two.1)
-    ∙ sym (head_differs p c ps cs ijk letter (no_digit_there p c (is_not (is_digit p) two.0) digit))
-
-at_start_by : (c : ℕ) (cs : List ℕ) (o : Option CountedSpan) → counted_item_at (c ∷ cs) ≡ o → AgreesAtStart cs → AgreesInside cs →
-    (ps : List ℕ) (ijk : RegisterDigits) → begins_apart ps ≡ true → is_apart ps ≡ true →
-    matched ps (plain_text (pieces_begun (begun_by_counted_item c o) cs)) ijk ≡ matched ps (c ∷ cs) ijk
-at_start_by c cs None e at_start inside ps ijk begins shaped = at_character c cs at_start inside ps ijk shaped
-at_start_by c cs (Some counted) e at_start inside ps ijk begins shaped = at_item c cs counted e ps ijk begins
-
--- an equals sign fits no pattern
-at_equals : (cs ps : List ℕ) (ijk : RegisterDigits) → begins_apart ps ≡ true → is_apart ps ≡ true →
-    matched ps (plain_text (pieces_begun (ByMark Equals) cs)) ijk ≡ matched ps (61 ∷ cs) ijk
-at_equals cs [] ijk begins shaped = refl
-at_equals cs (p ∷ ps) ijk begins shaped =
-    let one = and_parts (not (is_ijk p)) (not (is_digit p) && not (eqb p 32)) begins in
-    let letter = is_not (is_ijk p) one.0 in
-    let two = and_parts (not (eqb p 61)) ((is_of_run p || begins_apart ps) && is_apart ps) shaped in
-    let other = is_not (eqb p 61) two.0 in
-    head_differs p 61 ps (plain_text (pieces_at AtEquals 0 cs)) ijk letter other ∙ sym (head_differs p 61 ps cs ijk letter other)
-
-at_start_of : (c : ℕ) (cs : List ℕ) (b : Bool) → eqb c 61 ≡ b → AgreesAtStart cs → AgreesInside cs → AgreesAtStart (c ∷ cs)
-at_start_of c cs true equals at_start inside ps ijk begins shaped =
-    let is : c ≡ 61 = eqb-true c 61 equals in
-    ap (λ b. matched ps (plain_text (pieces_begun (cond b (ByMark Equals) (begun_by_counted_item c (counted_item_at (c ∷ cs)))) cs)) ijk) equals
-    ∙ at_equals cs ps ijk begins shaped
-    ∙ ap (λ d. matched ps (d ∷ cs) ijk) (sym is)
-at_start_of c cs false other at_start inside ps ijk begins shaped =
-    ap (λ b. matched ps (plain_text (pieces_begun (cond b (ByMark Equals) (begun_by_counted_item c (counted_item_at (c ∷ cs)))) cs)) ijk) other
-    ∙ at_start_by c cs (counted_item_at (c ∷ cs)) refl at_start inside ps ijk begins shaped
-
--- at each spot of a text
-both_spots : (text : List ℕ) → AgreesAtStart text × AgreesInside text
-both_spots [] = (λ ps ijk begins shaped. refl, λ ps ijk shaped. refl)
-both_spots (c ∷ cs) =
-    let rest = both_spots cs in
-    (at_start_of c cs (eqb c 61) refl rest.0 rest.1, λ ps ijk shaped. at_character c cs rest.0 rest.1 ps ijk shaped)
+matched_by : (pattern text : List ℕ) (ijk : RegisterDigits) (b : Bool) → shows_all (plain_text (pieces_of text)) ≡ b → is_text_pattern pattern ≡ true →
+    matched pattern (plain_text (pieces_of text)) ijk ≡ matched pattern text ijk
+matched_by pattern text ijk true all shaped = ap (λ t. matched pattern t ijk) (text_shown text AtStart all)
+matched_by pattern text ijk false hidden shaped =
+    let parts = and_parts (holds shows_all pattern) (holds (λ t. shows_all (plain_text (pieces_of t))) pattern) shaped in
+    fits_none shows_all pattern (plain_text (pieces_of text)) ijk parts.0 hidden
+    ∙ sym (fits_none (λ t. shows_all (plain_text (pieces_of t))) pattern text ijk parts.1 hidden)
 
 -- the text of the pieces fits a pattern where the text itself does
 pub matched-text : (pattern text : List ℕ) (ijk : RegisterDigits) → is_text_pattern pattern ≡ true → matched pattern (plain_text (pieces_of text)) ijk ≡ matched pattern text ijk
-matched-text pattern text ijk shaped =
-    let parts = and_parts (begins_apart pattern) (is_apart pattern) shaped in
-    (both_spots text).0 pattern ijk parts.0 parts.1
+matched-text pattern text ijk shaped = matched_by pattern text ijk (shows_all (plain_text (pieces_of text))) refl shaped

@@ -3,10 +3,14 @@ use Rattle.std.{proofs.Common.{◌≡◌, ℕ, ◌-◌, ◌<◌, ◌≤◌, Bool
 use Rattle.definitions.specs.{Expressions.{Sign, Term, Expression, is_plain}, CentralTable.SumRow, Matching.{RegisterDigits, is_ijk, is_octal_digit, with_ijk, matched, OfK, Sum, instruction_of, sum_field, sum_code, sum_instruction, sum_fit, single, sum_rows_for, first_fit}, Pieces.Piece, declared.number_base.NumberBase.NumberBase}
 use Rattle.definitions.specs.CentralTable as table
 use Rattle.operations.specs.declared.row.Row.{Row}
-use Rattle.cpu_opcodes.{specs.declared.code.SumForm.SumForm, specs.Joins.CentralTables.{sum_row, sum_rows_of, is_some_of}, specs.Joins.Fits.{named_digits, form_fit}, proofs.RowLaws.sum-fits, specs.declared.patterns.SumPattern.SumPattern, specs.Joins.CodeTexts.registers_text, proofs.RegisterPieceLaws.cond_same}
+use Rattle.cpu_opcodes.{specs.declared.code.SumForm.SumForm, specs.Joins.CentralTables.{sum_row, sum_rows_of, is_some_of}, specs.Joins.Fits.{named_digits, form_fit}, proofs.RowLaws.sum-fits, specs.declared.patterns.SumPattern.SumPattern, specs.Joins.CodeTexts.registers_text}
 use Rattle.expr_forms.specs.{Joins.Operands.IsOperand, declared.operands.Subfield.Subfield}
 use Rattle.expr_forms.specs.declared.operands.Operand.TheVariants as operand
 use Rattle.cpu_opcodes.specs.declared.patterns.SumPattern.TheVariants as registers
+
+cond_same : {A : Type 0} (b : Bool) (x : A) → cond b x x ≡ x
+cond_same true x = refl
+cond_same false x = refl
 
 -- a text that is longer than a pattern does not fit it
 too_long : (ps cs : List ℕ) (ijk : RegisterDigits) → length ps < length cs → matched ps cs ijk ≡ None

@@ -3,8 +3,6 @@ pub mod OperationNames
 pub mod CodeTexts
 pub mod CentralTables
 pub mod RegistersFound
-pub mod RegisterPieces
-pub mod RegisterLinks
 pub mod PatternTexts
 pub mod Fits
 pub mod Parts

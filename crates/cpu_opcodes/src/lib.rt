@@ -5,9 +5,8 @@
 //! with a character for each octal digit. `find` takes an operation with its operand, and answers
 //! its `Shape`, or O or V. `ignoring` is asked where the field is no operand: PS and NO have their
 //! instruction whatever stands there. An operation that begins with J or S has rows of sums alone,
-//! every other one none, so one table of two is searched. A pattern of registers fits the text of a
-//! subfield exactly where it fits the elements of its expression. A row that is wrong is mended
-//! here and in the definitions. Nothing here takes memory.
+//! every other one none, so one table of two is searched. A row that is wrong is mended here and in the
+//! definitions. Nothing here takes memory.
 #![tactic(auto)]
 
 // Codes, patterns and the tables.
@@ -16,7 +15,6 @@ mod code_digits;
 mod digits;
 mod operand_table;
 mod operation_name;
-mod pattern_laws;
 mod patterns;
 mod registers_found;
 mod row_places;
@@ -36,7 +34,6 @@ mod text_match;
 pub use code::{Code, OperandForm, SumForm};
 pub use digits::Digits;
 pub use instruction_search::{find, ignoring};
-pub use pattern_laws::{patterns_fit_expressions, patterns_fit_pieces};
 pub use patterns::{OperandPattern, SumPattern};
 pub use registers_found::RegistersFound;
 pub use tables::{central_rows, ignoring_rows, is_central, sum_rows};

@@ -1,22 +1,21 @@
 -- Patterns that are compared with the text of a subfield itself, without its pieces (ours).
-use Rattle.std.specs.Prelude.{ℕ, ◌==◌, List, [], ◌∷◌, Bool, true, not, ◌&&◌, ◌||◌, codes}
-use Rattle.definitions.specs.{Characters.{is_digit, same_text, blank, equals}, Matching.is_ijk}
-use Rattle.cpu_opcodes.specs.Joins.RegisterPieces.{is_of_run}
+use Rattle.std.specs.{Prelude.{ℕ, zero, suc, ◌+◌, ◌==◌, List, [], ◌∷◌, Bool, true, not, ◌&&◌, if◌then◌else◌}, List.list_all}
+use Rattle.definitions.specs.{Characters.{blank, equals, zero_digit}, Matching.{is_ijk, plain_text}, Pieces.pieces_of}
 
--- a pattern where an item may stand in a text: it begins with no place of a digit, no digit and no blank
-abbrev pub begins_apart : List ℕ → Bool
-begins_apart [] = true
-begins_apart (p ∷ ps) = not (is_ijk p) && (not (is_digit p) && not (p == blank))
+-- whether a test holds with each of so many digits
+abbrev pub all_digits : (ℕ → Bool) → ℕ → Bool
+all_digits test zero = true
+all_digits test (suc n) = test (zero_digit + n) && all_digits test n
 
--- no equals sign, and nothing behind a mark that could be of an item
-abbrev pub is_apart : List ℕ → Bool
-is_apart [] = true
-is_apart (p ∷ ps) = not (p == equals) && ((is_of_run p || begins_apart ps) && is_apart ps)
+-- whether a test holds of each text that a pattern fits
+abbrev pub holds : (List ℕ → Bool) → List ℕ → Bool
+holds test [] = test []
+holds test (p ∷ ps) = if is_ijk p then all_digits (λ d. holds (λ text. test (d ∷ text)) ps) 8 else holds (λ text. test (p ∷ text)) ps
 
--- a pattern that no item fits
+-- no blank, which an item shows, and no equals sign
+abbrev pub shows_all : List ℕ → Bool
+shows_all text = list_all (λ c. not (c == blank) && not (c == equals)) text
+
+-- a pattern that fits no text in which a piece begins with an equals sign or is an item
 abbrev pub is_text_pattern : List ℕ → Bool
-is_text_pattern pattern = begins_apart pattern && is_apart pattern
-
--- a part of an operand's pattern: K, n, or such a pattern
-abbrev pub is_text_part : List ℕ → Bool
-is_text_part part = same_text part (codes "K") || (same_text part (codes "n") || is_text_pattern part)
+is_text_pattern pattern = holds shows_all pattern && holds (λ text. shows_all (plain_text (pieces_of text))) pattern
