@@ -1,18 +1,7 @@
 -- A subfield of digits and nothing else.
-use Rattle.std.{proofs.Common.{◌≡◌, ℕ, suc, ◌+◌, ◌<◌, List, [], ◌∷◌, Bool, true, false, cond, ◌==◌, nat_le, if◌then◌else◌, Option, None, length, take, drop, refl, sym, ◌∙◌, ap, ap₂, subst, arith}, specs.Prelude.{is_none}, specs.List.{prefix_len, onto_first}, proofs.lemmas.Bool.le-leb, proofs.lemmas.List.Folds.length-prefix_len, proofs.Math.Seq.{drop-length, take-length}}
-use Rattle.definitions.specs.{Characters.{is_digit, comma, equals}, Numerals.number_of, CountedItems.{counted_item_behind, counted_item_at}, Pieces.{Mark, Equals, Inside, ByMark, Plain, mark_of, begun_by_counted_item, pieces_at, pieces_of, subfields_of}, Symbols.{Number, scaled, behind_digits, bounded, number_read}, declared.number_base.NumberBase.NumberBase}
+use Rattle.std.{proofs.Common.{◌≡◌, ℕ, suc, ◌+◌, ◌<◌, List, [], ◌∷◌, Bool, true, false, cond, ◌==◌, nat_le, if◌then◌else◌, Option, None, length, take, drop, refl, sym, ◌∙◌, ap, ap₂, subst, arith}, specs.Prelude.{is_none}, specs.List.{prefix_len, onto_first}, proofs.lemmas.List.Folds.length-prefix_len}
+use Rattle.definitions.specs.{Characters.{is_digit, comma, equals}, Numerals.number_of, CountedItems.{counted_item_behind, counted_item_at}, Pieces.{Mark, Equals, Inside, ByMark, Plain, mark_of, begun_by_counted_item, pieces_at, pieces_of, subfields_of}}
 use Rattle.expr_forms.{specs.Joins.Numbers.AreDigits, specs.Joins.Subfields.{is_ended, subfields_left}, proofs.PieceLaws.{is_of_run, pieces_begun, pieces-run}}
-
--- the number of a text, by its digits
-abbrev number_by : NumberBase → List ℕ → List ℕ → Option Number
-number_by base digits text = if nat_le 1 (length digits) then bounded (behind_digits base digits (drop (length digits) text)) else None
-
--- the number that digits are
-pub digits_number : (base : NumberBase) (text : List ℕ) → AreDigits text → number_read base text ≡ bounded (scaled base text 0)
-digits_number base text h =
-    ap (λ (digits : List ℕ). number_by base digits text) (ap (λ (n : ℕ). take n text) h.all ∙ take-length text)
-    ∙ ap (λ (b : Bool). if b then bounded (behind_digits base text (drop (length text) text)) else None) (le-leb 1 (length text) h.some)
-    ∙ ap (λ (rest : List ℕ). bounded (behind_digits base text rest)) (drop-length text)
 
 -- the digits that begin a text
 digits-taken : (text : List ℕ) → prefix_len is_digit (take (prefix_len is_digit text) text) ≡ length (take (prefix_len is_digit text) text)

@@ -1,7 +1,7 @@
 -- The pairs of a text by the pieces that begin it.
-use Rattle.std.{proofs.Common.{◌≡◌, ◌≢◌, ℕ, List, [], ◌∷◌, Bool, true, false, if◌then◌else◌, ◌==◌, Option, Some, None, refl, sym, ◌∙◌, ap, ap₂, subst, arith, suc, length, codes, ◌&&◌, eq-eqb, ne_eqb}, specs.Prelude.slice_index, proofs.Math.Bool.and-false}
-use Rattle.definitions.{specs.Characters.same_text, specs.CountedItems.{CountedSpan, counted_item_at}, specs.Pieces.{Mark, Plus, Minus, Star, Equals, Inside, ByMark, Piece, IsMark, IsCountedItem, Plain, begun_by_counted_item, spot_behind, left_of, onto_pieces, pieces_at, pieces_of}, specs.Expressions.{PlusSign, MinusSign, LocationCounter, OriginCounter, Operator, counter_of, onto_pairs, pairs_of}, specs.declared.number_base.NumberBase.NumberBase, proofs.GrammarLaws.{EndsElement, pairs_from-star, pairs_from}}
-use Rattle.expr_forms.specs.Joins.{Elements.{ends_element, signed_literal}, PiecesFound.{piece_as, spot_behind_piece}}
+use Rattle.std.{proofs.Common.{◌≡◌, ◌≢◌, ℕ, List, [], ◌∷◌, Bool, true, false, if◌then◌else◌, ◌==◌, Option, Some, None, refl, sym, ◌∙◌, ap, ap₂, subst, length, codes}, proofs.Math.Bool.and-false}
+use Rattle.definitions.{specs.CountedItems.{CountedSpan, counted_item_at}, specs.Pieces.{Mark, Star, Equals, Inside, ByMark, Piece, IsMark, begun_by_counted_item, spot_behind, left_of, onto_pieces, pieces_at, pieces_of}, specs.Expressions.{LocationCounter, OriginCounter, Operator, counter_of, onto_pairs, pairs_of}, specs.declared.number_base.NumberBase.NumberBase, proofs.GrammarLaws.{EndsElement, pairs_from-star, pairs_from}}
+use Rattle.expr_forms.specs.Joins.{Elements.{ends_element}, PiecesFound.{piece_as, spot_behind_piece}}
 use Rattle.expr_forms.specs.declared.pieces.Piece as codes
 
 -- pieces that begin with this one
@@ -41,51 +41,9 @@ pub mark-ends : (mark : Mark) (pieces : List Piece) → ends_element mark ≡ tr
 mark-ends Equals pieces e = cc
 mark-ends mark pieces e = tt
 
--- a star in front of an equals sign is no element
-pub star-equals : (base : NumberBase) (o : Operator) (mark : Mark) (pieces : List Piece) → ends_element mark ≡ false →
-    pairs_from base o (IsMark Star ∷ IsMark mark ∷ pieces) ≡ None
-star-equals base o Equals pieces e = refl
-star-equals base o mark pieces e = cc
-
--- a run of one character
-pub one_of : (run : List ℕ) → length run ≡ 1 → run ≡ slice_index run 0 ∷ []
-one_of [] e = absurd (omega arith)
-one_of (c ∷ []) e = refl
-one_of (c ∷ d ∷ cs) e = let e' : suc (suc (length cs)) ≡ 1 = e in absurd (omega arith)
-
--- O behind a star
-pub counter-O : (run : List ℕ) (c : ℕ) → run ≡ c ∷ [] → c ≡ 79 → counter_of run ≡ Some OriginCounter
-counter-O run c e is = ap counter_of e ∙ ap (λ (t : Bool). if t && true then Some OriginCounter else if same_text (c ∷ []) (codes "L") then Some LocationCounter else None) (eq-eqb c 79 is)
-
--- L behind a star
-pub counter-L : (run : List ℕ) (c : ℕ) → run ≡ c ∷ [] → c ≡ 76 → counter_of run ≡ Some LocationCounter
-counter-L run c e is = ap counter_of (e ∙ ap (λ (d : ℕ). d ∷ []) is)
-
--- another character
-pub counter-other : (run : List ℕ) (c : ℕ) → run ≡ c ∷ [] → c ≢ 79 → c ≢ 76 → counter_of run ≡ None
-counter-other run c e other last =
-    ap counter_of e
-    ∙ ap₂ (λ (t u : Bool). if t && true then Some OriginCounter else if u && true then Some LocationCounter else None) (ne_eqb c 79 other) (ne_eqb c 76 last)
-
 -- no run of another length is a counter
 pub counter-length : (run : List ℕ) → length run ≢ 1 → counter_of run ≡ None
 counter-length [] other = refl
 counter-length (c ∷ []) other = absurd (other refl)
 counter-length (c ∷ d ∷ cs) other =
     ap₂ (λ (t u : Bool). if t then Some OriginCounter else if u then Some LocationCounter else None) (and-false (c == 79)) (and-false (c == 76))
-
--- a literal with a plus
-pub literal-plus : (base : NumberBase) (o : Operator) (pieces : List Piece) →
-    pairs_from base o (IsMark Equals ∷ IsMark Plus ∷ pieces) ≡ signed_literal base o PlusSign pieces
-literal-plus base o [] = refl
-literal-plus base o (Plain text ∷ pieces) = refl
-literal-plus base o (IsMark mark ∷ pieces) = refl
-literal-plus base o (IsCountedItem item ∷ pieces) = refl
-
--- a literal with a minus
-pub literal-minus : (base : NumberBase) (o : Operator) (pieces : List Piece) →
-    pairs_from base o (IsMark Equals ∷ IsMark Minus ∷ pieces) ≡ signed_literal base o MinusSign pieces
-literal-minus base o [] = refl
-literal-minus base o (Plain text ∷ pieces) = refl
-literal-minus base o (IsMark mark ∷ pieces) = refl
-literal-minus base o (IsCountedItem item ∷ pieces) = refl

@@ -1,7 +1,7 @@
 -- Links and terms without those that are one register.
 use Rattle.std.{proofs.Common.{◌≡◌, ℕ, ◌≤◌, List, [], ◌∷◌, ◌++◌, length, Bool, true, false, ◌&&◌, if◌then◌else◌, Option, Some, None, refl, sym, ◌∙◌, ap, arith}, specs.Prelude.{is_some, unwrap_or, option_and_then}}
 use Rattle.definitions.{specs.Pieces.{Piece, mark_of, pieces_of}, specs.Expressions.{Element, Operator, Times, Divide, Add, Subtract, OperatorElement, Term, Grouped, onto_grouped, grouped, operator_of_mark}, specs.declared.number_base.NumberBase.NumberBase, proofs.GrammarLaws.{link_of, StartsWithElement, pairs_from-read, pairs_from}, proofs.TermLaws.{JoinsTerms, AreFactorLinks, AreJoined, links_in, term_of, IsGrouping, grouped-groups}}
-use Rattle.expr_forms.{specs.Joins.Links.{pairs_behind, links_behind, IsLawful}, specs.Joins.Parsed.BeginsTerm, specs.Joins.LoneRegisters.{joins_terms, is_register, begins_term, is_lone, without_lone, links_left_by, has_no_factors, other_terms, terms_left_by}, specs.declared.links.LoneRegisters.LoneRegisters, specs.declared.links.LoneRegisters.TheVariants.{Kept, LeftOut}, proofs.LinkLaws.{link-operator, link-unlawful}}
+use Rattle.expr_forms.{specs.Joins.Links.{pairs_behind, links_behind, IsLawful}, specs.Joins.Parsed.BeginsTerm, specs.Joins.LoneRegisters.{joins_terms, is_register, begins_term, is_lone, without_lone, links_left_by, has_no_factors, other_terms, terms_left_by}, specs.declared.links.LoneRegisters.LoneRegisters, specs.declared.links.LoneRegisters.TheVariants.{Kept, LeftOut}, proofs.LinkLaws.{link-operator}}
 
 begins-by : (base : NumberBase) (o : Operator) (pieces : List Piece) (x : Option (List OperatorElement)) → pairs_from base o pieces ≡ x → is_some x ≡ true →
     joins_terms o ≡ begins_term (unwrap_or x [])
@@ -17,10 +17,6 @@ text-begins base text cs c o t e lawful =
     let read : pairs_behind base text ≡ pairs_from base o (pieces_of cs) = link-operator base text cs c o t e in
     begins-by base o (pieces_of cs) (pairs_from base o (pieces_of cs)) refl (sym (ap is_some read) ∙ lawful)
     ∙ ap (λ (x : Option (List OperatorElement)). begins_term (unwrap_or x [])) (sym read)
-
--- a lawful text begins with an operator
-pub text-begun : (base : NumberBase) (text cs : List ℕ) (c : ℕ) → text ≡ c ∷ cs → option_and_then operator_of_mark (mark_of c) ≡ None → IsLawful base text → ⊥
-text-begun base text cs c t e lawful = let none : is_some (pairs_behind base text) ≡ false = ap is_some (link-unlawful base text cs c t e) in cc
 
 -- a term has no factors where a term begins behind it
 no_factors-onto : (pair : OperatorElement) (o : Operator) (group : Grouped) → has_no_factors (onto_grouped pair o group).factors ≡ joins_terms o

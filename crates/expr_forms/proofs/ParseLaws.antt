@@ -1,17 +1,7 @@
 -- An expression by its sign, its first element and what is behind it.
 use Rattle.std.{proofs.Common.{◌≡◌, ◌≢◌, ℕ, ◌+◌, ◌*◌, ◌≤◌, inl, inr, List, [], ◌∷◌, length, Bool, true, false, ◌==◌, if◌then◌else◌, Option, Some, None, refl, sym, ◌∙◌, ap, subst, arith, length-append, zero, suc, ne_eqb}, specs.Prelude.{is_some, unwrap_or}}
-use Rattle.definitions.{specs.CountedItems.{CountedSpan, counted_item_at}, specs.Pieces.{Mark, Comma, Plus, Minus, Star, Slash, Equals, Spot, Inside, Begun, ByMark, ByCountedItem, ByOther, Piece, IsMark, IsCountedItem, Plain, mark_of, begun_by, begun_by_counted_item, begun_at, spot_behind, left_of, onto_plain, onto_pieces, pieces_at, pieces_of}, specs.Expressions.{Sign, NoSign, PlusSign, MinusSign, OfNumber, OfCountedItem, Element, ANumber, ACountedItem, ASymbol, ARegister, LocationCounter, OriginCounter, ALiteral, Operator, Add, Subtract, OperatorElement, onto_pairs, grouped, with_sign, expression_of}, specs.Laws.Grammar.{IsElement, operator_of}, specs.declared.number_base.NumberBase.NumberBase, proofs.GrammarLaws.{link_of, AreLinks, pairs_of-read, pairs_from}}
-use Rattle.expr_forms.specs.{Joins.Links.{pairs_behind, links_behind, links_left, IsLawful}, declared.links.Link.Link}
-
--- a plus in front
-pub signed-plus : (base : NumberBase) (text body : List ℕ) (c : ℕ) → text ≡ c ∷ body → c ≡ 43 →
-    expression_of base (pieces_of text) ≡ with_sign PlusSign (pairs_from base Add (pieces_of body))
-signed-plus base text body c t e = ap (λ (s : List ℕ). expression_of base (pieces_of s)) (t ∙ ap (λ (d : ℕ). d ∷ body) e)
-
--- a minus in front
-pub signed-minus : (base : NumberBase) (text body : List ℕ) (c : ℕ) → text ≡ c ∷ body → c ≡ 45 →
-    expression_of base (pieces_of text) ≡ with_sign MinusSign (pairs_from base Subtract (pieces_of body))
-signed-minus base text body c t e = ap (λ (s : List ℕ). expression_of base (pieces_of s)) (t ∙ ap (λ (d : ℕ). d ∷ body) e)
+use Rattle.definitions.{specs.CountedItems.{CountedSpan, counted_item_at}, specs.Pieces.{Mark, Comma, Plus, Minus, Star, Slash, Equals, Spot, Inside, Begun, ByMark, ByCountedItem, ByOther, Piece, IsMark, IsCountedItem, Plain, mark_of, begun_by, begun_by_counted_item, begun_at, spot_behind, left_of, onto_plain, onto_pieces, pieces_at, pieces_of}, specs.Expressions.{Sign, NoSign, OfNumber, OfCountedItem, Element, ANumber, ACountedItem, ASymbol, ARegister, LocationCounter, OriginCounter, ALiteral, Add, OperatorElement, onto_pairs, grouped, with_sign, expression_of}, specs.Laws.Grammar.{IsElement, operator_of}, specs.declared.number_base.NumberBase.NumberBase, proofs.GrammarLaws.{link_of, AreLinks, pairs_of-read, pairs_from}}
+use Rattle.expr_forms.specs.{Joins.Links.{pairs_behind, links_behind}}
 
 -- pieces that are read without a sign
 abbrev Unsigned : NumberBase → List Piece → Type 0
@@ -63,11 +53,6 @@ signed-other base text body c t p m =
     let P : List ℕ → Type 0 = λ s. Unsigned base (pieces_of s) in
     subst P (sym t) (unsigned-equals base c body (c == 61) (ne_eqb c 43 p) (ne_eqb c 45 m))
 
--- nothing at all
-pub signed-nothing : (base : NumberBase) (text : List ℕ) → text ≡ [] →
-    expression_of base (pieces_of text) ≡ with_sign NoSign (pairs_from base Add (pieces_of text))
-signed-nothing base text t = let P : List ℕ → Type 0 = λ s. Unsigned base (pieces_of s) in subst P (sym t) refl
-
 -- lawful links behind an element make an expression
 pub parsed : (base : NumberBase) (sign : Sign) (element : Element) (rest : List ℕ) (x : Option (List OperatorElement)) → is_some x ≡ true →
     with_sign sign (onto_pairs (operator_of sign) (Some element) x)
@@ -80,28 +65,6 @@ pub refused : (sign : Sign) (element : Element) (x : Option (List OperatorElemen
     with_sign sign (onto_pairs (operator_of sign) (Some element) x) ≡ None
 refused sign element None e = refl
 refused sign element (Some pairs) e = cc
-
--- a link more changes nothing of whether the others are lawful
-pub is_some-onto_pairs : (o : Operator) (element : Element) (x : Option (List OperatorElement)) → is_some (onto_pairs o (Some element) x) ≡ is_some x
-is_some-onto_pairs o element None = refl
-is_some-onto_pairs o element (Some pairs) = refl
-
--- a link in front of lawful ones
-pub unwrap-onto_pairs : (o : Operator) (element : Element) (x y : Option (List OperatorElement)) → x ≡ onto_pairs o (Some element) y → is_some x ≡ true →
-    unwrap_or x [] ≡ link_of o element ∷ unwrap_or y []
-unwrap-onto_pairs o element x None e lawful = let none : is_some x ≡ false = ap is_some e in cc
-unwrap-onto_pairs o element x (Some pairs) e lawful = ap (λ (z : Option (List OperatorElement)). unwrap_or z []) e
-
--- behind a first link that is taken, the next one comes from the text
-pub links_left-next : (base : NumberBase) (first : Option Link) (rest behind : List ℕ) (o : Operator) (element : Element) → first ≡ None →
-    pairs_behind base rest ≡ onto_pairs o (Some element) (pairs_behind base behind) → IsLawful base rest →
-    links_left base first rest ≡ link_of o element ∷ links_left base first behind
-links_left-next base None rest behind o element taken e lawful = unwrap-onto_pairs o element (pairs_behind base rest) (pairs_behind base behind) e lawful
-links_left-next base (Some link) rest behind o element taken e lawful = cc
-
--- what is behind a lawful link is lawful
-pub lawful-onto_pairs : (o : Operator) (element : Element) (x y : Option (List OperatorElement)) → x ≡ onto_pairs o (Some element) y → is_some x ≡ true → is_some y ≡ true
-lawful-onto_pairs o element x y e lawful = sym (is_some-onto_pairs o element y) ∙ (sym (ap is_some e) ∙ lawful)
 
 -- an element has at least one piece
 IsElement-some : (base : NumberBase) (element : Element) (pieces : List Piece) → IsElement base element pieces → 1 ≤ length pieces

@@ -25,14 +25,6 @@ pieces-item (c ∷ cs) counted e some =
     ap (λ (o : Option CountedSpan). pieces_begun (begun_by_counted_item c o) cs) e
     ∙ ap (λ (p : List Piece). IsCountedItem counted.item ∷ p) (pieces_at-left Inside (counted.taken - 1) cs ∙ ap (λ (n : ℕ). pieces_at Inside 0 (drop n (c ∷ cs))) (sym taken))
 
--- a mark
-pub pieces-mark : (text cs : List ℕ) (c : ℕ) (mark : Mark) → text ≡ c ∷ cs → counted_item_at text ≡ None → mark_of c ≡ Some mark →
-    pieces_at AtEquals 0 text ≡ IsMark mark ∷ pieces_at (spot_behind (ByMark mark)) 0 cs
-pieces-mark text cs c mark t e m =
-    ap (pieces_at AtEquals 0) t
-    ∙ ap (λ (o : Option CountedSpan). pieces_begun (begun_by_counted_item c o) cs) (ap counted_item_at (sym t) ∙ e)
-    ∙ ap (λ (o : Option Mark). pieces_begun (begun_by c o) cs) m
-
 -- inside, a character that is no mark joins the run behind it
 pieces_at-other : (c : ℕ) (cs : List ℕ) → mark_of c ≡ None → pieces_at Inside 0 (c ∷ cs) ≡ onto_plain c (pieces_at Inside 0 cs)
 pieces_at-other c cs m = ap (λ (o : Option Mark). pieces_begun (begun_by c o) cs) m

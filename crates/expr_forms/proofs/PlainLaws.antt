@@ -1,6 +1,6 @@
 -- What is known of an expression without registers and literals.
 use Rattle.std.{proofs.Common.{◌≡◌, ℕ, Some, None, Option, List, [], ◌∷◌, ◌++◌, Bool, true, false, ◌&&◌, refl, sym, ◌∙◌, ap, append_assoc}, specs.Prelude.{map, flat_map, filter_map, option_map, unwrap_or, is_some}, specs.List.{cons_option, list_all}, proofs.lemmas.List.append-nil, proofs.lemmas.List.Folds.list_all-append}
-use Rattle.definitions.{proofs.TestLaws.{and_left, and_right}, proofs.TermLaws.JoinsTerms, specs.Expressions.{Sign, NoSign, PlusSign, MinusSign, Literal, OfNumber, OfCountedItem, Element, ANumber, ACountedItem, ASymbol, ARegister, LocationCounter, OriginCounter, ALiteral, Operator, Times, Divide, Add, Subtract, OperatorElement, Term, Grouped, onto_grouped, grouped, onto_pairs, is_allowed}, specs.Laws.Grammar.operator_of, specs.Literals.literal_in, specs.Matching.{Sum, onto_sum, sum_of}, specs.declared.number_base.NumberBase.NumberBase}
+use Rattle.definitions.{proofs.TestLaws.{and_left, and_right}, proofs.TermLaws.JoinsTerms, specs.Expressions.{Sign, NoSign, PlusSign, MinusSign, Literal, OfNumber, OfCountedItem, Element, ANumber, ACountedItem, ASymbol, ARegister, LocationCounter, OriginCounter, ALiteral, Operator, Times, Divide, Add, Subtract, OperatorElement, Term, Grouped, onto_grouped, grouped, is_allowed}, specs.Laws.Grammar.operator_of, specs.Literals.literal_in, specs.Matching.{Sum, onto_sum, sum_of}, specs.declared.number_base.NumberBase.NumberBase}
 use Rattle.expr_forms.{specs.Joins.Links.links_behind, specs.Joins.LoneRegisters.has_terms, specs.Joins.Parsed.{are_plain, expression_behind, IsPlainSum}, specs.declared.links.LoneRegisters.TheVariants.Kept, proofs.ElementListLaws.elements_in-links, proofs.LoneLaws.left-links}
 
 -- what is allowed without literals is allowed with them
@@ -75,14 +75,6 @@ first-onto first Subtract group joins = refl
 pub first-some : (first : OperatorElement) (pairs : List OperatorElement) → JoinsTerms first.operator → has_terms (grouped (first ∷ pairs)).terms ≡ true
 first-some first pairs joins = first-onto first first.operator (grouped pairs) joins
 
--- one element more, in front of links that are left
-pub plain-link : (plain : Bool) (o : Operator) (e : Element) (x : Option (List OperatorElement)) →
-    option_map (λ (pairs : List OperatorElement). plain && are_plain pairs) (onto_pairs o (Some e) x)
-    ≡ option_map (λ (pairs : List OperatorElement). (plain && is_allowed false e) && are_plain pairs) x
-plain-link plain o e None = refl
-plain-link true o e (Some pairs) = refl
-plain-link false o e (Some pairs) = refl
-
 -- links that are shown plain are some, and plain
 pub told-some : (x : Option (List OperatorElement)) (plain : Bool) → Some plain ≡ option_map are_plain x → is_some x ≡ true
 told-some None plain told = cc
@@ -91,10 +83,6 @@ told-some (Some pairs) plain told = refl
 pub told-plain : (x : Option (List OperatorElement)) (plain : Bool) → Some plain ≡ option_map are_plain x → plain ≡ are_plain (unwrap_or x [])
 told-plain None plain told = cc
 told-plain (Some pairs) plain told = cc
-
-pub told-none : (x : Option (List OperatorElement)) → None ≡ option_map are_plain x → is_some x ≡ false
-told-none None told = refl
-told-none (Some pairs) told = cc
 
 -- the operator in front of a first element begins a term
 pub joins-sign : (sign : Sign) → JoinsTerms (operator_of sign)

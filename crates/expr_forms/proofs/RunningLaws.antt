@@ -1,8 +1,7 @@
 -- The bases of a sum, one more at a time.
-use Rattle.std.{proofs.Common.{◌≡◌, ◌≢◌, ℕ, zero, suc, ◌+◌, ◌<◌, ◌≤◌, List, [], ◌∷◌, ◌++◌, Bool, true, false, not, cond, if◌then◌else◌, Option, Some, None, length, take, get_or, set, refl, sym, ◌∙◌, ap, subst, arith, ne_eqb}, specs.Prelude.{ℤ, pos, negsuc, ◌+ℤ◌, unsigned_abs, map, Result, Ok, Err}, specs.List.prefix_len, proofs.lemmas.Int.ints, proofs.lemmas.List.{length-take-le, get_or-take, take_more_set, map_push}, proofs.Math.Seq.take-set-lt}
-use Rattle.definitions.specs.{Forms.{Relocation, Part, Added, Subtracted, Form, Running, same_relocation, running_part, plus_relocation, plus_relocations, is_in_range, is_zero, is_negative, running_in_range, remaining, part_of, plus_term, signed}, Expressions.{Operator, Times, Divide, Add, Subtract}, declared.letter.Letter.Letter}
-use Rattle.definitions.specs.declared.letter.Letter.TheVariants as letter
-use Rattle.expr_forms.specs.{Joins.Ranges.ranged, Joins.FormsAs.relocation_as, Joins.Running.{base_as, is_other, AreSmall, part_times, part_relocation}, declared.running.Base.Base}
+use Rattle.std.{proofs.Common.{◌≡◌, ℕ, zero, suc, ◌+◌, ◌<◌, ◌≤◌, List, [], ◌∷◌, ◌++◌, Bool, true, false, not, cond, if◌then◌else◌, Option, Some, None, length, take, get_or, set, refl, sym, ◌∙◌, ap, subst, arith}, specs.Prelude.{ℤ, ◌+ℤ◌, unsigned_abs, map}, specs.List.prefix_len, proofs.lemmas.Int.ints, proofs.lemmas.List.{length-take-le, get_or-take, take_more_set, map_push}, proofs.Math.Seq.take-set-lt}
+use Rattle.definitions.specs.{Forms.{Relocation, Part, Added, Subtracted, same_relocation, running_part, plus_relocation, plus_relocations, signed}, Expressions.{Operator, Times, Divide, Add, Subtract}}
+use Rattle.expr_forms.specs.{Joins.FormsAs.relocation_as, Joins.Running.{base_as, is_other, AreSmall, part_times, part_relocation}, declared.running.Base.Base}
 
 -- the size of a sum
 pub abs-add : (n t : ℤ) → unsigned_abs (n +ℤ t) ≤ unsigned_abs n + unsigned_abs t
@@ -82,65 +81,6 @@ AreSmall-plus most r t [] once small = (omega arith, tt)
 AreSmall-plus most r t (x ∷ rs) once small =
     small-by most r x.0 t x.1 rs (plus_relocation r t rs) (same_relocation r x.0) once small.0 (AreSmall-le most (most + 1) rs (omega arith) small.1) (AreSmall-plus most r t rs once small.1)
 
--- a sum in range
-pub running-in : (z n : ℤ) (rs : List (Relocation × ℤ)) (b : Bool) → is_in_range z ≡ b → Ok n ≡ ranged z →
-    running_in_range (record { number = z; relocations = rs }) ≡ Ok (record { number = n; relocations = rs })
-running-in z n rs true e is =
-    let same : Ok n ≡ Ok z = is ∙ ap (λ (t : Bool). if t then Ok z else Err letter.A) e in
-    let number : n ≡ z = cc in
-    ap (λ (t : Bool). if t then Ok (record { number = z; relocations = rs }) else Err letter.A) e
-    ∙ ap (λ (m : ℤ). let r : Running = record { number = m; relocations = rs } in Ok r) (sym number)
-running-in z n rs false e is = let same : Ok n ≡ Err letter.A = is ∙ ap (λ (t : Bool). if t then Ok z else Err letter.A) e in cc
-
--- and one out of range
-pub running-out : (z : ℤ) (l : Letter) (rs : List (Relocation × ℤ)) (b : Bool) → is_in_range z ≡ b → Err l ≡ ranged z →
-    running_in_range (record { number = z; relocations = rs }) ≡ Err l
-running-out z l rs true e is = let same : Err l ≡ Ok z = is ∙ ap (λ (t : Bool). if t then Ok z else Err letter.A) e in cc
-running-out z l rs false e is =
-    let same : Err l ≡ Err letter.A = is ∙ ap (λ (t : Bool). if t then Ok z else Err letter.A) e in
-    let one : l ≡ letter.A = cc in
-    ap (λ (t : Bool). if t then Ok (record { number = z; relocations = rs }) else Err letter.A) e
-    ∙ ap (λ (m : Letter). let r : Result Running Letter = Err m in r) (sym one)
-
--- a base that is left
-remaining-cons : (b : Base) (bs : List Base) (s : Bool) → is_zero b.times ≡ s → remaining (map base_as (b ∷ bs)) ≡ (if s then remaining (map base_as bs) else base_as b ∷ remaining (map base_as bs))
-remaining-cons b bs s e = ap (λ (t : Bool). if t then remaining (map base_as bs) else base_as b ∷ remaining (map base_as bs)) e
-
-zero-is : (n : ℤ) → n ≡ pos 0 → is_zero n ≡ true
-zero-is n e = ap is_zero e
-
-zero-not : (n : ℤ) → n ≢ pos 0 → is_zero n ≡ false
-zero-not (pos zero) e = absurd (e refl)
-zero-not (pos (suc n)) e = ne_eqb (suc n) 0 (λ h. absurd (omega arith))
-zero-not (negsuc n) e = refl
-
--- one base more that is looked at
-pub remaining-skips : (b : Base) (bs all : List Base) (left : List (Relocation × ℤ)) → b.times ≡ pos 0 →
-    remaining (map base_as all) ≡ left ++ remaining (map base_as (b ∷ bs)) → remaining (map base_as all) ≡ left ++ remaining (map base_as bs)
-remaining-skips b bs all left e h = h ∙ ap (λ (l : List (Relocation × ℤ)). left ++ l) (remaining-cons b bs true (zero-is b.times e))
-
-pub remaining-takes : (b : Base) (bs all : List Base) (left : List (Relocation × ℤ)) → b.times ≢ pos 0 →
-    remaining (map base_as all) ≡ left ++ remaining (map base_as (b ∷ bs)) → remaining (map base_as all) ≡ left ++ base_as b ∷ remaining (map base_as bs)
-remaining-takes b bs all left e h = h ∙ ap (λ (l : List (Relocation × ℤ)). left ++ l) (remaining-cons b bs false (zero-not b.times e))
-
--- one base once
-pub part_of-once : (number : ℤ) (b : Base) → b.times ≡ pos 1 → part_of number (base_as b ∷ []) ≡ Ok (record { number = number; part = Some (Added (relocation_as b.relocation)) })
-part_of-once number b e = ap (λ (n : ℤ). part_of number ((relocation_as b.relocation, n) ∷ [])) e
-
-pub part_of-less : (number : ℤ) (b : Base) → b.times ≡ negsuc 0 → part_of number (base_as b ∷ []) ≡ Ok (record { number = number; part = Some (Subtracted (relocation_as b.relocation)) })
-part_of-less number b e = ap (λ (n : ℤ). part_of number ((relocation_as b.relocation, n) ∷ [])) e
-
-abs-other : (n : ℤ) → n ≢ pos 1 → n ≢ negsuc 0 → unsigned_abs n ≢ 1
-abs-other (pos n) one less e = one (ap pos e)
-abs-other (negsuc zero) one less e = absurd (less refl)
-abs-other (negsuc (suc n)) one less e = absurd (omega arith)
-
--- any other number of times
-pub part_of-other : (number : ℤ) (b : Base) → b.times ≢ pos 1 → b.times ≢ negsuc 0 → part_of number (base_as b ∷ []) ≡ Err letter.R
-part_of-other number b one less =
-    ap (λ (t : Bool). if t then Ok (record { number = number; part = Some (if is_negative b.times then Subtracted (relocation_as b.relocation) else Added (relocation_as b.relocation)) }) else Err letter.R)
-    (ne_eqb (unsigned_abs b.times) 1 (abs-other b.times one less))
-
 -- the bases of a room after one that is there is added to
 pub add-found : (room front : List Base) (len i : ℕ) (r : Relocation) (t : ℤ) (b : Base) → front ≡ take len room → i ≡ others r front → i < len → len ≤ length room →
     b ≡ get_or room i b → map base_as (take len (set room i (again b t))) ≡ plus_relocation r t (map base_as (take len room))
@@ -194,21 +134,3 @@ AreSmall-part most o None rs small = AreSmall-le most (most + 1) rs (omega arith
 AreSmall-part most o (Some p) rs small =
     subst (AreSmall (most + 1)) (plus-part o p (part_relocation p) (signed o (part_times p)) rs refl refl)
     (AreSmall-plus most (part_relocation p) (signed o (part_times p)) rs (abs-signed o p) small)
-
--- a term more, where the sum is in range
-pub add-term : (o : Operator) (running : Running) (form : Form) (term number : ℤ) (p : Option Part) (rs : List (Relocation × ℤ)) → term ≡ form.number → p ≡ form.part →
-    Ok number ≡ ranged (running.number +ℤ signed o term) → rs ≡ plus_relocations o (running_part p) running.relocations →
-    plus_term o running (Ok form) ≡ Ok (record { number = number; relocations = rs })
-add-term o running form term number p rs t part e same =
-    let z : ℤ = running.number +ℤ signed o form.number in
-    let all : List (Relocation × ℤ) = plus_relocations o (running_part form.part) running.relocations in
-    running-in z number all (is_in_range z) refl (e ∙ ap (λ (n : ℤ). ranged (running.number +ℤ signed o n)) t)
-    ∙ ap (λ (l : List (Relocation × ℤ)). let r : Running = record { number = number; relocations = l } in Ok r)
-    (sym (same ∙ ap (λ (q : Option Part). plus_relocations o (running_part q) running.relocations) part))
-
--- and where it is not
-pub add-fault : (o : Operator) (running : Running) (form : Form) (term : ℤ) (l : Letter) → term ≡ form.number →
-    Err l ≡ ranged (running.number +ℤ signed o term) → plus_term o running (Ok form) ≡ Err l
-add-fault o running form term l t e =
-    let z : ℤ = running.number +ℤ signed o form.number in
-    running-out z l (plus_relocations o (running_part form.part) running.relocations) (is_in_range z) refl (e ∙ ap (λ (n : ℤ). ranged (running.number +ℤ signed o n)) t)

@@ -33,10 +33,7 @@ pub(crate) fn ranged(number: Option<i64>) -> Result<i64, Letter>
 fn absolute_ranged(number: Option<i64>) -> Result<Form, Letter>
     ensures { (n : ℤ) → SomeIff number (FitsSigned w64 n) n → result ≡ in_range n }
 {
-    match ranged(number) {
-        Ok(number) => Ok(Form::absolute(number)),
-        Err(letter) => Err(letter),
-    }
+    Ok(Form::absolute(ranged(number)?))
 }
 
 fn product(a: i64, b: i64) -> Result<Form, Letter>

@@ -8,7 +8,7 @@ ghost use Rattle.expr_forms.specs.Joins.Readings.{bit_field_as, sized_value};
 use crate::dis_fields::count_read;
 use crate::expressions::Expr;
 use crate::numbers::number_read;
-use crate::pieces::{Mark, Piece, mark_of, piece_at_start};
+use crate::pieces::{Piece, piece_at_start};
 use crate::subfields::Subfields;
 use definitions::{Letter, NumberBase};
 use std::marker::Model;
@@ -38,13 +38,10 @@ fn sized_value<'a>(
 {
     match text.split_first() {
         None => Some(BitField { width, value: None }),
-        Some(_) => match Expr::plain(text, literals, base) {
-            Ok(expression) => Some(BitField {
-                width,
-                value: Some(expression),
-            }),
-            Err(_) => None,
-        },
+        Some(_) => {
+            let value = Some(Expr::plain(text, literals, base).ok()?);
+            Some(BitField { width, value })
+        }
     }
 }
 
@@ -60,10 +57,8 @@ fn behind_slash<'a>(
     ensures some { IfSome result (λ field. 1 ≤ field.width) }
     ensures few { IfSome result (λ field. field.width ≤ 60) }
 {
-    match count_read(MOST_BITS, number_read(base, width)) {
-        None => None,
-        Some(width) => sized_value(literals, base, width as u8, text),
-    }
+    let width = count_read(MOST_BITS, number_read(base, width))?;
+    sized_value(literals, base, width as u8, text)
 }
 
 /// The field whose width this text follows.
@@ -79,11 +74,8 @@ fn behind_width<'a>(
     ensures few { IfSome result (λ field. field.width ≤ 60) }
 {
     match text.split_first() {
-        None => None,
-        Some((c, behind)) => match mark_of(*c) {
-            Some(Mark::Slash) => behind_slash(literals, base, width, behind),
-            _ => None,
-        },
+        Some((b'/', behind)) => behind_slash(literals, base, width, behind),
+        _ => None,
     }
 }
 

@@ -1,7 +1,7 @@
 //! The variable field of CON: what fills its words (COMPASS 60492600, CON).
 ghost use Rattle.std.specs.Prelude.{◌≡◌, ◌≤◌, ◌∷◌, [], length, option_map, is_some, Some, None, IfSome, IfNone, MatchResult};
 ghost use Rattle.definitions.specs.Pieces.{pieces_of, subfields_of};
-ghost use Rattle.definitions.specs.Operands.{ExpressionWord, con_word, all_read, plain_of};
+ghost use Rattle.definitions.specs.Operands.{con_word, all_read};
 ghost use Rattle.definitions.specs.declared.letter.Letter.TheVariants as letter;
 ghost use Rattle.expr_forms.specs.Joins.Readings.{datum_as};
 
@@ -11,17 +11,6 @@ use crate::subfields::Subfields;
 use definitions::{Letter, NumberBase};
 use std::marker::Model;
 
-/// The expression that fills a word of CON.
-fn expression_word(literals: bool, base: NumberBase, text: &[u8]) -> Option<Datum<'_>>
-    requires { length text.now ≤ 711 }
-    ensures { option_map datum_as result ≡ option_map ExpressionWord (plain_of literals base (pieces_of text.now)) }
-{
-    match Expr::plain(text, literals, base) {
-        Ok(expression) => Some(Datum::Expression(expression)),
-        Err(_) => None,
-    }
-}
-
 /// What a subfield of CON is, if it is lawful: nothing, or an expression.
 fn con_word(literals: bool, base: NumberBase, text: &[u8]) -> Option<Datum<'_>>
     requires { length text.now ≤ 711 }
@@ -29,7 +18,7 @@ fn con_word(literals: bool, base: NumberBase, text: &[u8]) -> Option<Datum<'_>>
 {
     match text.split_first() {
         None => Some(Datum::Zero),
-        Some(_) => expression_word(literals, base, text),
+        Some(_) => Some(Datum::Expression(Expr::plain(text, literals, base).ok()?)),
     }
 }
 

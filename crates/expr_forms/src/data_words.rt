@@ -1,6 +1,6 @@
 //! The variable field of DATA: what fills its words (COMPASS 60492600, DATA).
 ghost use Rattle.std.specs.Prelude.{◌≡◌, ◌≤◌, ◌<◌, ◌∷◌, [], length, option_map, is_some, Some, None, IfSome, IfNone, MatchResult};
-ghost use Rattle.definitions.specs.Pieces.{Inside, ByMark, IsMark, IsCountedItem, Plain, spot_behind, pieces_at, pieces_of, subfields_of};
+ghost use Rattle.definitions.specs.Pieces.{Inside, ByMark, IsMark, Plain, spot_behind, pieces_at, pieces_of, subfields_of};
 ghost use Rattle.definitions.specs.Symbols.{number_read};
 ghost use Rattle.definitions.specs.Operands.{NumberWord, CountedItemWords, data_word, all_read, onto_all};
 ghost use Rattle.definitions.specs.declared.letter.Letter.TheVariants as letter;
@@ -121,10 +121,7 @@ fn digits_word<'a>(base: NumberBase, digits: &[u8]) -> Option<Datum<'a>>
     requires { AreDigits digits.now }
     ensures { option_map datum_as result ≡ data_word base (Plain digits.now ∷ []) }
 {
-    match digits_read(base, digits) {
-        Some(number) => Some(Datum::Number(Sign::Absent, number)),
-        None => None,
-    }
+    Some(Datum::Number(Sign::Absent, digits_read(base, digits)?))
 }
 
 /// What the next subfield of DATA is, if one is left, and if it is lawful.

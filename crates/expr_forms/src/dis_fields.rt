@@ -45,14 +45,8 @@ pub(crate) fn count_read(most: u64, number: Option<Number>) -> Option<u64>
     ensures some { IfSome result (λ count. 1 ≤ count) }
     ensures most { IfSome result (λ count. count ≤ most) }
 {
-    match number {
-        Some(Number::Value(size)) => {
-            if 1 <= size.value && size.value <= most {
-                Some(size.value)
-            } else {
-                None
-            }
-        }
+    match number? {
+        Number::Value(size) if 1 <= size.value && size.value <= most => Some(size.value),
         _ => None,
     }
 }
@@ -88,17 +82,13 @@ pub fn dis_text(text: &[u8], base: NumberBase, kind: DeckKind) -> Result<DisText
     if len == text.len() {
         return Err(Letter::V);
     }
-    match count_read(MOST_WORDS, number_read(base, text.split_at(len).0)) {
-        None => Err(Letter::V),
-        Some(words) => {
-            let words = words as usize;
-            Ok(DisText {
-                words,
-                places: words * word_characters(kind),
-                text: text.split_at(len + 1).1,
-            })
-        }
-    }
+    let count = count_read(MOST_WORDS, number_read(base, text.split_at(len).0));
+    let words = count.ok_or(Letter::V)? as usize;
+    Ok(DisText {
+        words,
+        places: words * word_characters(kind),
+        text: text.split_at(len + 1).1,
+    })
 }
 
 impl<'a> DisText<'a> {

@@ -49,12 +49,8 @@ fn next_literal<'a>(links: &mut Links<'a>) -> Option<Literal<'a>>
     ensures some { IfSome result (λ literal. literals_among links.old ≡ literal_as literal ∷ literals_among links.new) }
 {
     'links: loop {
-        match links.next() {
-            None => return None,
-            Some(link) => match link.element {
-                Element::Literal(literal) => return Some(literal),
-                _ => {}
-            },
+        if let Element::Literal(literal) = links.next()?.element {
+            return Some(literal);
         }
     }
 }
@@ -65,12 +61,8 @@ fn next_symbol<'a>(links: &mut Links<'a>) -> Option<&'a [u8]>
     ensures some { IfSome result (λ name. symbols_among links.old ≡ name.now ∷ symbols_among links.new) }
 {
     'links: loop {
-        match links.next() {
-            None => return None,
-            Some(link) => match link.element {
-                Element::Symbol(name) => return Some(name),
-                _ => {}
-            },
+        if let Element::Symbol(name) = links.next()?.element {
+            return Some(name);
         }
     }
 }

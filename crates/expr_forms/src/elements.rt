@@ -60,10 +60,7 @@ fn element_of_run(base: NumberBase, run: &[u8]) -> Option<Element<'_>>
     if is_symbol(run) {
         return Some(Element::Symbol(run));
     }
-    match number_read(base, run) {
-        Some(number) => Some(Element::Number(number)),
-        None => None,
-    }
+    Some(Element::Number(number_read(base, run)?))
 }
 
 /// The counter that a run behind a star names: O or L.
@@ -89,10 +86,8 @@ fn counter_found<'a>(run: &'a [u8], rest: &'a [u8]) -> Option<ElementFound<'a>>
     ensures elements { (base : NumberBase) (o : Operator) → elements_found base o result ≡ onto_pairs o (counter_of run.now) (pairs_of base 0 (pieces_at Inside 0 rest.now)) }
     ensures rest { IfSome result (λ found. found.rest.now ≡ rest.now) }
 {
-    match counter_of(run) {
-        Some(element) => Some(ElementFound { element, rest }),
-        None => None,
-    }
+    let element = counter_of(run)?;
+    Some(ElementFound { element, rest })
 }
 
 /// Whether a mark may stand behind an element: each but the equals sign, which begins another one.
@@ -100,10 +95,7 @@ fn counter_found<'a>(run: &'a [u8], rest: &'a [u8]) -> Option<ElementFound<'a>>
 fn ends_element(mark: Mark) -> bool
     ensures { result ≡ ends_element (mark_as mark) }
 {
-    match mark {
-        Mark::Equals => false,
-        _ => true,
-    }
+    !matches!(mark, Mark::Equals)
 }
 
 /// The element that begins with a star, which this text follows.
@@ -137,13 +129,11 @@ fn number_literal<'a>(
     ensures elements { (o : Operator) → elements_found base o result ≡ onto_pairs o (literal_of (sign_as sign) (number_read base run.now)) (pairs_of base 0 (pieces_at Inside 0 rest.now)) }
     ensures rest { IfSome result (λ found. found.rest.now ≡ rest.now) }
 {
-    match number_read(base, run) {
-        Some(number) => Some(ElementFound {
-            element: Element::Literal(Literal::Number(sign, number)),
-            rest,
-        }),
-        None => None,
-    }
+    let number = number_read(base, run)?;
+    Some(ElementFound {
+        element: Element::Literal(Literal::Number(sign, number)),
+        rest,
+    })
 }
 
 /// The literal whose equals sign and sign this text follows.
@@ -178,16 +168,14 @@ fn behind_equals(base: NumberBase, text: &[u8]) -> Option<ElementFound<'_>>
     ensures elements { (o : Operator) → pairs_from base o (IsMark Equals ∷ pieces_at AtEquals 0 text.now) ≡ elements_found base o result }
     ensures shorter { IfSome result (λ found. length found.rest.now < length text.now) }
 {
-    match piece_behind_equals(text) {
-        None => None,
-        Some(found) => match found.piece {
-            Piece::Run(run) => number_literal(base, Sign::Absent, run, found.rest),
-            Piece::Item(item) => Some(ElementFound {
-                element: Element::Literal(Literal::Item(item)),
-                rest: found.rest,
-            }),
-            Piece::Mark(mark) => behind_equals_mark(base, mark, found.rest),
-        },
+    let found = piece_behind_equals(text)?;
+    match found.piece {
+        Piece::Run(run) => number_literal(base, Sign::Absent, run, found.rest),
+        Piece::Item(item) => Some(ElementFound {
+            element: Element::Literal(Literal::Item(item)),
+            rest: found.rest,
+        }),
+        Piece::Mark(mark) => behind_equals_mark(base, mark, found.rest),
     }
 }
 
@@ -210,10 +198,8 @@ fn run_found<'a>(base: NumberBase, run: &'a [u8], rest: &'a [u8]) -> Option<Elem
     ensures elements { (o : Operator) → elements_found base o result ≡ onto_pairs o (element_of_text base run.now) (pairs_of base 0 (pieces_at Inside 0 rest.now)) }
     ensures rest { IfSome result (λ found. found.rest.now ≡ rest.now) }
 {
-    match element_of_run(base, run) {
-        Some(element) => Some(ElementFound { element, rest }),
-        None => None,
-    }
+    let element = element_of_run(base, run)?;
+    Some(ElementFound { element, rest })
 }
 
 /// The element that begins a text at the start of a field or behind one of the five marks, if one
@@ -223,15 +209,13 @@ pub(crate) fn next_element(base: NumberBase, text: &[u8]) -> Option<ElementFound
     ensures elements { (o : Operator) → pairs_from base o (pieces_of text.now) ≡ elements_found base o result }
     ensures shorter { IfSome result (λ found. length found.rest.now < length text.now) }
 {
-    match piece_at_start(text) {
-        None => None,
-        Some(found) => match found.piece {
-            Piece::Run(run) => run_found(base, run, found.rest),
-            Piece::Item(item) => Some(ElementFound {
-                element: Element::Item(item),
-                rest: found.rest,
-            }),
-            Piece::Mark(mark) => behind_mark(base, mark, found.rest),
-        },
+    let found = piece_at_start(text)?;
+    match found.piece {
+        Piece::Run(run) => run_found(base, run, found.rest),
+        Piece::Item(item) => Some(ElementFound {
+            element: Element::Item(item),
+            rest: found.rest,
+        }),
+        Piece::Mark(mark) => behind_mark(base, mark, found.rest),
     }
 }

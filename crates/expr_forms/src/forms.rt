@@ -1,7 +1,6 @@
 //! Forms: a number and at most one block or external with a sign (COMPASS 60492600, evaluation of
 //! expressions), and where the forms of names come from.
-ghost use Rattle.std.specs.Prelude.{◌≡◌, ◌≤◌, length, ℤ, option_map};
-ghost use Rattle.definitions.specs.Characters.{same_text};
+ghost use Rattle.std.specs.Prelude.{◌≡◌, option_map};
 ghost use Rattle.definitions.specs.Forms as definitions;
 ghost use Rattle.definitions.specs.Forms.{same_relocation, absolute, is_absolute};
 ghost use Rattle.expr_forms.specs.Joins.Elements.{literal_as};
@@ -34,8 +33,7 @@ impl Relocation {
         match (self, other) {
             (Relocation::Block(name), Relocation::Block(other)) => name.is_same(other),
             (Relocation::External(name), Relocation::External(other)) => name.is_same(other),
-            (Relocation::Block(_), Relocation::External(_)) => false,
-            (Relocation::External(_), Relocation::Block(_)) => false,
+            _ => false,
         }
     }
 }

@@ -30,12 +30,8 @@ impl KeptSubfields {
     fn of(subfields: &Subfields<'_>) -> Option<KeptSubfields>
         ensures { IfSome result (λ kept. kept ≡ subfields.now) }
     {
-        match subfields.rest {
-            None => None,
-            Some(text) => Some(KeptSubfields {
-                text: KeptText::of(text)?,
-            }),
-        }
+        let text = KeptText::of(subfields.rest?)?;
+        Some(KeptSubfields { text })
     }
 
     #[inline(always)]

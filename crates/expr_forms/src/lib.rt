@@ -37,7 +37,6 @@ mod subfields;
 // Forms, the names in them, and the value of an expression.
 mod arithmetic;
 mod forms;
-mod item_numbers;
 mod magnitude;
 mod names;
 mod running;

@@ -65,10 +65,7 @@ impl<'a> LinkedNames<'a> {
         ensures some { IfSome result (λ name. self.old ≡ option_copied name ∷ self.new) }
         ensures short { IfSome result (λ name. IfSome name (λ text. length text.now ≤ 7)) }
     {
-        match self.subfields.next() {
-            None => None,
-            Some(text) => Some(linked_name(text)),
-        }
+        Some(linked_name(self.subfields.next()?))
     }
 
     /// The same names, to go over them once more.

@@ -5,11 +5,9 @@ ghost use Rattle.definitions.specs.Numerals.{number_of};
 ghost use Rattle.definitions.specs.Symbols.{scaled, scale_of, behind_digits, bounded, number_read};
 ghost use Rattle.expr_forms.specs.Joins.Numbers.{number_as, radix, AreDigits};
 
+use crate::arithmetic::GREATEST;
 use crate::magnitude::Magnitude;
 use definitions::{NumberBase, digit_count, is_digit};
-
-/// The greatest size of a number.
-const GREATEST: u64 = (1 << 60) - 1;
 
 /// A number up to 2^60 - 1, or one above it.
 #[derive(Clone, Copy)]
@@ -66,12 +64,7 @@ fn with_scale(value: u64, scale: u32) -> Number
 fn are_octal(digits: &[u8]) -> bool
     ensures { result ≡ list_all (λ c. nat_lt c 56) digits.now }
 {
-    for c in digits {
-        if *c > b'7' {
-            return false;
-        }
-    }
-    true
+    digits.iter().all(|c| *c < b'8')
 }
 
 #[inline(always)]

@@ -95,15 +95,11 @@ impl<'a> Expr<'a> {
             (λ e. plain_of literals base (pieces_of text.now) ≡ Some e)
             (λ letter. (letter ≡ Letter.V) × (plain_of literals base (pieces_of text.now) ≡ None)) }
     {
-        match Expr::parse(text, base) {
-            Err(letter) => Err(letter),
-            Ok(expression) => {
-                if expression.is_plain(literals) {
-                    Ok(expression)
-                } else {
-                    Err(Letter::V)
-                }
-            }
+        let expression = Expr::parse(text, base)?;
+        if expression.is_plain(literals) {
+            Ok(expression)
+        } else {
+            Err(Letter::V)
         }
     }
 

@@ -1,5 +1,5 @@
 //! A sum while it goes on: its number, and its blocks and externals with what each is multiplied by.
-ghost use Rattle.std.specs.Prelude.{◌≡◌, ◌≤◌, ◌+◌, ◌+ℤ◌, length, map, unsigned_abs, neg_ℤ, ℕ, option_map, IfSome, IfNone, Ok, ◌∷◌, []};
+ghost use Rattle.std.specs.Prelude.{◌≡◌, ◌≤◌, ◌+◌, ◌+ℤ◌, length, map, unsigned_abs, ℕ, option_map, IfSome, IfNone, Ok, ◌∷◌, []};
 ghost use Rattle.std.specs.List.{prefix_len};
 ghost use Rattle.definitions.specs.Forms.{part_of, remaining, plus_relocation, plus_relocations, plus_term, closed, running_part, signed};
 ghost use Rattle.expr_forms.specs.Joins.FormsAs.{relocation_as, part_as};
@@ -80,27 +80,16 @@ fn part_base(operator: Operator, part: Part) -> Base
     ensures times { result.times ≡ signed (operator_as operator) (part_times (part_as part)) }
     ensures once { unsigned_abs result.times ≤ 1 }
 {
+    let (relocation, times) = match part {
+        Part::Added(relocation) => (relocation, 1),
+        Part::Subtracted(relocation) => (relocation, -1),
+    };
     match operator {
-        Operator::Subtract => match part {
-            Part::Added(relocation) => Base {
-                relocation,
-                times: -1,
-            },
-            Part::Subtracted(relocation) => Base {
-                relocation,
-                times: 1,
-            },
+        Operator::Subtract => Base {
+            relocation,
+            times: -times,
         },
-        _ => match part {
-            Part::Added(relocation) => Base {
-                relocation,
-                times: 1,
-            },
-            Part::Subtracted(relocation) => Base {
-                relocation,
-                times: -1,
-            },
-        },
+        _ => Base { relocation, times },
     }
 }
 
@@ -114,10 +103,7 @@ fn plus_part(room: &mut [Base], len: usize, operator: Operator, part: Option<Par
 {
     match part {
         None => Some(len),
-        Some(part) => {
-            let base = part_base(operator, part);
-            add_base(room, len, base)
-        }
+        Some(part) => add_base(room, len, part_base(operator, part)),
     }
 }
 

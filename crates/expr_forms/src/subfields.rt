@@ -95,10 +95,7 @@ fn behind_comma(text: &[u8]) -> Option<&[u8]>
     ensures rest { option_copied result ≡ text_behind text.now }
     ensures within { IfSome result (λ rest. length rest.now ≤ length text.now) }
 {
-    match text.split_first() {
-        None => None,
-        Some((_, rest)) => Some(rest),
-    }
+    Some(text.split_first()?.1)
 }
 
 /// A subfield of at most one piece, and the text behind the comma that ends it.
@@ -161,14 +158,10 @@ fn short_at_start(text: &[u8]) -> Option<ShortFound<'_>>
             rest: Some(found.rest),
         }),
         Piece::Mark(_) => None,
-        Piece::Item(_) => match behind_end(found.rest) {
-            None => None,
-            Some(rest) => Some(ShortFound { piece, rest }),
-        },
-        Piece::Run(_) => match behind_end(found.rest) {
-            None => None,
-            Some(rest) => Some(ShortFound { piece, rest }),
-        },
+        Piece::Item(_) | Piece::Run(_) => {
+            let rest = behind_end(found.rest)?;
+            Some(ShortFound { piece, rest })
+        }
     }
 }
 
@@ -223,16 +216,9 @@ impl<'a> Subfields<'a> {
         ensures none { IfNone result (self.new ≡ self.old) }
         ensures some { IfSome result (λ piece. self.old ≡ pieces_in piece ∷ self.new) }
     {
-        match self.rest {
-            None => None,
-            Some(text) => match short_at_start(text) {
-                None => None,
-                Some(short) => {
-                    self.rest = short.rest;
-                    Some(short.piece)
-                }
-            },
-        }
+        let short = short_at_start(self.rest?)?;
+        self.rest = short.rest;
+        Some(short.piece)
     }
 
     /// The same subfields, to go over them once more.

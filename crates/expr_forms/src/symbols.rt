@@ -2,7 +2,7 @@
 ghost use Rattle.std.specs.Prelude.{◌≡◌, ◌≤◌, length, option_map, true};
 ghost use Rattle.std.specs.List.{list_all};
 ghost use Rattle.definitions.specs.Characters.{is_symbol_character};
-ghost use Rattle.definitions.specs.Symbols.{register_of, is_register, begins_symbol, is_symbol};
+ghost use Rattle.definitions.specs.Symbols.{register_of, begins_symbol, is_symbol};
 ghost use Rattle.expr_forms.specs.Joins.Registers.{register_as};
 
 use crate::characters::is_symbol_character;
@@ -43,12 +43,7 @@ fn begins_symbol(text: &[u8]) -> bool
 fn are_symbol_characters(text: &[u8]) -> bool
     ensures { result ≡ list_all is_symbol_character text.now }
 {
-    for c in text {
-        if !is_symbol_character(*c) {
-            return false;
-        }
-    }
-    true
+    text.iter().all(|c| is_symbol_character(*c))
 }
 
 /// Whether a text is 1 to 8 characters of symbols and no name of a register.

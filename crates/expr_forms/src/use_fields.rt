@@ -1,8 +1,8 @@
 //! The variable field of USE: the block that it names (COMPASS 60492600, USE).
-ghost use Rattle.std.specs.Prelude.{◌≡◌, ◌==◌, ◌≤◌, true, length, codes};
+ghost use Rattle.std.specs.Prelude.{◌≡◌, ◌==◌, ◌≤◌, true, length};
 ghost use Rattle.std.specs.List.{list_any};
-ghost use Rattle.definitions.specs.Characters.{slash, same_text};
-ghost use Rattle.definitions.specs.Symbols.{is_linked_name, is_nominal, is_block_name};
+ghost use Rattle.definitions.specs.Characters.{slash};
+ghost use Rattle.definitions.specs.Symbols.{is_linked_name, is_block_name};
 ghost use Rattle.definitions.specs.Operands.{is_common_name, common_operand, use_operand};
 ghost use Rattle.expr_forms.specs.Joins.Readings.{use_as, local_operand};
 
@@ -32,34 +32,17 @@ pub(crate) fn is_linked_name(text: &[u8]) -> bool
     is_symbol(text) && text.len() <= 7
 }
 
-fn is_nominal(text: &[u8]) -> bool
-    ensures { result ≡ is_nominal text.now }
-{
-    is_lone(b'0', text)
-}
-
 fn is_block_name(text: &[u8]) -> bool
     ensures name { result ≡ is_block_name text.now }
     ensures short { result ≡ true → length text.now ≤ 8 }
 {
-    is_symbol(text) || is_nominal(text)
-}
-
-fn is_star(text: &[u8]) -> bool
-    ensures { result ≡ same_text text.now (codes "*") }
-{
-    is_lone(b'*', text)
+    is_symbol(text) || is_lone(b'0', text)
 }
 
 fn has_slash(text: &[u8]) -> bool
     ensures { result ≡ list_any (λ c. c == slash) text.now }
 {
-    for c in text {
-        if *c == b'/' {
-            return true;
-        }
-    }
-    false
+    text.iter().any(|c| *c == b'/')
 }
 
 /// Whether a text is a symbol of at most 7 characters with a slash on either side.
@@ -89,14 +72,8 @@ fn common_block(text: &[u8], kind: DeckKind) -> UseField
     ensures { use_as result ≡ common_operand kind text.now }
 {
     match kind {
-        DeckKind::Rel => {
-            if is_common_name(text) {
-                UseField::UseName(Name::new(text))
-            } else {
-                UseField::Refused
-            }
-        }
-        DeckKind::Abs | DeckKind::Periph => UseField::Refused,
+        DeckKind::Rel if is_common_name(text) => UseField::UseName(Name::new(text)),
+        _ => UseField::Refused,
     }
 }
 
@@ -104,7 +81,7 @@ fn common_block(text: &[u8], kind: DeckKind) -> UseField
 fn local_block(text: &[u8]) -> UseField
     ensures { use_as result ≡ local_operand text.now }
 {
-    if is_star(text) {
+    if is_lone(b'*', text) {
         return UseField::UseBefore;
     }
     if is_block_name(text) {

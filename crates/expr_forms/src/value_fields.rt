@@ -17,11 +17,8 @@ pub fn one_value(text: &[u8], base: NumberBase) -> Result<Expr<'_>, Letter>
         MatchResult result (λ e. operand ≡ ValueOperand e) (λ fault. (fault ≡ letter.V) × (operand ≡ BadOperand)) }
 {
     let mut subfields = Subfields::new(text);
-    match subfields.next() {
-        None => Err(Letter::V),
-        Some(first) => match subfields.next() {
-            None => Expr::plain(first, false, base),
-            Some(_) => Err(Letter::V),
-        },
+    match (subfields.next(), subfields.next()) {
+        (Some(first), None) => Expr::plain(first, false, base),
+        _ => Err(Letter::V),
     }
 }

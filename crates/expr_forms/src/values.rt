@@ -2,8 +2,9 @@
 //! evaluation of expressions).
 ghost use Rattle.std.specs.Prelude.{◌≡◌, ◌≤◌, ◌+◌, ℕ, List, length, IfSome, IfNone, IsSome, Ok, Err, ◌∷◌, if◌then◌else◌};
 ghost use Rattle.definitions.specs.Expressions.{OperatorElement};
-ghost use Rattle.definitions.specs.Forms.{number_form, element_form, combined_with, is_in_range, plus_term, closed, value_of};
+ghost use Rattle.definitions.specs.Forms.{number_form, counted_item_form, element_form, combined_with, is_in_range, plus_term, closed, value_of};
 ghost use Rattle.definitions.specs.declared.letter.Letter.TheVariants as letter;
+ghost use Rattle.definitions.specs.Laws.ItemTexts.{item_as};
 ghost use Rattle.definitions.proofs.TermLaws.{JoinsFactors, JoinsTerms};
 ghost use Rattle.expr_forms.specs.Joins.Numbers.{number_as};
 ghost use Rattle.expr_forms.specs.Joins.Elements.{element_as};
@@ -12,15 +13,16 @@ ghost use Rattle.expr_forms.specs.Joins.Running.{bases_as, running_as, AreSmall}
 ghost use Rattle.expr_forms.specs.Joins.Walks.{walk_value, WalksOn, ForNext, ForNoRoom};
 
 use crate::arithmetic::{GREATEST, combined};
+use crate::coding::item_number;
+use crate::counted_item::CountedItem;
 use crate::elements::Element;
 use crate::expressions::Expr;
 use crate::forms::{Form, Names, Relocation};
-use crate::item_numbers::item_form;
 use crate::links::{Link, Links, Operator};
 use crate::names::Name;
 use crate::numbers::Number;
 use crate::running::{Added, Base, RunningSum, finish, plus_form};
-use definitions::Letter;
+use definitions::{ItemText, Letter};
 
 /// A value while it goes on: the sum of the terms before, and the term that is open.
 #[derive(Clone, Copy)]
@@ -47,6 +49,14 @@ fn number_form(number: Number) -> Result<Form, Letter>
     }
 }
 
+/// The form of an item: A where it has more than 10 characters.
+fn item_form(item: ItemText<'_>) -> Result<Form, Letter>
+    ensures { result ≡ counted_item_form (item_as item.entry) }
+{
+    let number = item_number(&CountedItem::of_text(item))?;
+    Ok(Form::absolute(number as i64))
+}
+
 /// The form of an element, or its letter: V of a register, U of a symbol without a form.
 fn element_form<N: Names>(names: &N, element: Element<'_>) -> Result<Form, Letter>
     ensures { result ≡ element_form (N.names names.now) (element_as element.entry) }
@@ -54,10 +64,7 @@ fn element_form<N: Names>(names: &N, element: Element<'_>) -> Result<Form, Lette
     match element {
         Element::Number(number) => number_form(number),
         Element::Item(item) => item_form(item),
-        Element::Symbol(name) => match names.symbol(name) {
-            Some(form) => Ok(form),
-            None => Err(Letter::U),
-        },
+        Element::Symbol(name) => names.symbol(name).ok_or(Letter::U),
         Element::Register(_) => Err(Letter::V),
         Element::LocationCounter => Ok(names.location()),
         Element::OriginCounter => Ok(names.origin()),
@@ -74,10 +81,7 @@ fn with_factor<N: Names>(
 ) -> Result<Form, Letter>
     ensures { result ≡ combined_with (operator_as operator) form (element_form (N.names names.now) (element_as element.entry)) }
 {
-    match element_form(names, element) {
-        Ok(factor) => combined(operator, form, factor),
-        Err(letter) => Err(letter),
-    }
+    combined(operator, form, element_form(names, element)?)
 }
 
 /// A walk with one factor more in its open term.
@@ -259,9 +263,6 @@ pub fn value<N: Names>(expr: &Expr<'_>, names: &N) -> Result<Form, Letter>
 {
     match expr.lone_element() {
         None => value_of_few(expr, names),
-        Some(element) => match element_form(names, element) {
-            Ok(form) => form_in_range(form),
-            Err(letter) => Err(letter),
-        },
+        Some(element) => form_in_range(element_form(names, element)?),
     }
 }

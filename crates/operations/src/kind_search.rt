@@ -18,14 +18,8 @@ fn kind_made(operation: Option<Operation>) -> Option<DeckKind>
 {
     match operation {
         Some(Operation::Kind(kind)) => Some(kind),
-        Some(other) => {
-            if other.is_neutral() {
-                None
-            } else {
-                Some(DeckKind::Rel)
-            }
-        }
-        None => Some(DeckKind::Rel),
+        Some(other) if other.is_neutral() => None,
+        _ => Some(DeckKind::Rel),
     }
 }
 

@@ -1,10 +1,6 @@
 use Rattle.std.proofs.Common.{◌∙◌, sym}
-use Rattle.expr_forms.{specs.Joins.Links.operator_as, proofs.LoneLaws.{text-begins, text-begun}}
+use Rattle.expr_forms.{specs.Joins.Links.operator_as, proofs.LoneLaws.{text-begins}}
 use Rattle.expr_forms.proofs.links.term_begins.Goals as goal
-
-pub returns-in-None-operator_of : goal.returns-in-None-operator_of
-returns-in-None-operator_of c base lawful =
-    absurd (text-begun base c.args.text.now c.in-Some.field-0-1.now c.in-Some.c.now c.in-Some.ensures.cases.0 (sym c.in-None-operator_of.ensures) lawful)
 
 pub returns-in-Some-operator_of : goal.returns-in-Some-operator_of
 returns-in-Some-operator_of c base lawful =

@@ -1,11 +1,6 @@
 use Rattle.std.proofs.Common.{◌+◌, arith}
-use Rattle.expr_forms.{specs.Joins.Links.{operator_as, link_as}, specs.Joins.Running.{running_as, bases_as}, proofs.RunningLaws.AreSmall-le, proofs.ValueLaws.{value-factor, value-factor_fault}}
+use Rattle.expr_forms.{specs.Joins.Links.{operator_as, link_as}, specs.Joins.Running.{running_as, bases_as}, proofs.RunningLaws.AreSmall-le, proofs.ValueLaws.{value-factor_fault}}
 use Rattle.expr_forms.proofs.values.walk_factor.Goals as goal
-
-pub returns-in-Ok-clause-next : goal.returns-in-Ok-clause-next
-returns-in-Ok-clause-next g c joins pairs room =
-    let walk = c.args.walk in
-    value-factor (g.N.Names.names c.args.names.now) (running_as walk.sum room) (operator_as walk.operator) walk.form c.in-Ok.form (link_as c.args.link) pairs joins c.in-Ok.ensures
 
 pub returns-in-Err-clause-next : goal.returns-in-Err-clause-next
 returns-in-Err-clause-next g c joins pairs room =
