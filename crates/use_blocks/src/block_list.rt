@@ -38,8 +38,7 @@ pub(crate) fn write(blocks: &mut Vec<UsedBlock>, at: usize, effect: &Effect)
     requires { at < length blocks.old.items }
     ensures { blocks.new.items ≡ slice_set blocks.old.items at (block_behind (block_at blocks.old.items at).name (effect_as effect.now) (block_at blocks.old.items at)) }
 {
-    let block = blocks[at];
-    blocks[at] = block.behind(effect);
+    blocks[at].step(effect);
 }
 
 /// Asks for memory for an open block more, and for the block at this index where it is new.

@@ -59,14 +59,32 @@ impl UsedBlock {
         self.counting
     }
 
-    /// The block behind a statement in it.
-    pub(crate) fn behind(&self, effect: &Effect) -> UsedBlock
-        ensures { result ≡ block_behind self.now.name (effect_as effect.now) self.now }
+    /// Takes the step of a statement in it.
+    #[inline(always)]
+    pub(crate) fn step(&mut self, effect: &Effect)
+        ensures { self.new ≡ block_behind self.old.name (effect_as effect.now) self.old }
     {
-        UsedBlock {
-            name: self.name,
-            position: position_behind(effect.position, self.position),
-            counting: counting_behind(effect.setting, self.counting),
+        self.set_position(effect);
+        self.set_counting(effect);
+    }
+
+    /// Writes the position that is set.
+    fn set_position(&mut self, effect: &Effect)
+        ensures { self.new ≡ record self.old { position = unwrap_or effect.now.position self.old.position } }
+    {
+        if let Some(position) = effect.position {
+            self.position = position;
+        }
+    }
+
+    /// Writes the LOC in force behind a setting.
+    fn set_counting(&mut self, effect: &Effect)
+        ensures { self.new ≡ record self.old { counting = counting_behind (setting_as effect.now.setting) self.old.counting } }
+    {
+        match effect.setting {
+            LocationSetting::Unchanged => (),
+            LocationSetting::Counts(counting) => self.counting = Some(counting),
+            LocationSetting::Ended => self.counting = None,
         }
     }
 
@@ -77,27 +95,6 @@ impl UsedBlock {
         is_same_name(&self.name, &other.name)
             && self.position.is_same(&other.position)
             && is_same_counting(self.counting, other.counting)
-    }
-}
-
-/// The position that is set, or else the one before.
-fn position_behind(set: Option<Position>, before: Position) -> Position
-    ensures { result ≡ unwrap_or set before }
-{
-    match set {
-        Some(position) => position,
-        None => before,
-    }
-}
-
-/// The LOC in force behind a setting.
-fn counting_behind(setting: LocationSetting, before: Option<Counting>) -> Option<Counting>
-    ensures { result ≡ counting_behind (setting_as setting) before }
-{
-    match setting {
-        LocationSetting::Unchanged => before,
-        LocationSetting::Counts(counting) => Some(counting),
-        LocationSetting::Ended => None,
     }
 }
 
