@@ -46,6 +46,7 @@ impl Field {
 }
 
 /// The bits of the open parcel with those of a part behind them.
+#[inline(always)]
 fn joined_bits(next: OpenParcel, part: Field) -> u32
     requires open { next.bits < 2 ^ next.filled }
     requires bits { part.bits < 2 ^ part.width }
@@ -58,6 +59,7 @@ fn joined_bits(next: OpenParcel, part: Field) -> u32
 }
 
 /// Puts a part that stays within the open parcel, or makes it whole, which alone takes memory.
+#[inline(always)]
 fn put_part(
     spans: &mut Vec<Span>,
     next: OpenParcel,
@@ -139,7 +141,37 @@ fn put_word(spans: &mut Vec<Span>, next: OpenParcel, field: Field) -> Result<Ope
     })
 }
 
+/// Puts a field that goes beyond the open parcel; where no memory is found, the spans are as before.
+#[cycle(put_field)]
+fn put_beyond(
+    spans: &mut Vec<Span>,
+    next: OpenParcel,
+    size: u32,
+    field: Field,
+) -> Result<OpenParcel, AllocError>
+    requires size { size ≤ 15 }
+    requires open { IsOpen size next }
+    requires field { IsField field }
+    requires beyond { size < next.filled + field.width }
+    requires within { size * next.place + next.filled + field.width ≤ size * 524288 }
+    ensures put { IfOk result (λ after. IsPut size spans.old.items next field spans.new.items after) }
+    ensures unchanged { OnErr result (spans.new.items ≡ spans.old.items) }
+{
+    let (first, rest) = field.split(size - next.filled);
+    let before = spans.len();
+    let after = put_part(spans, next, size, first)?;
+    match put_field(spans, after, size, rest) {
+        Ok(end) => Ok(end),
+        Err(error) => {
+            spans.truncate(before);
+            Err(error)
+        }
+    }
+}
+
 /// Puts a field into a run; where no memory is found, the spans are as before.
+#[cycle(put_field)]
+#[inline(always)]
 pub(crate) fn put_field(
     spans: &mut Vec<Span>,
     next: OpenParcel,
@@ -155,23 +187,13 @@ pub(crate) fn put_field(
     ensures unchanged { OnErr result (spans.new.items ≡ spans.old.items) }
     ensures whole { OnErr result (size ≤ next.filled + field.width) }
 {
-    let room = size - next.filled;
-    if field.width <= room {
+    if next.filled + field.width <= size {
         return put_part(spans, next, size, field);
     }
     if size == 15 && next.filled == 0 && field.width == 60 {
         return put_word(spans, next, field);
     }
-    let (first, rest) = field.split(room);
-    let before = spans.len();
-    let after = put_part(spans, next, size, first)?;
-    match put_field(spans, after, size, rest) {
-        Ok(end) => Ok(end),
-        Err(error) => {
-            spans.truncate(before);
-            Err(error)
-        }
-    }
+    put_beyond(spans, next, size, field)
 }
 
 /// How many bits a parcel has; a peripheral word is one parcel.

@@ -93,6 +93,7 @@ impl Words {
     /// where the last field of its run ended or, if that was the end of a parcel, at a parcel
     /// behind it, so the fields of a run do not overlap. It may cross words. Where no memory is
     /// found, all is as before; a field that leaves its parcel open takes none.
+    #[inline(always)]
     pub fn put(&mut self, at: u32, field: Field) -> Result<(), AllocError>
         requires field { IsField field }
         requires some { 0 < field.width }
