@@ -25,6 +25,7 @@ pub(crate) struct OpenWord {
 }
 
 /// The bits of a field in a listing.
+#[inline(always)]
 fn field_bits(bases: &Bases, item: &Item) -> u64
     requires most { item.now.width ≤ 60 }
     requires room { HasRoom item.now.width (item_as item.now).content }
@@ -36,6 +37,7 @@ fn field_bits(bases: &Bases, item: &Item) -> u64
 
 impl OpenWord {
     /// The word with the bits of a field behind its own.
+    #[inline(always)]
     fn with(self, width: u32, bits: u64) -> OpenWord
         requires fits { self.bits < 2 ^ self.width }
         requires small { bits < 2 ^ width }
@@ -115,6 +117,7 @@ pub(crate) fn push_word_lines(
 }
 
 /// How many bits fields have together, at most 60, and these bits as one number.
+#[inline(always)]
 pub(crate) fn joined_fields(bases: &Bases, items: &[Item]) -> (u32, u64)
     requires short { AreShort (map item_as items.now) }
     requires most { width_of (map item_as items.now) ≤ 60 }

@@ -14,7 +14,8 @@ use statement_coder::Item;
 use std::alloc::AllocError;
 
 /// Puts a field at a bit of the block; one without bits leaves the words as they are.
-fn put_item<L: Linking>(
+#[inline(always)]
+pub(crate) fn put_item<L: Linking>(
     words: &mut Words,
     linking: &L,
     at: u32,

@@ -2,7 +2,7 @@
 ghost use Rattle.std.specs.Prelude.{◌≡◌, ◌≤◌, ◌<◌, ◌+◌, ◌^◌, ◌++◌, ◌∷◌, [], codes, length, flat_map};
 ghost use Rattle.definitions.specs.Kinds.{kind_text};
 ghost use Rattle.definitions.specs.Listing.{block_line, card_lines, central_line, letters_line, line, peripheral_line};
-ghost use Rattle.definitions.specs.Numerals.{decimal_of};
+ghost use Rattle.definitions.specs.Numerals.{decimal_of, digits_of};
 
 use crate::sheet::Sheet;
 use cards::{Card, DeckName};
@@ -25,6 +25,16 @@ pub(crate) fn push_deck_line(text: &mut Sheet, name: &DeckName, kind: DeckKind)
     text.put(b"\n");
 }
 
+/// A number with the five digits that a card's number shows, where so many cards stand before it. It is short,
+/// so its digits are found by short divisions.
+#[inline(always)]
+fn card_number(before: usize) -> u64
+    requires { before < 2 ^ 60 }
+    ensures { digits_of 10 5 result ≡ digits_of 10 5 (before + 1) }
+{
+    (before as u64 + 1) % 100_000
+}
+
 /// A card behind its number in the deck, where so many cards stand before it.
 fn push_card_line(text: &mut Sheet, before: usize, card: &Card)
     requires { before < 2 ^ 60 }
@@ -32,7 +42,7 @@ fn push_card_line(text: &mut Sheet, before: usize, card: &Card)
 {
     let mut front = ShortText::new();
     front.put_byte(b' ');
-    front.put_padded(5, before as u64 + 1);
+    front.put_padded(5, card_number(before));
     let mut line = InlineText::<MOST_OF_CARD_LINE>::of(front.as_slice());
     line.append(card.as_slice());
     line.push(b'\n');

@@ -32,6 +32,7 @@ fn has_one_line(kind: DeckKind, operation: Operation) -> bool
 }
 
 /// The line of the fields of an instruction, at most 60 bits together.
+#[inline(always)]
 fn push_instruction(text: &mut Sheet, bases: &Bases, place: u32, items: &[Item])
     requires fields { AreShort (map item_as items.now) }
     requires short { width_of (map item_as items.now) ≤ 60 }
@@ -46,6 +47,7 @@ fn push_instruction(text: &mut Sheet, bases: &Bases, place: u32, items: &[Item])
 }
 
 /// The lines of the fields of a statement.
+#[inline(always)]
 fn push_fields(text: &mut Sheet, parts: &ObjectParts, stored: &CodedLine, items: &[Item])
     requires stored { operation_as stored.now.operation ≢ op.Bssz }
     requires fields { AreShort (map item_as items.now) }

@@ -11,7 +11,7 @@ ghost use Rattle.deck_objects.specs.Joins.PartsOf.{ArePartsOf};
 ghost use Rattle.deck_listing.specs.Joins.Putting.{ArePut, IsReady};
 ghost use Rattle.deck_listing.specs.Joins.Walking.{AreEmpty, DoNamesDiffer, DoesFollow, DoesFollowAll, HasObject, HasRuns, HaveRuns, IsNext, IsNextOfAll};
 
-use crate::fields::put_fields;
+use crate::fields::{put_fields, put_item};
 use deck_objects::{CodedLine, LineFields, Linking, ObjectParts, listed};
 use definitions::DeckKind;
 use parcel_packer::Words;
@@ -37,8 +37,8 @@ fn put_line<L: Linking>(
     match line.fields {
         LineFields::Absent => Ok(()),
         LineFields::Known(bits) => {
-            let field = [line.known_field(kind, bits)];
-            put_fields(words, linking, from, is_instruction, &field)
+            let field = line.known_field(kind, bits);
+            put_item(words, linking, from, is_instruction, &field)
         }
         LineFields::Listed { first, count } => {
             let fields = listed(items, first, count);
