@@ -2,7 +2,7 @@
 ghost use Rattle.std.specs.Prelude.{◌≡◌, ◌≤◌, ◌++◌, [], IfOk};
 ghost use Rattle.definitions.specs.Numerals.{decimal_of, octal_of};
 
-use crate::digits::{decimal_text, last_digits};
+use crate::digits::{decimal_text, octal_digits};
 use crate::history::{History, Lost};
 use crate::text::Text;
 use itoa::Buffer;
@@ -74,7 +74,7 @@ impl Piece {
         requires few { digits ≤ 20 }
         ensures text { self.new ≡ self.old ++ octal_of digits value }
     {
-        self.put(last_digits::<8>(digits, value).as_slice());
+        self.put(octal_digits(digits, value).as_slice());
     }
 
     /// Puts a number in decimal, without leading zeros.

@@ -1,6 +1,6 @@
 //! Short texts on the stack that grow at their front, as a number does whose digits are written from the
 //! last one on.
-ghost use Rattle.std.specs.Prelude.{◌≡◌, ◌+◌, ◌<◌, ◌≤◌, ◌++◌, ◌∷◌, [], length};
+ghost use Rattle.std.specs.Prelude.{◌≡◌, ◌+◌, ◌/◌, ◌%◌, ◌<◌, ◌≤◌, ◌++◌, ◌∷◌, [], length};
 ghost use Rattle.definitions.specs.Numerals.{digits_of, octal_of};
 
 use std::marker::Model;
@@ -15,6 +15,20 @@ pub struct PrependedText<const MOST: usize> {
 
 /// A line that is written from its end on.
 pub type ShortText = PrependedText<48>;
+
+/// The two octal digits of each number below 64, number by number.
+const PAIRS: [u8; 128] =
+    *b"00010203040506071011121314151617202122232425262730313233343536374041424344454647505152535455565760616263646566677071727374757677";
+
+/// The two octal digits of a number below 64.
+#[inline(always)]
+fn octal_pair(number: usize) -> (u8, u8)
+    requires { number < 64 }
+    ensures first { result.0 ≡ 48 + number / 8 }
+    ensures second { result.1 ≡ 48 + number % 8 }
+{
+    (PAIRS[2 * number], PAIRS[2 * number + 1])
+}
 
 impl<const MOST: usize> Model for PrependedText<MOST> {
     ghost use Rattle.std.specs.Prelude.{ℕ, List, drop, ◌≤◌};
@@ -57,26 +71,6 @@ impl<const MOST: usize> PrependedText<MOST> {
         self.bytes[self.begin] = byte;
     }
 
-    /// Puts the last `count` digits of a value to a base up to 10 in front, leading zeros among them.
-    #[inline(always)]
-    pub(crate) fn put_digits<const BASE: u64>(&mut self, count: u32, value: u64)
-        requires some { 0 < BASE }
-        requires digit { BASE ≤ 10 }
-        requires room { length self.old + count ≤ MOST }
-        ensures text { self.new ≡ digits_of BASE count value ++ self.old }
-        ensures len { length self.new ≡ length self.old + count }
-    {
-        let begin = self.begin - count as usize;
-        let mut rest = value;
-        let mut left = self.begin;
-        while left > begin {
-            left -= 1;
-            self.bytes[left] = b'0' + (rest % BASE) as u8;
-            rest /= BASE;
-        }
-        self.begin = begin;
-    }
-
     /// Puts the last `digits` octal digits of a value in front, leading zeros among them.
     #[inline(always)]
     pub fn put_octal(&mut self, digits: u32, value: u64)
@@ -84,7 +78,21 @@ impl<const MOST: usize> PrependedText<MOST> {
         ensures text { self.new ≡ octal_of digits value ++ self.old }
         ensures len { length self.new ≡ length self.old + digits }
     {
-        self.put_digits::<8>(digits, value);
+        let begin = self.begin - digits as usize;
+        let mut rest = value;
+        let mut left = self.begin;
+        while left - begin >= 2 {
+            left -= 2;
+            let (first, second) = octal_pair((rest % 64) as usize);
+            self.bytes[left + 1] = second;
+            self.bytes[left] = first;
+            rest /= 64;
+        }
+        self.begin = left;
+        if left == begin {
+            return;
+        }
+        self.put_byte(b'0' + (rest % 8) as u8);
     }
 
     /// Puts the last `digits` decimal digits of a value in front, leading zeros among them.
@@ -94,6 +102,14 @@ impl<const MOST: usize> PrependedText<MOST> {
         ensures text { self.new ≡ digits_of 10 digits value ++ self.old }
         ensures len { length self.new ≡ length self.old + digits }
     {
-        self.put_digits::<10>(digits, value);
+        let begin = self.begin - digits as usize;
+        let mut rest = value;
+        let mut left = self.begin;
+        while left > begin {
+            left -= 1;
+            self.bytes[left] = b'0' + (rest % 10) as u8;
+            rest /= 10;
+        }
+        self.begin = begin;
     }
 }

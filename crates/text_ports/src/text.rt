@@ -2,7 +2,8 @@
 ghost use Rattle.std.specs.Prelude.{◌≡◌, ◌≤◌, ◌++◌, ◌∷◌, [], length, IfOk, OnOk, OnErr};
 ghost use Rattle.definitions.specs.Numerals.{decimal_of, digits_of, octal_of};
 
-use crate::digits::{decimal_text, last_digits};
+use crate::digits::{decimal_text, octal_digits};
+use crate::prepended_text::ShortText;
 use itoa::Buffer;
 use std::alloc::{AllocError, Global};
 use std::marker::Model;
@@ -97,7 +98,7 @@ impl Text {
         ensures ok { OnOk result (self.new ≡ self.old ++ octal_of digits value) }
         ensures err { OnErr result (self.new ≡ self.old) }
     {
-        self.push_bytes(last_digits::<8>(digits, value).as_slice())
+        self.push_bytes(octal_digits(digits, value).as_slice())
     }
 
     /// Appends the last `digits` decimal digits of a value, leading zeros among them.
@@ -106,7 +107,9 @@ impl Text {
         ensures ok { OnOk result (self.new ≡ self.old ++ digits_of 10 digits value) }
         ensures err { OnErr result (self.new ≡ self.old) }
     {
-        self.push_bytes(last_digits::<10>(digits, value).as_slice())
+        let mut text = ShortText::new();
+        text.put_padded(digits, value);
+        self.push_bytes(text.as_slice())
     }
 
     /// Appends a number in decimal, without leading zeros.

@@ -1,6 +1,6 @@
 use Rattle.std.proofs.Common.{◌≡◌, ◌-◌, ◌++◌, ◌≤◌, length, drop}
 use Rattle.definitions.specs.Numerals.{digits_of}
-use Rattle.text_ports.proofs.prepended_text.PrependedText.put_digits.Given as goal
+use Rattle.text_ports.proofs.prepended_text.PrependedText.put_octal.Given as goal
 
 -- the digits that are left, and then what stands already, are the digits of the value and what stood
 abbrev pub invariant-loop-left : goal.invariant-loop-left
@@ -8,7 +8,7 @@ invariant-loop-left g l = record {
   behind : l.begin ≤ l.left;
   within : l.left ≤ g.row.MOST;
   room : length l.self-inside.bytes ≡ g.row.MOST;
-  split : digits_of g.row.BASE (l.left - l.begin) l.rest ++ drop l.left l.self-inside.bytes ≡ digits_of g.row.BASE l.count l.value ++ l.fn.self;
+  split : digits_of 8 (l.left - l.begin) l.rest ++ drop l.left l.self-inside.bytes ≡ digits_of 8 l.digits l.value ++ l.fn.self;
 }
 
 abbrev pub decreases-loop-left : goal.decreases-loop-left
