@@ -11,8 +11,7 @@
 //! a sheet that grows reports at its end where it lacked some.
 #![tactic(auto)]
 
-// What lines are put to, and what texts are held in.
-mod shared_text;
+// What lines are put to.
 mod sheet;
 
 // The listing.
@@ -38,6 +37,5 @@ pub use blocks::words_of_blocks;
 pub use image_lines::push_image_line;
 pub use listed_object::ListedObject;
 pub use sections::{image, push_section};
-pub use shared_text::SharedText;
 pub use sheet::Sheet;
-pub use whole::{errors, listing, push_listing};
+pub use whole::{errors, lines_in, listing, push_listing};

@@ -1,22 +1,24 @@
-//! An object that several hold, with its listing.
-ghost use Rattle.std.specs.Prelude.{◌≡◌, IfOk};
+//! An object that several hold, with what its listing counts.
+ghost use Rattle.std.specs.Prelude.{◌≡◌, length, IfOk};
 ghost use Rattle.definitions.specs.Listing.{deck_listing};
 ghost use Rattle.definitions.specs.Objects.{object_of};
 ghost use Rattle.deck_listing.specs.DecksBehind.{decks_behind};
+ghost use Rattle.deck_listing.specs.ListedObjects.{lines_in};
 
 use crate::decks_behind::decks_behind;
-use crate::shared_text::SharedText;
-use crate::whole::listing;
+use crate::whole::{lines_in, listing};
 use deck_objects::{Object, SharedObject};
 use std::alloc::{AllocError, Global};
 use std::marker::Model;
 
-/// An object with its listing, which several hold, each as its own, and how many decks begin behind its END.
-/// Contracts see the deck: that the listing and this number are that deck's is the invariant of the type.
+/// An object that several hold, each as its own, with how many lines and bytes the listing of its deck has, and how
+/// many decks begin behind its END. Contracts see the deck: that these numbers are that deck's is the invariant of
+/// the type.
 #[derive(Drop)]
 pub struct ListedObject {
     object: SharedObject,
-    text: SharedText,
+    lines: usize,
+    len: usize,
     behind: usize,
 }
 
@@ -28,35 +30,39 @@ impl Model for ListedObject {
 
     ghost view = { λ l. l.object };
 
-    ghost invariant = { λ l. IsListed l.object l.text l.behind };
+    ghost invariant = { λ l. IsListed l.object l.lines l.len l.behind };
 }
 
 impl ListedObject {
-    /// The object with its listing, which is made here.
+    /// The object, whose listing is made here, measured and freed.
     pub fn new(alloc: Global, object: SharedObject) -> Result<ListedObject, AllocError>
         ensures { IfOk result (λ listed. listed ≡ object) }
     {
         let text = listing(alloc, object.object())?;
+        let lines = lines_in(text.as_slice());
+        let len = text.len();
         let behind = decks_behind(object.object());
         Ok(ListedObject {
             object,
-            text: SharedText::new(alloc, text)?,
+            lines,
+            len,
             behind,
         })
     }
 
-    /// The same object with the same listing once more.
+    /// The same object with the same counts once more.
     pub fn share(&self) -> Result<ListedObject, AllocError>
         ensures { IfOk result (λ shared. shared ≡ self.now) }
     {
         Ok(ListedObject {
             object: self.object.share()?,
-            text: self.text.share()?,
+            lines: self.lines,
+            len: self.len,
             behind: self.behind,
         })
     }
 
-    /// The object without its listing once more.
+    /// The object alone once more.
     pub fn share_object(&self) -> Result<SharedObject, AllocError>
         ensures { IfOk result (λ shared. shared ≡ self.now) }
     {
@@ -74,11 +80,18 @@ impl ListedObject {
         drop(self);
     }
 
-    /// The listing of its deck alone.
-    pub fn listing(&self) -> &[u8]
-        ensures { result.now ≡ deck_listing (object_of self.now) }
+    /// How many lines the listing of its deck has.
+    pub fn lines(&self) -> usize
+        ensures { result ≡ lines_in (deck_listing (object_of self.now)) }
     {
-        self.text.as_slice()
+        self.lines
+    }
+
+    /// How many bytes that listing has.
+    pub fn len(&self) -> usize
+        ensures { result ≡ length (deck_listing (object_of self.now)) }
+    {
+        self.len
     }
 
     /// How many decks begin behind its END.

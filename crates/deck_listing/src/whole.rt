@@ -2,6 +2,7 @@
 ghost use Rattle.std.specs.Prelude.{◌≡◌, ◌<◌, ◌^◌, ◌++◌, length, IfOk};
 ghost use Rattle.definitions.specs.Listing.{deck_listing, errors_of};
 ghost use Rattle.definitions.specs.Objects.{object_of};
+ghost use Rattle.deck_listing.specs.ListedObjects.{lines_in};
 ghost use Rattle.deck_listing.specs.Joins.ListedParts.{AreListable, flagged_lines, has_letters, parts_text};
 
 use crate::lines::{push_block_lines, push_deck_line, push_errors_line};
@@ -12,8 +13,8 @@ use deck_objects::{Line, Object, ObjectParts};
 use std::alloc::{AllocError, Global};
 use text_ports::Text;
 
-/// How many bytes the line of a card has beside the card, at most.
-const CARD_ROOM: usize = 8;
+/// How many bytes the line of a card has at most.
+const CARD_ROOM: usize = 88;
 
 /// How many the line of a word has that one statement makes.
 const STATEMENT_ROOM: usize = 22;
@@ -57,24 +58,14 @@ fn push_parts(text: &mut Sheet, name: &DeckName, cards: &[Card], parts: &ObjectP
     push_errors_line(text, flagged_lines(parts.lines.as_slice()));
 }
 
-/// How much room is asked for at first for the lines of cards.
-fn cards_room(cards: &[Card]) -> usize {
-    let mut room: usize = 0;
-    for card in cards {
-        room = room
-            .saturating_add(CARD_ROOM)
-            .saturating_add(card.as_slice().len());
-    }
-    room
-}
-
-/// How much room is asked for at first for the listing of a deck: what it has, and little more, unless many
-/// statements are flagged or make several words without a list. So a listing that is kept holds no memory for nothing.
+/// How much room is asked for at first for a listing that grows: all it needs, unless many statements are flagged
+/// or make several words without a list.
 fn listing_room(object: &Object) -> usize {
     let parts = object.parts();
+    let cards = object.cards().len().saturating_mul(CARD_ROOM);
     let statements = parts.lines.len().saturating_mul(STATEMENT_ROOM);
     let items = parts.items.len().saturating_mul(ITEM_ROOM);
-    cards_room(object.cards())
+    cards
         .saturating_add(statements)
         .saturating_add(items)
         .saturating_add(DECK_ROOM)
@@ -84,7 +75,6 @@ fn listing_room(object: &Object) -> usize {
 pub fn push_listing(text: &mut Sheet, object: &Object)
     ensures { text.new ≡ text.old ++ deck_listing (object_of object.now) }
 {
-    text.make_room(listing_room(object));
     push_parts(text, object.name(), object.cards(), object.parts());
 }
 
@@ -93,6 +83,14 @@ pub fn listing(alloc: Global, object: &Object) -> Result<Text, AllocError>
     ensures { IfOk result (λ text. text ≡ deck_listing (object_of object.now)) }
 {
     let mut text = Sheet::new(alloc);
+    text.make_room(listing_room(object));
     push_listing(&mut text, object);
     text.into_text()
+}
+
+/// How many lines a text has.
+pub fn lines_in(text: &[u8]) -> usize
+    ensures { result ≡ lines_in text.now }
+{
+    text.iter().filter(|c| **c == b'\n').count()
 }

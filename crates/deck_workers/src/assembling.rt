@@ -34,8 +34,7 @@ fn edits_fault(start: &Start, edits: &[Edit]) -> Option<RecordFault>
 }
 
 /// Record and object of the deck of a job, its edits made in order, those that lie near each other at
-/// once; the object with its listing, which
-/// is made here and nowhere else. An edit that does not apply is shown before anything takes memory.
+/// once; the object with what its listing counts. An edit that does not apply is shown before anything takes memory.
 pub(crate) fn assembled(
     alloc: Global,
     keys: RandomState,
@@ -111,7 +110,7 @@ fn begun_anew(
     }
 }
 
-/// The object of a record that is not spent, with its listing.
+/// The object of a record that is not spent, with what its listing counts.
 fn listed(alloc: Global, kept: &Kept) -> Result<ListedObject, RecordFault>
     requires { kept.now.is_spent ≡ false }
     ensures object { IfOk result (λ object. object ≡ record { name = kept.now.name; cards = kept.now.cards }) }
@@ -126,7 +125,7 @@ fn listed(alloc: Global, kept: &Kept) -> Result<ListedObject, RecordFault>
     }
 }
 
-/// A record that is not spent, with its object and the listing of that.
+/// A record that is not spent, with its object and what the listing of that counts.
 fn finished(alloc: Global, kept: Kept) -> Result<(Held, ListedObject), RecordFault>
     requires { kept.is_spent ≡ false }
     ensures record { IfOk result (λ made. made.0 ≡ record { deck = record { name = kept.name; cards = kept.cards } }) }

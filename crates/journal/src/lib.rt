@@ -26,6 +26,7 @@ mod records;
 mod drafted;
 mod drafts;
 mod record_texts;
+mod shared_text;
 mod writing;
 
 // Changes that are kept: their records go out to a file.

@@ -2,7 +2,7 @@
 ghost use Rattle.std.specs.Prelude.{◌≡◌, ◌++◌, [], IfOk, OnErr};
 ghost use Rattle.journal.specs.RecordTexts.{IsLarge, IsLong};
 
-use deck_listing::SharedText;
+use crate::shared_text::SharedText;
 use definitions::InlineText;
 use std::alloc::{AllocError, Global};
 use std::marker::Model;

@@ -9,7 +9,6 @@ push_parts-requires-clause-listable c = parts-listable c.args.object.now.cards c
 pub returns : goal.returns
 returns c =
     c.push_parts.ensures
-    ∙ ap (λ text. text ++ parts_text c.name.result.now c.cards.result.now c.parts.result.now) c.make_room.ensures
     ∙ ap (λ text. c.args.text.now ++ text)
     (ap₂ (λ name cards. parts_text name cards c.parts.result.now) c.name.ensures c.cards.ensures
     ∙ listing-same c.args.object.now.cards c.parts.result.now (object_of c.args.object.now) c.parts.ensures)
