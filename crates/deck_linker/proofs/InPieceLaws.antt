@@ -2,9 +2,9 @@
 use Rattle.std.{proofs.Common.{ℕ, ◌≡◌, ◌+◌, ◌<◌, ◌≤◌, ◌^◌, zero, suc, List, [], ◌∷◌, ◌++◌, length, take, drop, get_or, sym, ap, ap₂, subst, ◌∙◌, arith, length-append, take-append-drop}, specs.Prelude.{Err, IfErr, Ok, Option, Result, Some, Vec, flat_map, map}, specs.List.AllZip, proofs.lemmas.Grind.flat_map-append, proofs.lemmas.List.{at_drop_more, take_more}, proofs.lemmas.Option.slice_get-get_or, proofs.lemmas.Slice.Zip.AllZip-long}
 use Rattle.definitions.specs.{Build.build_of, DeckInput.Deck, Layout.{Based, Layout, layout_of}, LinkValues.linking_of, Objects.object_of}
 use Rattle.text_ports.{proofs.SendSteps.texts-more, specs.Joins.Sending.Sends, specs.declared.writing.Broken.Broken}
-use Rattle.deck_listing.{proofs.BlockSteps.zip-at, specs.Joins.BlockWords.{AreBlockWords, AreWordsOf}, specs.Joins.Sheets.{room_of, text_of}}
+use Rattle.deck_listing.{proofs.BlockSteps.zip-at, specs.Joins.BlockWords.{AreBlockWords, AreWordsOf}, specs.Joins.Sheets.{room_of, text_of}, specs.ListedObjects.lines_in}
 use Rattle.parcel_packer.specs.declared.word_spans.WordSpan.{WordSpan}
-use Rattle.deck_linker.specs.{Joins.CommonWords.AreCommonWords, Joins.InPieces.{AreDeckWords, AreLinked, DoFit, deck_text, end_text}, Publishing.{listings, map_of}, Joins.Sections.deck_section}
+use Rattle.deck_linker.specs.{Joins.CommonWords.AreCommonWords, Joins.InPieces.{AreDeckWords, AreLinked, DoFit, IsListing, deck_text, end_text}, Publishing.{listings, map_of}, Joins.Sections.deck_section}
 
 module _ {A : Type 0} (text : A → List ℕ) where
   -- more room
@@ -122,3 +122,16 @@ linked-parts decks layout words commons mapped sheet errors links all front most
       errors_are = errors_are;
       links_are = links_are;
     }
+
+-- all is there that the listing of decks is made of
+pub listing-parts : (decks given : List Deck) (lines room : ℕ) (mapped sheet : List ℕ) → decks ≡ given → lines ≡ lines_in (listings given ++ mapped) → mapped ≡ map_of given → DoFit deck_text room given → sheet ≡ room ∷ [] →
+    length (listings given) + length mapped < 2 ^ 63 → IsListing decks lines mapped sheet
+listing-parts decks given lines room mapped sheet same told maps fits clear few =
+    let whole : room ≡ room_of sheet = sym (ap room_of clear) in
+    subst (λ (ds : List Deck). IsListing ds lines mapped sheet) (sym same) (record {
+      lines_are = told ∙ ap (λ (m : List ℕ). lines_in (listings given ++ m)) maps;
+      map_is = maps;
+      fit = subst (λ (n : ℕ). DoFit deck_text n given) whole fits;
+      clear = clear ∙ ap (λ (n : ℕ). n ∷ []) whole;
+      few = few;
+    })

@@ -1,8 +1,9 @@
 -- Texts one behind the other: their bytes, their lines, and what of them went out.
-use Rattle.std.{proofs.Common.{ℕ, ◌≡◌, ◌+◌, ◌<◌, ◌≤◌, Bool, true, false, cond, List, [], ◌∷◌, ◌++◌, Option, length, filter, take, drop, get_or, refl, sym, ap, ap₂, subst, ◌∙◌, arith, length-append}, specs.Prelude.{◌==◌, flat_map}, specs.Io.KnownBytes.Appends, proofs.lemmas.List.at_drop_more, proofs.lemmas.List.Elements.filter-append}
-use Rattle.definitions.specs.{Build.listing_of, Characters.line_feed, DeckInput.Deck}
+use Rattle.std.{proofs.Common.{ℕ, ◌≡◌, ◌+◌, ◌<◌, ◌≤◌, Bool, true, false, cond, List, [], ◌∷◌, ◌++◌, Option, length, filter, take, drop, get_or, refl, sym, ap, subst, ◌∙◌, arith, length-append}, specs.Prelude.{◌==◌, flat_map}, specs.Io.KnownBytes.Appends, proofs.lemmas.List.at_drop_more, proofs.lemmas.List.Elements.filter-append}
+use Rattle.definitions.specs.{Characters.line_feed, DeckInput.Deck}
 use Rattle.text_ports.proofs.SendSteps.{IsPart, Appends-text, part-text, part-second}
-use Rattle.deck_linker.{specs.Joins.InPieces.deck_text, specs.Publishing.{lines_in, listings, map_of}, proofs.InPieceLaws.{sent-more, sent-within}}
+use Rattle.deck_listing.specs.ListedObjects.{lines_in}
+use Rattle.deck_linker.{specs.Joins.InPieces.deck_text, specs.Publishing.listings, proofs.InPieceLaws.{sent-more, sent-within}}
 
 -- the listings, deck by deck
 pub listings-flat : (decks : List Deck) → flat_map deck_text decks ≡ listings decks
@@ -25,15 +26,14 @@ pub lines-within : (text : List ℕ) → lines_in text ≤ length text
 lines-within [] = omega arith
 lines-within (c ∷ text) = let rest = one-more (c == line_feed) c (length text) (filter (λ c. c == line_feed) text) (lines-within text) in omega (arith, rest)
 
--- what is counted of the texts that are left, where two texts have what both have
-pub count-split : {A : Type 0} (f : A → List ℕ) (count : List ℕ → ℕ) → ((xs ys : List ℕ) → count (xs ++ ys) ≡ count xs + count ys) → (parts : List A) (i : ℕ) (part : A) (text : List ℕ) → i < length parts → part ≡ get_or parts i part →
-    text ≡ f part → count (flat_map f (drop i parts)) ≡ count text + count (flat_map f (drop (i + 1) parts))
-count-split {A = A} f count both parts i part text within is same =
-    let left = flat_map f (drop (i + 1) parts) in
-    at_drop_more (λ (l : List A). count (flat_map f l)) parts i part within
-    ∙ ap (λ (p : A). count (f p ++ left)) (sym is)
-    ∙ both (f part) left
-    ∙ ap (λ (t : List ℕ). count t + count left) (sym same)
+-- what is counted of the listings that are left, where two texts have what both have
+pub listings-split : (count : List ℕ → ℕ) → ((xs ys : List ℕ) → count (xs ++ ys) ≡ count xs + count ys) → (decks : List Deck) (i : ℕ) (deck : Deck) → i < length decks → deck ≡ get_or decks i deck →
+    count (listings (drop i decks)) ≡ count (deck_text deck) + count (listings (drop (i + 1) decks))
+listings-split count both decks i deck within is =
+    let left = listings (drop (i + 1) decks) in
+    at_drop_more (λ (l : List Deck). count (listings l)) decks i deck within
+    ∙ ap (λ (d : Deck). count (deck_text d ++ left)) (sym is)
+    ∙ both (deck_text deck) left
 
 -- a listing that went out
 pub Appends-listing : (old mid new : Option (List ℕ)) (decks : List Deck) (i : ℕ) (deck : Deck) (text : List ℕ) → i < length decks → deck ≡ get_or decks i deck → text ≡ deck_text deck →
@@ -66,8 +66,3 @@ listings-within n decks = let few = sent-within deck_text n decks in omega (arit
 pub part-behind-all : (old mid new : Option (List ℕ)) (head body : List ℕ) (sent more : ℕ) → sent ≡ length head → Appends old mid head → IsPart mid new body more → IsPart old new (head ++ body) (sent + more)
 part-behind-all old mid new head body sent more count first part =
     subst (λ (n : ℕ). IsPart old new (head ++ body) (n + more)) (sym count) (part-second old mid new head head body more refl first part)
-
--- the listings and the map of decks, where both are shown otherwise
-pub listing-told : (decks told : List Deck) (mapped : List ℕ) → told ≡ decks → mapped ≡ map_of decks → flat_map deck_text told ++ mapped ≡ listing_of decks
-listing-told decks told mapped same maps =
-    ap₂ (λ (ds : List Deck) (m : List ℕ). flat_map deck_text ds ++ m) same maps ∙ ap (λ (l : List ℕ). l ++ map_of decks) (listings-flat decks)

@@ -1,6 +1,6 @@
 -- What is published of decks.
-use Rattle.std.specs.Prelude.{ℕ, ◌≡◌, ◌==◌, ◌<◌, ◌+◌, ◌^◌, Bool, true, List, [], ◌∷◌, Option, None, Some, filter, flat_map, length, map, if◌then◌else◌}
-use Rattle.definitions.specs.{Build.{build_of, image_of, listing_of}, Characters.{line_feed, same_text}, DeckInput.Deck, Image.section, Layout.{Based, Layout, layout_of}, Listing.deck_listing, Map.map_text, Objects.object_of, declared.deck_kind.DeckKind.DeckKind, declared.deck_kind.DeckKind.TheVariants.Rel}
+use Rattle.std.specs.Prelude.{ℕ, ◌≡◌, Bool, true, List, [], ◌∷◌, Option, None, Some, flat_map, length, map, if◌then◌else◌}
+use Rattle.definitions.specs.{Build.{build_of, image_of, listing_of}, Characters.same_text, DeckInput.Deck, Image.section, Layout.{Based, Layout, layout_of}, Listing.deck_listing, Map.map_text, Objects.object_of, declared.deck_kind.DeckKind.DeckKind, declared.deck_kind.DeckKind.TheVariants.Rel}
 
 -- decks under a version
 pub record Published : Type 0 where
@@ -44,12 +44,3 @@ section_in name layout (based ∷ others) = if same_text based.object.name name 
 -- the section of a name in the image of decks
 abbrev pub section_named : List ℕ → List Deck → Option (List ℕ)
 section_named name decks = section_in name (layout_of (map object_of decks)) (layout_of (map object_of decks)).decks
-
--- how many lines a text has
-abbrev pub lines_in : List ℕ → ℕ
-lines_in text = length (filter (λ c. c == line_feed) text)
-
--- a text is the map of the link of decks, and some memory holds it behind their listings
-pub record IsMapped (decks : List Deck) (mapped : List ℕ) : Type 0 where
-  pub map_is : mapped ≡ map_of decks
-  pub few : length (flat_map (λ (deck : Deck). deck_listing (object_of deck)) decks) + length mapped < 2 ^ 63

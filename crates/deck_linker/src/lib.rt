@@ -7,8 +7,8 @@
 //! from the ends of its lines. `DeckLinking` is the link of a deck in a layout; what does not fit
 //! its field is 0. A common block's words are each the last deck's. A `Publication` is seen by
 //! contracts as its version and decks: that its texts and counts are those of the build of these
-//! decks is the invariant of its type. A `ListedPublication` is decks with their listings under a version;
-//! map, image and sections are made of it when somebody asks, and a `PublishedListing` is written part by part.
+//! decks is the invariant of its type. A `ListedPublication` is decks under a version; listings, map,
+//! image and sections are made of it when somebody asks, and a `PublishedListing` is written part by part.
 #![tactic(auto)]
 
 // Where decks and common blocks stand.
@@ -53,4 +53,4 @@ pub use linked_decks::LinkedDecks;
 pub use linking::DeckLinking;
 pub use listed_publication::ListedPublication;
 pub use publication::{Publication, link};
-pub use published_listing::{PublishedListing, lines_in};
+pub use published_listing::PublishedListing;

@@ -16,7 +16,7 @@ use crate::common_words::words_of_commons;
 use crate::image::deck_words;
 use crate::map::with_map;
 use crate::measuring::{Measure, measure_end, measure_listings, measure_sections};
-use crate::publication::{errors_in, shared, sum};
+use crate::publication::{TOO_MANY, errors_in, shared, sum};
 use crate::sending::{send_all, send_image, send_listings};
 use crate::{Based, Layout};
 use deck_listing::Sheet;
@@ -27,9 +27,6 @@ use std::hash::RandomState;
 use std::io::Write;
 use std::marker::Model;
 use text_ports::{Broken, Counted, Text};
-
-/// No memory holds so many bytes.
-const TOO_MANY: u64 = 1 << 63;
 
 /// Decks that are linked, and a sheet with room for the longest part of their texts. Contracts see the
 /// decks: that all is there which their texts are made of is the invariant of the type.

@@ -1,5 +1,4 @@
-//! What is published of decks that have their listings with them. Its other texts, and the map of its link, are made
-//! when somebody asks for them.
+//! What is published of decks under a version. Its texts are made when somebody asks for them.
 ghost use Rattle.std.specs.Prelude.{◌≡◌, is_none, map, option_map, IfOk};
 ghost use Rattle.definitions.specs.Build.{image_of};
 ghost use Rattle.definitions.specs.Layout as definitions;
@@ -14,7 +13,7 @@ use crate::linked_deck::{kind, name};
 use crate::map::with_map;
 use crate::published_listing::PublishedListing;
 use crate::{Based, Layout};
-use deck_listing::{ListedObject, Sheet, push_section};
+use deck_listing::{ListedObject, Sheet, listing, push_section};
 use deck_objects::SharedObject;
 use definitions::{DeckKind, is_same_text};
 use std::alloc::{AllocError, Global};
@@ -22,7 +21,7 @@ use std::hash::RandomState;
 use std::marker::Model;
 use text_ports::Text;
 
-/// What is published of decks under a version, each with its listing. Contracts see the version and the decks.
+/// What is published of decks under a version. Contracts see the version and the decks.
 #[derive(Drop)]
 pub struct ListedPublication {
     version: u64,
@@ -58,11 +57,14 @@ impl ListedPublication {
         self.objects.as_slice()
     }
 
-    /// The object of the first deck of a name, where there is one; its listing is that of the name.
-    pub fn listed_named(&self, name: &[u8]) -> Option<&ListedObject>
-        ensures { option_map (λ object. deck_listing (object_of object.now)) result ≡ listing_named name.now self.now.decks }
+    /// The listing of the first deck of a name, where there is one.
+    pub fn listing_named(&self, alloc: Global, name: &[u8]) -> Result<Option<Text>, AllocError>
+        ensures { IfOk result (λ text. text ≡ listing_named name.now self.now.decks) }
     {
-        listed_named(self.objects.as_slice(), name)
+        match listed_named(self.objects.as_slice(), name) {
+            Some(object) => Ok(Some(listing(alloc, object.object())?)),
+            None => Ok(None),
+        }
     }
 
     /// Where the decks of their link stand.
@@ -110,7 +112,7 @@ impl ListedPublication {
         ensures { IfOk result (λ listing. listing ≡ self.now.decks) }
     {
         let map = self.map(alloc, keys)?;
-        PublishedListing::new(once_more(alloc, self.objects.as_slice())?, map)
+        PublishedListing::new(alloc, self.objects.as_slice(), map)
     }
 }
 
@@ -170,24 +172,16 @@ fn section(alloc: Global, layout: &Layout, based: &Based) -> Result<Option<Text>
     Ok(Some(text.into_text()?))
 }
 
-/// The objects of decks once more, without their listings.
-fn shared(alloc: Global, objects: &[ListedObject]) -> Result<Vec<SharedObject>, AllocError>
+/// The objects of decks once more, without what their listings count.
+pub(crate) fn shared(
+    alloc: Global,
+    objects: &[ListedObject],
+) -> Result<Vec<SharedObject>, AllocError>
     ensures { IfOk result (λ same. same.items ≡ objects.now) }
 {
     let mut same = Vec::with_capacity(alloc, objects.len())?;
     for object in objects {
         same.push(object.share_object()?)?;
-    }
-    Ok(same)
-}
-
-/// The objects of decks once more, with their listings.
-fn once_more(alloc: Global, objects: &[ListedObject]) -> Result<Vec<ListedObject>, AllocError>
-    ensures { IfOk result (λ same. same.items ≡ objects.now) }
-{
-    let mut same = Vec::with_capacity(alloc, objects.len())?;
-    for object in objects {
-        same.push(object.share()?)?;
     }
     Ok(same)
 }

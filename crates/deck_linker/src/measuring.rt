@@ -1,4 +1,5 @@
-//! How long the parts of the texts of linked decks are. Each part is made for it, and freed again.
+//! How long the parts of the texts of linked decks are. Each part whose length is not known is made for it, and freed
+//! again.
 ghost use Rattle.std.specs.Prelude.{◌≡◌, ◌≤◌, ◌+◌, flat_map, length, IfOk};
 ghost use Rattle.std.specs.List.{AllZip};
 ghost use Rattle.deck_listing.specs.Joins.BlockWords.{AreBlockWords};
@@ -14,7 +15,7 @@ ghost use Rattle.deck_linker.specs.Joins.Sections.{deck_section};
 use crate::image::{push_deck, push_end};
 use crate::publication::sum;
 use crate::{Based, Layout};
-use deck_listing::{Sheet, listing};
+use deck_listing::{ListedObject, Sheet, listing};
 use deck_objects::{Object, SharedObject};
 use parcel_packer::WordSpan;
 use std::alloc::{AllocError, Global};
@@ -62,6 +63,18 @@ pub(crate) fn measure_listings(
     for object in objects {
         let len = listing_len(alloc, object.object())?;
         measure = measure.with(len)?;
+    }
+    Ok(measure)
+}
+
+/// The listings of decks, whose lengths are known.
+pub(crate) fn measure_listed(objects: &[ListedObject]) -> Result<Measure, AllocError>
+    ensures all { IfOk result (λ measure. measure.all ≡ length (listings objects.now)) }
+    ensures fit { IfOk result (λ measure. DoFit deck_text measure.most objects.now) }
+{
+    let mut measure = Measure { all: 0, most: 0 };
+    for object in objects {
+        measure = measure.with(object.len())?;
     }
     Ok(measure)
 }

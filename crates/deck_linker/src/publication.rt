@@ -18,6 +18,9 @@ use std::hash::RandomState;
 use std::marker::Model;
 use text_ports::Text;
 
+/// No memory holds so many bytes.
+pub(crate) const TOO_MANY: u64 = 1 << 63;
+
 /// What is published of decks under a version. Contracts see the version and the decks: all else is
 /// what the definitions give for these decks.
 #[derive(Drop)]

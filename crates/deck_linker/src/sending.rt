@@ -62,8 +62,8 @@ pub(crate) fn send_listings<W: Write>(
     Ok(sent)
 }
 
-/// Sends the listings of decks, and a text behind them.
-fn send_front<W: Write>(
+/// Sends the listings of decks, and a text behind them, and returns how many bytes these are.
+pub(crate) fn send_front<W: Write>(
     output: &mut Counted<W>,
     sheet: &mut Sheet,
     objects: &[SharedObject],

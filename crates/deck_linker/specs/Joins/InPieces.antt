@@ -1,9 +1,9 @@
 -- Decks whose texts are made part by part, each when it is written (ours).
 use Rattle.std.specs.{Prelude.{ℕ, ◌≡◌, ◌<◌, ◌≤◌, ◌+◌, ◌^◌, ⊤, List, [], ◌∷◌, ◌++◌, Vec, codes, flat_map, length, map}, List.AllZip}
-use Rattle.definitions.specs.{Build.build_of, DeckInput.Deck, Image.common_section_by, Layout.{Based, Layout, layout_of}, LinkValues.linking_of, Listing.{deck_listing, line}, Objects.object_of}
-use Rattle.deck_listing.specs.{Joins.BlockWords.AreBlockWords, Joins.Sheets.room_of}
+use Rattle.definitions.specs.{Build.{build_of, listing_of}, DeckInput.Deck, Image.common_section_by, Layout.{Based, Layout, layout_of}, LinkValues.linking_of, Listing.{deck_listing, line}, Objects.object_of}
+use Rattle.deck_listing.specs.{Joins.BlockWords.AreBlockWords, Joins.Sheets.room_of, ListedObjects.lines_in}
 use Rattle.parcel_packer.specs.declared.word_spans.WordSpan.{WordSpan}
-use Rattle.deck_linker.specs.{Joins.CommonWords.AreCommonWords, Publishing.map_of, Joins.Sections.deck_section}
+use Rattle.deck_linker.specs.{Joins.CommonWords.AreCommonWords, Publishing.{listings, map_of}, Joins.Sections.deck_section}
 
 -- the listing of a deck
 abbrev pub deck_text : Deck → List ℕ
@@ -44,3 +44,12 @@ pub record AreLinked {X Y Z : Type 0} (decks : List Deck) (layout : Layout) (wor
   pub few : length (build_of decks).text < 2 ^ 63
   pub errors_are : errors ≡ (build_of decks).errors
   pub links_are : links ≡ (build_of decks).links
+
+-- all is there that the listing of decks is made of, and the sheet on which their listings are made has room for the longest; how
+-- many bytes they have together can be written
+pub record IsListing (decks : List Deck) (lines : ℕ) (mapped sheet : List ℕ) : Type 0 where
+  pub lines_are : lines ≡ lines_in (listing_of decks)
+  pub map_is : mapped ≡ map_of decks
+  pub fit : DoFit deck_text (room_of sheet) decks
+  pub clear : sheet ≡ room_of sheet ∷ []
+  pub few : length (listings decks) + length mapped < 2 ^ 63

@@ -1,6 +1,6 @@
-use Rattle.std.proofs.{Common.{◌+◌, ◌∙◌, List, ap, arith, drop, length, subst, sym, ℕ}, lemmas.List.take_all}
+use Rattle.std.proofs.{Common.{◌∙◌, ap, arith, length, length-append, subst}, lemmas.List.take_all}
 use Rattle.definitions.specs.DeckInput.{Deck}
-use Rattle.deck_linker.{specs.Joins.InPieces.{DoFit, deck_text}, proofs.InPieceLaws.{fit-more, left-split}, proofs.ListedLaws.listings-flat}
+use Rattle.deck_linker.{specs.Joins.InPieces.{DoFit, deck_text}, proofs.InPieceLaws.fit-more, proofs.ListedLaws.listings-split}
 use Rattle.deck_linker.proofs.measuring.measure_listings.Goals as goal
 
 pub loop-object-preserved : goal.loop-object-preserved
@@ -8,10 +8,7 @@ loop-object-preserved c =
     let objects = c.args.objects.now in
     let i = c.loop-object.object-index in
     let deck = c.object-item.result in
-    let split =
-    ap length (sym (listings-flat (drop i objects)))
-    ∙ left-split deck_text objects i deck c.loop-object-test.true c.object-item.is
-    ∙ ap (λ (l : List ℕ). length (deck_text deck) + length l) (listings-flat (drop (i + 1) objects)) in
+    let split = listings-split length length-append objects i deck c.loop-object-test.true c.object-item.is in
     let long = c.in_ok-len.ensures ∙ ap (λ (d : Deck). length (deck_text d)) c.object.ensures in
     record {
       all = omega (arith, c.loop-object.invariant.all, c.in_ok-measure.ensures.all, split, long);

@@ -1,10 +1,7 @@
-use Rattle.std.proofs.Common.{ℕ, List, ◌∙◌, ap}
-use Rattle.definitions.specs.DeckInput.{Deck}
-use Rattle.deck_linker.{specs.Publishing.{lines_in, map_of}, proofs.ListedLaws.listing-told}
+use Rattle.std.proofs.Common.{◌∙◌, List, ap}
+use Rattle.definitions.specs.{Build.listing_of, DeckInput.Deck}
+use Rattle.deck_listing.specs.ListedObjects.{lines_in}
 use Rattle.deck_linker.proofs.published_listing.PublishedListing.lines.Goals as goal
 
 pub returns : goal.returns
-returns c =
-    c.all_lines.ensures
-    ∙ ap (λ (text : List ℕ). lines_in text)
-    (listing-told _ c.as_slice.result.now c.as_slice-2.result.now (c.as_slice.ensures.value ∙ c.self.view_is) (c.as_slice-2.ensures ∙ c.self.invariant.map_is ∙ ap (λ (ds : List Deck). map_of ds) c.self.view_is))
+returns c = c.self.invariant.lines_are ∙ ap (λ (decks : List Deck). lines_in (listing_of decks)) c.self.view_is
