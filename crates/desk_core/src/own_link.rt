@@ -1,5 +1,5 @@
-//! A desk publishes its own decks, in one turn. They have their objects, each with its listing, and no text is made
-//! of them here: so a turn is no longer with many decks of many cards.
+//! A desk publishes its own decks, in one turn. They have their objects, and no text is made of them here: so a turn
+//! is no longer with many decks of many cards.
 ghost use Rattle.std.specs.Prelude.{◌≡◌, Some, false, IfOk};
 ghost use Rattle.std.specs.List.{list_any};
 ghost use Rattle.desk_core.specs.Desks.{decks_of};

@@ -1,6 +1,5 @@
 //! The texts of a publication, and those of one of its decks, made when somebody asks for them.
 ghost use Rattle.std.specs.Prelude.{◌≡◌, IfOk};
-ghost use Rattle.deck_linker.specs.Publishing.{listing_named};
 ghost use Rattle.desk_core.specs.PublishedTexts.{shown_part, shown_text};
 
 use crate::shown_text::ShownText;
@@ -55,32 +54,18 @@ pub fn show_part(
 ) -> Result<Option<ShownText>, AllocError>
     ensures { IfOk result (λ part. part ≡ shown_part text name.now publication.now.decks) }
 {
-    match text {
-        DeckText::Section => {
-            let section = publication.section_named(alloc, keys, name.as_slice())?;
-            Ok(shown_section(section))
-        }
-        DeckText::Listing => shown_listing(publication, name),
-    }
+    let part = match text {
+        DeckText::Section => publication.section_named(alloc, keys, name.as_slice())?,
+        DeckText::Listing => publication.listing_named(alloc, name.as_slice())?,
+    };
+    Ok(made(part))
 }
 
-fn shown_section(section: Option<Text>) -> Option<ShownText>
-    ensures { result ≡ section }
+fn made(text: Option<Text>) -> Option<ShownText>
+    ensures { result ≡ text }
 {
-    match section {
+    match text {
         Some(text) => Some(ShownText::made(text)),
         None => None,
-    }
-}
-
-fn shown_listing(
-    publication: &ListedPublication,
-    name: &DeckName,
-) -> Result<Option<ShownText>, AllocError>
-    ensures { IfOk result (λ part. part ≡ listing_named name.now publication.now.decks) }
-{
-    match publication.listed_named(name.as_slice()) {
-        Some(object) => Ok(Some(ShownText::of_deck(object)?)),
-        None => Ok(None),
     }
 }

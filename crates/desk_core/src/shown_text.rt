@@ -1,14 +1,12 @@
-//! A text of a publication that somebody is shown: one that was made when it was asked for, or listings that several
-//! hold and that are written from where they lie.
-ghost use Rattle.std.specs.Prelude.{◌≡◌, ◌<◌, ◌^◌, IfOk, IfErr};
+//! A text of a publication that somebody is shown: one that was made when it was asked for, or listings that are made
+//! when they are written.
+ghost use Rattle.std.specs.Prelude.{◌≡◌, ◌<◌, ◌^◌, IfErr};
 ghost use Rattle.definitions.specs.Build.{listing_of};
 ghost use Rattle.text_ports.specs.Joins.Sending.{Sends, count_after_sending};
-ghost use Rattle.deck_linker.specs.Joins.InPieces.{deck_text};
-ghost use Rattle.deck_linker.specs.Publishing.{lines_in};
+ghost use Rattle.deck_listing.specs.ListedObjects.{lines_in};
 
-use deck_linker::{PublishedListing, lines_in};
-use deck_listing::ListedObject;
-use std::alloc::AllocError;
+use deck_linker::PublishedListing;
+use deck_listing::lines_in;
 use std::io::Write;
 use std::marker::Model;
 use text_ports::{Broken, Counted, Text, put_all};
@@ -18,8 +16,6 @@ use text_ports::{Broken, Counted, Text, put_all};
 enum Source {
     /// A text alone.
     Made(Text),
-    /// The listing of this deck.
-    OfDeck(ListedObject),
     /// The listing of a publication.
     OfDecks(PublishedListing),
 }
@@ -49,16 +45,6 @@ impl ShownText {
         }
     }
 
-    /// The listing of the deck of an object.
-    pub(crate) fn of_deck(object: &ListedObject) -> Result<ShownText, AllocError>
-        ensures { IfOk result (λ shown. shown ≡ deck_text object.now) }
-    {
-        let object = object.share()?;
-        Ok(ShownText {
-            source: Source::OfDeck(object),
-        })
-    }
-
     /// The listing of a publication.
     pub(crate) fn of_decks(listing: PublishedListing) -> ShownText
         ensures { result ≡ listing_of listing }
@@ -74,20 +60,18 @@ impl ShownText {
     {
         match &self.source {
             Source::Made(text) => lines_in(text.as_slice()),
-            Source::OfDeck(object) => lines_in(object.listing()),
             Source::OfDecks(listing) => listing.lines(),
         }
     }
 
     /// Writes it, or exactly the first `sent` bytes of it up to the first fault. Takes no memory.
-    pub fn write<W: Write>(&self, output: &mut Counted<W>) -> Result<(), Broken>
-        ensures sends { Sends (W.contents output.old.0) (W.contents output.new.0) self.now result }
+    pub fn write<W: Write>(self, output: &mut Counted<W>) -> Result<(), Broken>
+        ensures sends { Sends (W.contents output.old.0) (W.contents output.new.0) self result }
         ensures count { output.new.1 ≡ count_after_sending result output.old.1 }
         ensures few { IfErr result (λ broken. broken.sent < 2 ^ 63) }
     {
-        match &self.source {
+        match self.source {
             Source::Made(text) => put_all(output, text.as_slice()),
-            Source::OfDeck(object) => put_all(output, object.listing()),
             Source::OfDecks(listing) => listing.write(output),
         }
     }
