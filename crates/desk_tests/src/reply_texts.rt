@@ -23,7 +23,7 @@ pub fn is_within(reply: &Reply<'_>) -> bool
         Reply::Files { files, .. } => files.len() <= MOST_FILES,
         Reply::Sessions { sessions, .. } => sessions.len() <= 64,
         Reply::Done { .. } | Reply::Unkept { .. } => true,
-        Reply::Text { .. } | Reply::Published { .. } => true,
+        Reply::Text { .. } => true,
         Reply::Bye | Reply::Refused(_) => true,
     }
 }

@@ -7,7 +7,7 @@ use Rattle.session_line.specs.declared.told_decks.DeckOutcome.TheVariants as out
 use Rattle.session_line.specs.declared.replies.Reply.TheVariants as reply
 use Rattle.desk_core.specs.declared.replies.State.TheVariants.{Behind, Ready}
 use Rattle.session_commands.{specs.UnknownWords.told_word, proofs.WorkedLines.Gives}
-use Rattle.deck_linker.specs.Publishing.{lines_in}
+use Rattle.deck_listing.specs.ListedObjects.{lines_in}
 use Rattle.session_line.specs.{Replies.{text_of_reply, marked_text, status_text, told_deck_text, published_text, counted_text, numbers_text}, FileLines.file_line, declared.rights.Rights.TheVariants.{Edits, Reads}, Greetings.{connected_text, service_text}, Views.numbers_from}
 
 -- replies: a version; names with their numbers

@@ -1,7 +1,8 @@
 -- What a command is answered, and the text of that (ours).
 use Rattle.std.specs.Prelude.{ℕ, ◌≡◌, ◌+◌, ◌≤◌, ◌⊎◌, ⊤, IsTrue, Bool, true, false, nat_le, List, [], ◌++◌, Option, Some, None, Result, Ok, Err, length, codes, if◌then◌else◌}
 use Rattle.definitions.specs.{Cards.Card, DeckInput.Deck}
-use Rattle.deck_linker.specs.Publishing.{lines_in, map_of}
+use Rattle.deck_listing.specs.ListedObjects.{lines_in}
+use Rattle.deck_linker.specs.Publishing.{map_of}
 use Rattle.desk_core.specs.{Desks.Publication, PublishedTexts.{shown_part, shown_text}, declared.published_texts.DeckText.DeckText, declared.published_texts.PublishedText.PublishedText, declared.replies.Reply.Reply, declared.replies.Row.Row, declared.replies.Reply.TheVariants.{Changed, Carried, Unkept, CardsAre, ChangesAre, CardsBefore, StatusIs, Refused}}
 use Rattle.deck_files.specs.{DeckFiles.file_of, FileRows.most_files}
 use Rattle.session_commands.specs.{declared.refusals.Refusal.Refusal, Refusals.refusal_text, declared.views.CardsView.CardsView, declared.views.CardsView.TheVariants.{All, From, With}, declared.views.ErrorsView.ErrorsView}
@@ -184,6 +185,11 @@ told_text told.Bye = with_body (codes "BYE") []
 abbrev pub is_bye : Told → Bool
 is_bye told.Bye = true
 is_bye _ = false
+
+-- whether it is told by a reply: all but a text of the publication is
+abbrev pub is_replied : Told → Bool
+is_replied (told.Published version shown) = false
+is_replied _ = true
 
 -- what is shown has no more cards, edits, decks, files and sessions than may be
 abbrev pub IsTellable : Told → Type 0

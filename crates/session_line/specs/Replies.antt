@@ -4,7 +4,7 @@ use Rattle.definitions.specs.Characters.{line_feed}
 use Rattle.deck_files.specs.{DeckFiles.file_of, FileRows.most_files}
 use Rattle.session_line.specs.{FileLines.files_text, Greetings.{service_text, connected_text}, declared.greetings.Connected.Connected, declared.marked_rows.MarkedRow.MarkedRow, declared.told_decks.ToldDeck.ToldDeck, declared.told_decks.DeckOutcome.DeckOutcome, declared.told_decks.DeckOutcome.TheVariants.{Done, Unkept, Refused}, Errors.error_lines, Views.numbers_of, ChangeLines.change_lines, declared.replies.Reply.Reply}
 use Rattle.session_commands.specs.Refusals.{refusal_text}
-use Rattle.deck_linker.specs.Publishing.{lines_in}
+use Rattle.deck_listing.specs.ListedObjects.{lines_in}
 use Rattle.desk_core.specs.declared.replies.{Row.Row, State.State, State.TheVariants.{Out, Behind, Ready}}
 use Rattle.session_line.specs.declared.replies.Reply.TheVariants as reply
 
@@ -74,7 +74,6 @@ head_text (reply.Cards version cards) = counted_text version (length cards.now)
 head_text (reply.Changes version kept) = counted_text version (length (change_lines kept.now))
 head_text (reply.Found version cards text) = counted_text version (length (numbers_of text.now cards.now))
 head_text (reply.Text version text) = counted_text version (lines_in text.now)
-head_text (reply.Published version shown) = counted_text version (lines_in shown.now)
 head_text (reply.Errors version view decks map) = counted_text version (length (error_lines view.now decks.now map.now))
 head_text (reply.Status version published decks) = counted_text version (length decks.now + 1)
 head_text (reply.FileStatus version published decks) = counted_text version (length decks.now + 1)
@@ -116,7 +115,6 @@ body_text (reply.Cards version cards) = file_of cards.now
 body_text (reply.Changes version kept) = text_of_lines (change_lines kept.now)
 body_text (reply.Found version cards text) = numbers_text (numbers_of text.now cards.now)
 body_text (reply.Text version text) = text.now
-body_text (reply.Published version shown) = shown.now
 body_text (reply.Errors version view decks map) = text_of_lines (error_lines view.now decks.now map.now)
 body_text (reply.Status version published decks) = line_of (published_text published) ++ rows_text decks.now
 body_text (reply.FileStatus version published decks) = line_of (published_text published) ++ marks_text decks.now
@@ -138,7 +136,6 @@ IsWithinLimits (reply.Cards version cards) = length cards.now ≤ 20000
 IsWithinLimits (reply.Changes version kept) = length kept.now ≤ 2000
 IsWithinLimits (reply.Found version cards text) = length cards.now ≤ 20000
 IsWithinLimits (reply.Text version text) = ⊤
-IsWithinLimits (reply.Published version shown) = ⊤
 IsWithinLimits (reply.Errors version view decks map) = length decks.now ≤ 64
 IsWithinLimits (reply.Status version published decks) = length decks.now ≤ 64
 IsWithinLimits (reply.FileStatus version published decks) = length decks.now ≤ 64

@@ -1,9 +1,9 @@
 //! What a command is answered, and how the session is answered.
-ghost use Rattle.std.specs.Prelude.{◌≡◌, ◌≤◌, ◌⊎◌, length};
+ghost use Rattle.std.specs.Prelude.{◌≡◌, ◌≤◌, ◌⊎◌, true, length};
 ghost use Rattle.session_line.specs.Replies.{text_of_reply, IsWithinLimits};
 ghost use Rattle.deck_linker.specs.Publishing.{map_of};
 ghost use Rattle.desk_core.specs.declared.replies.Reply.TheVariants.{CardsAre};
-ghost use Rattle.session_line.specs.Answers.{foreign, told_of_call, told_of_wait, told_of_greeting, told_of_help, told_of_sessions, told_of_cards, told_of_backs, errors_told, part_told, text_told, errors_text, status_text, view_text, told_text, is_bye, IsMade, IsTellable, IsToldAt, IsToldBy, IsViewOf};
+ghost use Rattle.session_line.specs.Answers.{foreign, told_of_call, told_of_wait, told_of_greeting, told_of_help, told_of_sessions, told_of_cards, told_of_backs, errors_told, part_told, text_told, errors_text, status_text, view_text, told_text, is_bye, is_replied, IsMade, IsTellable, IsToldAt, IsToldBy, IsViewOf};
 ghost use Rattle.session_line.specs.Errors.{deck_named};
 ghost use Rattle.session_line.specs.Replied.{shown_in};
 ghost use Rattle.session_line.specs.Messages.{IsLines, IsLinesOf, IsSaidOf};
@@ -432,23 +432,21 @@ fn view_reply<'a>(version: u64, view: &'a CardsView, cards: &'a [Card]) -> crate
 }
 
 impl Told {
-    /// The reply of the session.
+    /// The reply of the session, where no text of the publication is shown: its parts are made while it is written.
     pub(crate) fn as_reply(&self) -> crate::Reply<'_>
-        requires { IsTellable self.now }
+        requires tellable { IsTellable self.now }
+        requires replied { is_replied self.now ≡ true }
         ensures text { text_of_reply result ≡ told_text self.now }
         ensures limits { IsWithinLimits result }
     {
         match self {
             Told::Done(version) => crate::Reply::Done { version: *version },
+            Told::Published(..) => unreachable!(),
             Told::Unkept(version) => crate::Reply::Unkept { version: *version },
             Told::Cards(version, cards, view) => view_reply(*version, view, cards.as_slice()),
             Told::Changes(version, kept) => crate::Reply::Changes {
                 version: *version,
                 kept: kept.as_slice(),
-            },
-            Told::Published(version, shown) => crate::Reply::Published {
-                version: *version,
-                shown,
             },
             Told::Errors(version, listing, view) => errors_reply(*version, listing, view),
             Told::Lines(version, lines) => crate::Reply::Text {

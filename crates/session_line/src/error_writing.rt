@@ -10,8 +10,7 @@ use crate::errors::{shows_deck, shows_line, split_cards, split_line};
 use crate::reply_line::ReplyLine;
 use cards::{Card, DeckName};
 use deck_cuts::begins_deck;
-use deck_listing::ListedObject;
-use deck_objects::{Line, Object};
+use deck_objects::{Line, Object, SharedObject};
 use session_commands::ErrorsView;
 use std::io::Write;
 use text_ports::{Broken, Counted, put_all};
@@ -143,7 +142,7 @@ fn write_deck<W: Write>(
 fn write_decks<W: Write>(
     output: &mut Counted<W>,
     view: &ErrorsView,
-    objects: &[ListedObject],
+    objects: &[SharedObject],
 ) -> Result<usize, Broken>
     requires { length objects.now ≤ 64 }
     ensures sends { Sends (W.contents output.old.0) (W.contents output.new.0) (text_of_lines (flat_map (errors_where view.now) objects.now)) result }
@@ -231,7 +230,7 @@ fn write_links<W: Write>(
 pub(crate) fn write_errors<W: Write>(
     output: &mut Counted<W>,
     view: &ErrorsView,
-    objects: &[ListedObject],
+    objects: &[SharedObject],
     map: &[u8],
 ) -> Result<(), Broken>
     requires { length objects.now ≤ 64 }

@@ -8,7 +8,7 @@ ghost use Rattle.session_line.specs.Joins.FlagWalks.{flags_in, line_len};
 use cards::{Card, DeckName};
 use deck_cuts::begins_deck;
 use deck_listing::ListedObject;
-use deck_objects::{Line, Object};
+use deck_objects::{Line, Object, SharedObject};
 use definitions::is_same_text;
 use session_commands::{ErrorsView, begins_with, behind_blank, behind_word, from_blank, to_blank};
 
@@ -102,7 +102,7 @@ fn deck_count(view: &ErrorsView, object: &Object) -> usize
 }
 
 /// How many lines of decks are shown.
-fn decks_count(view: &ErrorsView, objects: &[ListedObject]) -> usize
+fn decks_count(view: &ErrorsView, objects: &[SharedObject]) -> usize
     requires { length objects.now ≤ 64 }
     ensures count { result ≡ length (flat_map (errors_where view.now) objects.now) }
     ensures few { result ≤ 20000 * 64 }
@@ -189,7 +189,7 @@ fn link_count(view: &ErrorsView, map: &[u8]) -> usize
 }
 
 /// How many lines of decks and of the map of their link are shown.
-pub(crate) fn error_count(view: &ErrorsView, objects: &[ListedObject], map: &[u8]) -> usize
+pub(crate) fn error_count(view: &ErrorsView, objects: &[SharedObject], map: &[u8]) -> usize
     requires { length objects.now ≤ 64 }
     ensures { result ≡ length (error_lines view.now objects.now map.now) }
 {

@@ -5,8 +5,8 @@ use crate::marked_rows::MarkedRow;
 use crate::told_decks::ToldDeck;
 use cards::Card;
 use deck_files::FileRow;
-use deck_listing::ListedObject;
-use desk_core::{KeptEdit, Row, ShownText};
+use deck_objects::SharedObject;
+use desk_core::{KeptEdit, Row};
 use session_commands::{ErrorsView, Refusal};
 
 /// The reply to one command.
@@ -42,17 +42,12 @@ pub enum Reply<'a> {
         version: u64,
         text: &'a [u8],
     },
-    /// `OK version n`, then the `n` lines of a text of what is published.
-    Published {
-        version: u64,
-        shown: &'a ShownText,
-    },
     /// `OK version n`, then a line for each flagged statement of these decks, and those LINK lines of the
     /// map, that are shown.
     Errors {
         version: u64,
         view: &'a ErrorsView,
-        decks: &'a [ListedObject],
+        decks: &'a [SharedObject],
         map: &'a [u8],
     },
     /// `OK version n`, then `PUBLISHED version` or `PUBLISHED NONE`, and a line for each deck.

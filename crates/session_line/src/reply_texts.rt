@@ -1,7 +1,7 @@
 //! The lines of replies.
 ghost use Rattle.std.specs.Prelude.{◌≡◌, ◌+◌, ◌≤◌, ◌++◌, length};
 ghost use Rattle.session_line.specs.Greetings.{connected_text, service_text, session_word};
-ghost use Rattle.deck_linker.specs.Publishing.{lines_in};
+ghost use Rattle.deck_listing.specs.ListedObjects.{lines_in};
 ghost use Rattle.session_line.specs.Replies.{IsWithinLimits, behind_text, line_of, counted_text, ok_text, unkept_text, head_text, numbers_text, published_text, row_text, state_text, status_text};
 ghost use Rattle.session_line.specs.Views.{number_where};
 ghost use Rattle.session_commands.specs.Sought.{has_text};
@@ -15,7 +15,7 @@ use crate::reply_line::ReplyLine;
 use crate::rights::Rights;
 use crate::views::count_with;
 use cards::Card;
-use deck_linker::lines_in;
+use deck_listing::lines_in;
 use desk_core::{Row, State};
 use session_commands::{Refusal, has_text};
 
@@ -42,7 +42,7 @@ fn unkept_line(version: u64) -> ReplyLine
 }
 
 /// `OK version n`
-fn counted_line(version: u64, count: usize) -> ReplyLine
+pub(crate) fn counted_line(version: u64, count: usize) -> ReplyLine
     ensures { result ≡ line_of (counted_text version count) }
 {
     let mut line = ReplyLine::new();
@@ -91,7 +91,6 @@ pub(crate) fn head_line(reply: &Reply<'_>) -> ReplyLine
             text,
         } => counted_line(*version, count_with(text, cards)),
         Reply::Text { version, text } => counted_line(*version, lines_in(text)),
-        Reply::Published { version, shown } => counted_line(*version, shown.lines()),
         Reply::Errors {
             version,
             view,

@@ -8,7 +8,7 @@ use crate::calls::Calls;
 use crate::executing::execute;
 use crate::reading::{Stop, read_behind, take_line};
 use crate::rights::{Rights, allowed};
-use crate::write_reply;
+use crate::writing::write_told;
 use deck_files::Shelf;
 use std::alloc::Global;
 use std::hash::RandomState;
@@ -30,18 +30,20 @@ pub enum Outcome {
     WriteFault { executed: bool, sent: usize },
 }
 
-/// Writes an answer.
-fn send<W: Write>(output: &mut Counted<W>, answer: &Answer) -> Outcome
-    requires { IsTellable answer.now.told }
-    ensures sent { GoesOut (W.contents output.old.0) (W.contents output.new.0) answer.now result }
+/// Writes an answer, and frees it.
+fn send<W: Write>(output: &mut Counted<W>, answer: Answer) -> Outcome
+    requires { IsTellable answer.told }
+    ensures sent { GoesOut (W.contents output.old.0) (W.contents output.new.0) answer result }
     ensures count { output.new.1 ≡ write_faults_after result output.old.1 }
     ensures reader { (faults : ℕ) → read_faults_after result faults ≡ faults }
 {
-    match write_reply(output, &answer.told.as_reply()) {
-        Ok(()) if answer.told.is_bye() => Outcome::Ended,
+    let executed = answer.executed;
+    let is_bye = answer.told.is_bye();
+    match write_told(output, answer.told) {
+        Ok(()) if is_bye => Outcome::Ended,
         Ok(()) => Outcome::Served,
         Err(broken) => Outcome::WriteFault {
-            executed: answer.executed,
+            executed,
             sent: broken.sent,
         },
     }
@@ -116,9 +118,7 @@ pub fn serve_taken<R: Read, W: Write, C: Calls, S: Shelf>(
     match read_behind(alloc, first, input) {
         Ok(task) => {
             let answer = execute(alloc, keys, desk, shelf, allowed(rights, task));
-            let outcome = send(output, &answer);
-            answer.told.free();
-            outcome
+            send(output, answer)
         }
         Err(stop) => outcome_of(stop),
     }

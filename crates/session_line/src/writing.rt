@@ -1,19 +1,22 @@
 //! Replies as bytes: to a writer, or in memory.
 ghost use Rattle.std.specs.Prelude.{◌≡◌, ◌≤◌, ◌<◌, ◌+◌, ◌*◌, ◌^◌, ◌++◌, length, flat_map, IfOk, IfErr};
-ghost use Rattle.session_line.specs.Replies.{line_of, published_text, numbers_text, body_text, text_of_reply, IsWithinLimits};
+ghost use Rattle.session_line.specs.Answers.{IsTellable, lines_text, told_text};
+ghost use Rattle.deck_listing.specs.ListedObjects.{lines_in};
+ghost use Rattle.session_line.specs.Replies.{line_of, counted_text, published_text, numbers_text, body_text, text_of_reply, IsWithinLimits};
 ghost use Rattle.session_line.specs.Views.{numbers_of};
 ghost use Rattle.text_ports.specs.Joins.Sending.{Sends, count_after_sending};
 
+use crate::answers::Told;
 use crate::change_writing::write_changes;
 use crate::error_writing::write_errors;
 use crate::line_writing::{ReplyRow, write_behind, write_rows};
 use crate::replies::Reply;
 use crate::reply_line::ReplyLine;
-use crate::reply_texts::{found_line, head_line, published_line, row_line};
+use crate::reply_texts::{counted_line, found_line, head_line, published_line, row_line};
 use crate::session_writing::write_sessions;
 use cards::Card;
 use deck_files::save;
-use desk_core::Row;
+use desk_core::{Row, ShownText};
 use std::alloc::{AllocError, Global};
 use std::io::Write;
 use text_ports::{Broken, Counted, put_all};
@@ -77,7 +80,6 @@ fn write_body<W: Write>(output: &mut Counted<W>, reply: &Reply<'_>) -> Result<()
         Reply::Changes { kept, .. } => write_changes(output, kept),
         Reply::Found { cards, text, .. } => write_found(output, cards, text),
         Reply::Text { text, .. } => put_all(output, text),
-        Reply::Published { shown, .. } => shown.write(output),
         Reply::Errors {
             view,
             decks,
@@ -117,6 +119,62 @@ pub fn write_reply<W: Write>(output: &mut Counted<W>, reply: &Reply<'_>) -> Resu
         Err(broken) => Err(Broken {
             sent: bytes.len() + broken.sent,
         }),
+    }
+}
+
+/// The first line of a text of what is published.
+fn published_head(version: u64, shown: &ShownText) -> ReplyLine
+    ensures { result ≡ line_of (counted_text version (lines_in shown.now)) }
+{
+    counted_line(version, shown.lines())
+}
+
+/// Writes a text of what is published behind other bytes, and frees it.
+fn write_shown<W: Write>(
+    output: &mut Counted<W>,
+    first: &[u8],
+    shown: ShownText,
+) -> Result<(), Broken>
+    requires { length first.now ≤ 128 }
+    ensures sends { Sends (W.contents output.old.0) (W.contents output.new.0) (first.now ++ shown) result }
+    ensures count { output.new.1 ≡ count_after_sending result output.old.1 }
+{
+    put_all(output, first)?;
+    match shown.write(output) {
+        Ok(()) => Ok(()),
+        Err(broken) => Err(Broken {
+            sent: first.len() + broken.sent,
+        }),
+    }
+}
+
+/// Writes a text of what is published behind its first line, and frees it.
+fn write_published<W: Write>(
+    output: &mut Counted<W>,
+    version: u64,
+    shown: ShownText,
+) -> Result<(), Broken>
+    ensures sends { Sends (W.contents output.old.0) (W.contents output.new.0) (lines_text version shown) result }
+    ensures count { output.new.1 ≡ count_after_sending result output.old.1 }
+{
+    let line = published_head(version, &shown);
+    write_shown(output, line.as_slice(), shown)
+}
+
+/// Writes what a session is shown, and frees it: its bytes, or exactly the first `sent` of them up to the first
+/// fault. Takes no memory.
+pub(crate) fn write_told<W: Write>(output: &mut Counted<W>, told: Told) -> Result<(), Broken>
+    requires { IsTellable told }
+    ensures sends { Sends (W.contents output.old.0) (W.contents output.new.0) (told_text told) result }
+    ensures count { output.new.1 ≡ count_after_sending result output.old.1 }
+{
+    match told {
+        Told::Published(version, shown) => write_published(output, version, shown),
+        other => {
+            let outcome = write_reply(output, &other.as_reply());
+            other.free();
+            outcome
+        }
     }
 }
 
