@@ -1,6 +1,6 @@
 -- Steps over the columns of cards.
-use Rattle.std.{proofs.Common.{◌≡◌, ◌≢◌, ℕ, ◌+◌, ◌-◌, ◌≤◌, ◌<◌, zero, suc, true, false, true≢false, not, ◌&&◌, cond, Some, None, List, [], ◌∷◌, ◌++◌, length, take, drop, position, refl, sym, ap, subst, ◌∙◌, arith, le-ltb, get_or}, specs.Prelude.{nat_lt, replicate, is_some, is_none}, specs.List.{list_all, position_or_len}, proofs.lemmas.Bool.ne_eqb, proofs.lemmas.List.{take_more, take-take, take-replicate, drop-replicate, take_at}}
-use Rattle.definitions.specs.{Cards.{trimmed, onto_columns, padded}, Characters.{blank, display_code_of}}
+use Rattle.std.{proofs.Common.{◌≡◌, ◌≢◌, ℕ, Bool, if◌then◌else◌, ◌+◌, ◌-◌, ◌≤◌, ◌<◌, zero, suc, true, false, true≢false, not, ◌&&◌, cond, Some, None, List, [], ◌∷◌, ◌++◌, length, take, drop, position, refl, sym, ap, subst, ◌∙◌, arith, le-ltb, get_or}, specs.Prelude.{nat_lt, replicate, is_some, is_none}, specs.List.{list_all, position_or_len}, proofs.Math.Bool.and-true, proofs.lemmas.Bool.ne_eqb, proofs.lemmas.List.Folds.list_all-append, proofs.lemmas.List.{take_more, take-take, take-replicate, drop-replicate, take_at}}
+use Rattle.definitions.specs.{Cards.{trimmed, onto_columns, padded, checked, card_of, IsCard, TooWide}, Characters.{blank, display_code_of}}
 use Rattle.cards.specs.Joins.Columns.{IsPadded}
 
 -- a blank more at the end is dropped
@@ -44,11 +44,19 @@ lawful-whole (c ∷ cs) h =
       | false ↦ λ all. absurd (true≢false (sym all))
     ] h
 
-pub none_bad : (cs : List ℕ) → list_all (λ c. is_some (display_code_of c)) cs ≡ true → None ≡ position (λ c. is_none (display_code_of c)) cs
+none_bad : (cs : List ℕ) → list_all (λ c. is_some (display_code_of c)) cs ≡ true → None ≡ position (λ c. is_none (display_code_of c)) cs
 none_bad cs h =
     let whole = lawful-whole cs h in
     let all = length cs in
     sym (ap (λ n. cond (nat_lt n all) (Some n) None) whole ∙ ap (λ t. cond t (Some all) None) (le-ltb all all (omega arith)))
+
+-- a card that is read of lawful columns
+pub lawful-read : (line columns : List ℕ) → columns ≡ trimmed line → length columns ≤ 80 → list_all (λ c. is_some (display_code_of c)) columns ≡ true → IsCard columns ≡ card_of line
+lawful-read line columns e room h =
+    let place = position (λ c. is_none (display_code_of c)) columns in
+    ap (checked columns) (none_bad columns h)
+    ∙ ap (λ t. if t then TooWide else checked columns place) (sym (le-ltb 80 (length columns) room))
+    ∙ ap (λ l. if nat_lt 80 (length l) then TooWide else checked l (position (λ c. is_none (display_code_of c)) l)) e
 
 -- as many blanks as are wanted are enough
 blanks-enough : (n few many : ℕ) (cs : List ℕ) → n ≤ few → few ≤ many → take n (cs ++ replicate many blank) ≡ take n (cs ++ replicate few blank)
@@ -67,6 +75,18 @@ padded-whole zero n (c ∷ cs) room more = absurd (omega arith)
 padded-whole (suc m) n (c ∷ cs) room more =
     ap (λ l. c ∷ l) (padded-whole m n cs (omega arith) (omega arith))
     ∙ ap (λ k. c ∷ (cs ++ replicate k blank)) (let e : m - length cs ≡ suc m - suc (length cs) = omega arith in e)
+
+-- blanks are lawful
+lawful-blanks : (n : ℕ) → list_all (λ c. is_some (display_code_of c)) (replicate n blank) ≡ true
+lawful-blanks zero = refl
+lawful-blanks (suc n) = lawful-blanks n
+
+-- so a padded card is lawful where its columns are
+pub lawful-padded : (cs : List ℕ) → length cs ≤ 80 → list_all (λ c. is_some (display_code_of c)) (padded 80 cs) ≡ list_all (λ c. is_some (display_code_of c)) cs
+lawful-padded cs room =
+    let all : List ℕ → Bool = list_all (λ c. is_some (display_code_of c)) in
+    ap all (padded-whole 80 80 cs room (omega arith)) ∙ list_all-append (λ c. is_some (display_code_of c)) cs (replicate (80 - length cs) blank)
+    ∙ ap (λ b. all cs && b) (lawful-blanks (80 - length cs)) ∙ and-true (all cs)
 
 -- columns that stand in front of the blanks of a new card
 pub IsPadded-copied : (text front back : List ℕ) → length text ≤ 80 → front ≡ text → back ≡ drop (length text) (replicate 80 blank) → IsPadded (length text) (front ++ back)

@@ -1,6 +1,6 @@
 -- The steps of reading a variable field.
-use Rattle.std.proofs.{Common.{ℕ, zero, suc, ◌≡◌, ◌+◌, inl, inr, List, [], ◌∷◌, Bool, false, if◌then◌else◌, length, take, drop, refl, sym, ◌∙◌, ap, subst, arith, drop-drop, codes}, lemmas.Bool.Decides.eqb_tells}
-use Rattle.definitions.{specs.Characters.{blank, same_text}, specs.Pieces.{Spot, AtStart, begun_at, spot_behind, left_of, field_at}, specs.Fields.variable_of, proofs.FieldLaws.{field_at-blank, field_at-other}}
+use Rattle.std.proofs.{Common.{ℕ, zero, suc, ◌≡◌, ◌≢◌, ◌==◌, ◌+◌, ◌-◌, ◌<◌, ◌≤◌, inl, inr, List, [], ◌∷◌, Bool, true, false, true≢false, Option, Some, None, is_some, if◌then◌else◌, length, take, drop, get_or, refl, sym, ◌∙◌, ap, subst, arith, ne_eqb, codes}, lemmas.Bool.Decides.eqb_tells, lemmas.List.at_drop_more}
+use Rattle.definitions.{specs.Characters.{blank, comma, plus, minus, star, slash, equals, same_text}, specs.CountedItems.{CountedSpan, counted_item_at}, specs.Pieces.{Spot, AtStart, AtEquals, Inside, Mark, Comma, Plus, Minus, Star, Slash, Equals, ByMark, mark_of, begun_by, begun_by_counted_item, begun_at, spot_behind, left_of, field_at}, specs.Fields.variable_of, proofs.FieldLaws.{field_at-blank, field_at-other}}
 
 -- a field begins its text
 pub take-field_at : (spot : Spot) (left : ℕ) (text : List ℕ) → take (length (field_at spot left text)) text ≡ field_at spot left text
@@ -15,15 +15,93 @@ take-field_at spot zero (c ∷ cs) =
           (ap (λ (t : List ℕ). c ∷ t) (take-field_at (spot_behind (begun_at spot c cs)) (left_of (begun_at spot c cs)) cs))
     ]
 
--- one character more of a field
-pub extent-next : (i whole : ℕ) (text part : List ℕ) (now next : List ℕ → ℕ) → part ≡ drop i text → i + now (drop i text) ≡ whole →
-    now part ≡ 1 + next (drop 1 part) → (i + 1) + next (drop (i + 1) text) ≡ whole
-extent-next i whole text part now next e h k =
-    let P : List ℕ → Type 0 = λ p. now p ≡ 1 + next (drop 1 p) in
-    by (now (drop i text)) (next (drop 1 (drop i text))) (next (drop (i + 1) text)) h (subst P e k) (ap next (drop-drop 1 i text))
-  where
-    by : (a b c : ℕ) → i + a ≡ whole → a ≡ 1 + b → b ≡ c → (i + 1) + c ≡ whole
-    by a b c h k e = omega arith
+nothing-more : (n : ℕ) → n ≡ 0 + n
+nothing-more n = omega arith
+
+one-more : (n : ℕ) → suc n ≡ 1 + n
+one-more n = omega arith
+
+behind-one : (all len rest : ℕ) → all ≡ len + rest → suc all ≡ suc len + rest
+behind-one all len rest h = omega (arith, h)
+
+-- a field of which so many characters belong to an item
+field_at-item : (left : ℕ) (text : List ℕ) → left ≤ length text → length (field_at Inside left text) ≡ left + length (field_at Inside 0 (drop left text))
+field_at-item zero text h = nothing-more (length (field_at Inside 0 text))
+field_at-item (suc left) [] h = absurd (omega (arith, h))
+field_at-item (suc left) (c ∷ cs) h =
+    behind-one (length (field_at Inside left cs)) left (length (field_at Inside 0 (drop left cs))) (field_at-item left cs (omega (arith, h)))
+
+-- the rest of an item behind its first character
+item-rest : (taken left c : ℕ) (cs : List ℕ) → suc left ≡ taken → left ≤ length cs →
+    suc (length (field_at Inside left cs)) ≡ taken + length (field_at Inside 0 (drop taken (c ∷ cs)))
+item-rest taken left c cs e within =
+    subst (λ (n : ℕ). suc (length (field_at Inside left cs)) ≡ n + length (field_at Inside 0 (drop n (c ∷ cs)))) e
+    (behind-one (length (field_at Inside left cs)) left (length (field_at Inside 0 (drop left cs))) (field_at-item left cs within))
+
+-- a field that an item begins
+pub item-begins : (text : List ℕ) (counted : CountedSpan) → counted_item_at text ≡ Some counted → 0 < counted.taken → counted.taken ≤ length text →
+    length (field_at AtEquals 0 text) ≡ counted.taken + length (field_at Inside 0 (drop counted.taken text))
+item-begins [] counted e some within = absurd (omega (arith, some, within))
+item-begins (c ∷ cs) counted e some within =
+    let other : c ≢ blank = λ h. absurd (true≢false (ap is_some (sym e ∙ ap (λ (d : ℕ). counted_item_at (d ∷ cs)) h))) in
+    ap length (field_at-other AtEquals c cs other)
+    ∙ ap (λ (o : Option CountedSpan). suc (length (field_at (spot_behind (begun_by_counted_item c o)) (left_of (begun_by_counted_item c o)) cs))) e
+    ∙ item-rest counted.taken (counted.taken - 1) c cs (omega (arith, some)) (omega (arith, some, within))
+
+-- a field that no item begins
+pub no-item-begins : (text : List ℕ) → counted_item_at text ≡ None → length (field_at AtEquals 0 text) ≡ 0 + length (field_at Inside 0 text)
+no-item-begins [] e = refl
+no-item-begins (c ∷ cs) e =
+    ap (λ (o : Option CountedSpan). length (if c == blank then [] else c ∷ field_at (spot_behind (begun_by_counted_item c o)) (left_of (begun_by_counted_item c o)) cs)) e
+    ∙ nothing-more (length (field_at Inside 0 (c ∷ cs)))
+
+-- a field that no equals sign begins
+pub no-equals-begins : (c : ℕ) (cs : List ℕ) → c ≢ equals → field_at AtStart 0 (c ∷ cs) ≡ field_at AtEquals 0 (c ∷ cs)
+no-equals-begins c cs h =
+    let counted = begun_by_counted_item c (counted_item_at (c ∷ cs)) in
+    ap (λ (t : Bool). let begun = if t then ByMark Equals else counted in if c == blank then [] else c ∷ field_at (spot_behind begun) (left_of begun) cs) (ne_eqb c equals h)
+
+-- what follows a mark
+mark-begins : (c : ℕ) (cs : List ℕ) (by_comma by_plus by_minus by_star by_slash : Bool) →
+    let mark = if by_comma then Some Comma else if by_plus then Some Plus else if by_minus then Some Minus else if by_star then Some Star else if by_slash then Some Slash else None in
+    is_some mark ≡ true → field_at (spot_behind (begun_by c mark)) (left_of (begun_by c mark)) cs ≡ field_at AtStart 0 cs
+mark-begins c cs true _ _ _ _ h = refl
+mark-begins c cs false true _ _ _ h = refl
+mark-begins c cs false false true _ _ h = refl
+mark-begins c cs false false false true _ h = refl
+mark-begins c cs false false false false true h = refl
+mark-begins c cs false false false false false h = absurd (true≢false (sym h))
+
+-- what follows another character
+other-begins : (c : ℕ) (cs : List ℕ) (mark : Option Mark) → is_some mark ≡ false →
+    field_at (spot_behind (begun_by c mark)) (left_of (begun_by c mark)) cs ≡ field_at Inside 0 cs
+other-begins c cs None h = refl
+other-begins c cs (Some mark) h = absurd (true≢false h)
+
+-- how long a field is of which so many characters were read: one character more, a mark
+pub length-mark : (text : List ℕ) (len : ℕ) → len < length text → is_some (mark_of (get_or text len 0)) ≡ true →
+    length (field_at Inside 0 (drop len text)) ≡ 1 + length (field_at AtStart 0 (drop (len + 1) text))
+length-mark text len within h =
+    let c = get_or text len 0 in
+    let cs = drop (len + 1) text in
+    let other : c ≢ blank = λ e. absurd (true≢false (sym (subst (λ (d : ℕ). is_some (mark_of d) ≡ true) e h))) in
+    ap length (at_drop_more (field_at Inside 0) text len 0 within ∙ field_at-other Inside c cs other
+    ∙ ap (λ (l : List ℕ). c ∷ l) (mark-begins c cs (c == comma) (c == plus) (c == minus) (c == star) (c == slash) h))
+    ∙ one-more (length (field_at AtStart 0 cs))
+
+-- another character
+pub length-other : (text : List ℕ) (len : ℕ) → len < length text → is_some (mark_of (get_or text len 0)) ≡ false → get_or text len 0 ≢ blank →
+    length (field_at Inside 0 (drop len text)) ≡ 1 + length (field_at Inside 0 (drop (len + 1) text))
+length-other text len within h other =
+    let c = get_or text len 0 in
+    let cs = drop (len + 1) text in
+    ap length (at_drop_more (field_at Inside 0) text len 0 within ∙ field_at-other Inside c cs other ∙ ap (λ (l : List ℕ). c ∷ l) (other-begins c cs (mark_of c) h))
+    ∙ one-more (length (field_at Inside 0 cs))
+
+-- a blank ends it
+pub length-blank : (text : List ℕ) (len : ℕ) → len < length text → get_or text len 0 ≡ blank → length (field_at Inside 0 (drop len text)) ≡ 0
+length-blank text len within h =
+    ap length (at_drop_more (field_at Inside 0) text len 0 within ∙ field_at-blank Inside (get_or text len 0) (drop (len + 1) text) h)
 
 -- the variable field of any operation but DIS
 pub variable-other : (operation rest part : List ℕ) (len : ℕ) → same_text operation (codes "DIS") ≡ false → part ≡ rest →

@@ -4,5 +4,4 @@ pub mod Spans
 pub mod Befores
 pub mod FieldParts
 pub mod CardParts
-pub mod Readings
 pub mod CarrySteps

@@ -74,9 +74,13 @@ impl Card {
         if columns.len() > COLUMNS {
             return Err(CardFault::TooWide);
         }
+        let card = Card::of_columns(columns);
+        if card.is_lawful() {
+            return Ok(card);
+        }
         match first_bad(columns) {
             Some(place) => Err(CardFault::BadCharacter { column: 1 + place }),
-            None => Ok(Card::of_columns(columns)),
+            None => Ok(card),
         }
     }
 
@@ -136,6 +140,14 @@ impl Card {
         self.len == other.len && self.columns == other.columns
     }
 
+    /// Whether all columns have a display code. The blanks behind them are looked at too, so that no
+    /// branch depends on how many there are.
+    fn is_lawful(&self) -> bool
+        ensures { result ≡ list_all (λ c. is_some (display_code_of c)) self.now }
+    {
+        are_lawful(&self.columns)
+    }
+
     /// Whether `*` in column 1 makes this a comment.
     pub fn is_comment(&self) -> bool
         ensures { result ≡ is_comment self.now }
@@ -172,13 +184,9 @@ fn trimmed_len(line: &[u8]) -> usize
 }
 
 /// The place, from 0, of the first character without a display code.
-#[tactic(auto, using(crate::proofs::ColumnSteps::none_bad))]
 fn first_bad(columns: &[u8]) -> Option<usize>
     ensures { result ≡ position (λ c. is_none (display_code_of c)) columns.now }
 {
-    if are_lawful(columns) {
-        return None;
-    }
     columns.iter().position(|c| !has_display_code(*c))
 }
 
