@@ -268,7 +268,7 @@ fn instruction_words<'a>(flagged: &FlaggedStatement<'a>, field: &Field<'_>) -> O
         Field::Short(value) => expression_words(flagged, last, value, Limit::Bits(6)),
         Field::Displacement(value) => expression_words(flagged, last, value, Limit::Jump),
         Field::Shift(value) => expression_words(flagged, last, value, Limit::Shift),
-        Field::Long(value, second) => long_words(flagged, last, value, second),
+        Field::Long(value, second) => long_words(flagged, last, value, second.expression()),
     }
 }
 
@@ -288,14 +288,14 @@ fn long_words<'a>(
     flagged: &FlaggedStatement<'a>,
     last: Part<'a>,
     value: &Expr<'_>,
-    second: &Option<Expr<'_>>,
+    second: Option<Expr<'_>>,
 ) -> Option<Found<'a>> {
     let first = first_part(flagged.statement.variable);
     if let Some(found) = expression_words(flagged, first, value, Limit::Bits(12)) {
         return Some(found);
     }
     match second {
-        Some(second) => expression_words(flagged, last, second, Limit::Bits(6)),
+        Some(second) => expression_words(flagged, last, &second, Limit::Bits(6)),
         None => None,
     }
 }

@@ -110,7 +110,7 @@ impl Mentions {
             | Field::Wide(value) => self.note_expression(value, card),
             Field::Long(value, second) => {
                 self.note_expression(value, card)?;
-                self.note_second(second, card)
+                self.note_second(&second.expression(), card)
             }
         }
     }

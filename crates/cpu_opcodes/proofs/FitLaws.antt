@@ -23,10 +23,10 @@ too_few base q r b None = refl
 too_few base q r b (Some so_far) = refl
 
 -- three patterns do not fit two subfields
-pub three_of_two : (base : NumberBase) (subfields : List (List Piece)) (p q r : List ℕ) (x y : Subfield) (so_far : Match) → IsOperand base subfields (operand.Two x y) →
+pub three_of_two : (base : NumberBase) (subfields : List (List Piece)) (p q r : List ℕ) (x y : Subfield) (known : NumberBase) (so_far : Match) → IsOperand base subfields (operand.Two x y known) →
     None ≡ subfields_matched base (p ∷ q ∷ r ∷ []) subfields (Some so_far)
-three_of_two base [] p q r x y so_far h = absurd h
-three_of_two base (a ∷ []) p q r x y so_far h = absurd h
-three_of_two base (a ∷ b ∷ []) p q r x y so_far h = sym (too_few base q r b (subfield_matched base p a so_far))
-three_of_two base (a ∷ b ∷ c ∷ []) p q r x y so_far h = absurd h
-three_of_two base (a ∷ b ∷ c ∷ d ∷ e) p q r x y so_far h = absurd h
+three_of_two base [] p q r x y known so_far h = absurd h
+three_of_two base (a ∷ []) p q r x y known so_far h = absurd h
+three_of_two base (a ∷ b ∷ []) p q r x y known so_far h = sym (too_few base q r b (subfield_matched base p a so_far))
+three_of_two base (a ∷ b ∷ c ∷ []) p q r x y known so_far h = absurd h
+three_of_two base (a ∷ b ∷ c ∷ d ∷ e) p q r x y known so_far h = absurd h

@@ -66,12 +66,12 @@ one_single base (a ∷ b ∷ []) x h = absurd h
 one_single base (a ∷ b ∷ c ∷ []) x h = absurd h
 one_single base (a ∷ b ∷ c ∷ d ∷ e) x h = absurd h
 
-pub two_single : (base : NumberBase) (subfields : List (List Piece)) (x y : Subfield) → IsOperand base subfields (operand.Two x y) → single base subfields ≡ None
-two_single base [] x y h = absurd h
-two_single base (a ∷ []) x y h = absurd h
-two_single base (a ∷ b ∷ []) x y h = refl
-two_single base (a ∷ b ∷ c ∷ []) x y h = absurd h
-two_single base (a ∷ b ∷ c ∷ d ∷ e) x y h = absurd h
+pub two_single : (base : NumberBase) (subfields : List (List Piece)) (x y : Subfield) (known : NumberBase) → IsOperand base subfields (operand.Two x y known) → single base subfields ≡ None
+two_single base [] x y known h = absurd h
+two_single base (a ∷ []) x y known h = absurd h
+two_single base (a ∷ b ∷ []) x y known h = refl
+two_single base (a ∷ b ∷ c ∷ []) x y known h = absurd h
+two_single base (a ∷ b ∷ c ∷ d ∷ e) x y known h = absurd h
 
 pub three_single : (base : NumberBase) (subfields : List (List Piece)) (x y z : Subfield) → IsOperand base subfields (operand.Three x y z) → single base subfields ≡ None
 three_single base [] x y z h = absurd h

@@ -91,17 +91,17 @@ pub(crate) fn operand_fit<'e, 'a>(
     match pattern.parts() {
         Parts::One(p) => match operand {
             Operand::One(a) => next_fit(p, a, start),
-            Operand::Two(_, _) => None,
+            Operand::Two(_, _, _) => None,
             Operand::Three(_, _, _) => None,
         },
         Parts::Two(p, q) => match operand {
             Operand::One(_) => None,
-            Operand::Two(a, b) => next_fit(q, b, next_fit(p, a, start)),
+            Operand::Two(a, b, _) => next_fit(q, b, next_fit(p, a, start)),
             Operand::Three(_, _, _) => None,
         },
         Parts::Three(p, q, r) => match operand {
             Operand::One(_) => None,
-            Operand::Two(_, _) => None,
+            Operand::Two(_, _, _) => None,
             Operand::Three(a, b, c) => next_fit(r, c, next_fit(q, b, next_fit(p, a, start))),
         },
     }

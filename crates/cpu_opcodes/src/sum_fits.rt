@@ -146,7 +146,7 @@ pub(crate) fn sum_fit<'a>(
 {
     match operand {
         Operand::One(subfield) => one_fit(operation, rows, &subfield.expression),
-        Operand::Two(_, _) => None,
+        Operand::Two(_, _, _) => None,
         Operand::Three(_, _, _) => None,
     }
 }

@@ -189,7 +189,7 @@ impl Rebinding<'_> {
                 self.element_differs(Element::LocationCounter) || self.expression_differs(value)
             }
             Field::Long(value, second) => {
-                self.expression_differs(value) || self.second_differs(second)
+                self.expression_differs(value) || self.second_differs(&second.expression())
             }
         }
     }

@@ -23,6 +23,7 @@ mod symbols;
 // Expressions.
 mod element_lists;
 mod elements;
+mod expression_texts;
 mod expressions;
 mod links;
 mod plain;
@@ -74,6 +75,7 @@ pub use data_words::{DataWords, Datum};
 pub use dis_fields::{DisText, dis_text};
 pub use element_lists::{Literals, Symbols};
 pub use elements::{Element, Literal, Sign};
+pub use expression_texts::ExprText;
 pub use expressions::Expr;
 pub use forms::{Form, Names, Part, Relocation};
 pub use kept_expressions::KeptExpr;

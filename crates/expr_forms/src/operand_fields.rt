@@ -62,7 +62,7 @@ fn operand_by_subfields(text: &[u8], base: NumberBase) -> Result<Operand<'_>, Le
         return Ok(Operand::One(first));
     };
     let Some(third) = next_subfield(&mut subfields, base)? else {
-        return Ok(Operand::Two(first, second));
+        return Ok(Operand::Two(first, second, base));
     };
     if subfields.next().is_some() {
         return Err(Letter::V);

@@ -2,6 +2,7 @@
 ghost use Rattle.std.specs.Prelude.{◌≡◌};
 ghost use Rattle.expr_forms.specs.Joins.Shapes.{field_bits, shape_bits};
 
+use crate::expression_texts::ExprText;
 use crate::expressions::Expr;
 
 /// What stands behind the digits of an instruction: the first three of a central one, the others of
@@ -24,8 +25,8 @@ pub enum Field<'a> {
     Shift(Expr<'a>),
     /// 18 bits: d and a second word.
     Wide(Expr<'a>),
-    /// m in a second word, and d, 0 where it is not written.
-    Long(Expr<'a>, Option<Expr<'a>>),
+    /// m in a second word, and the text of d, 0 where it is not written.
+    Long(Expr<'a>, ExprText<'a>),
 }
 
 /// An instruction: its octal digits as a number, how many they are, and the field behind them.

@@ -46,7 +46,7 @@ fn subfields(answer: &mut Answer, mut subfields: Subfields<'_>) {
 fn operands(answer: &mut Answer, found: &Operand<'_>) {
     match found {
         Operand::One(first) => answer.quoted(first.text),
-        Operand::Two(first, second) => {
+        Operand::Two(first, second, _) => {
             answer.quoted(first.text);
             answer.quoted(second.text)
         }

@@ -5,7 +5,7 @@ use crate::expression_topics::form;
 use crate::outputs::Answer;
 use definitions::{DeckKind, Letter, NumberBase};
 use expr_forms::{
-    CountedItem, Expr, Field, Shape, characters_number, coded_in, counted_item_in,
+    CountedItem, Expr, ExprText, Field, Shape, characters_number, coded_in, counted_item_in,
     counted_item_word, item_literal, item_number,
 };
 use statement_coder::{Content, InstructionItems, Item};
@@ -73,7 +73,11 @@ pub fn shape_of(text: &str) -> Option<Shape<'_>> {
         "absent" => (0, 5, Field::Absent),
         "address" => (0, 4, Field::Address(first)),
         "short" => (0, 2, Field::Short(first)),
-        "long" => (0o50, 2, Field::Long(first, None)),
+        "long" => (
+            0o50,
+            2,
+            Field::Long(first, ExprText::new(&[], NumberBase::Decimal)),
+        ),
         _ => return None,
     };
     Some(Shape {

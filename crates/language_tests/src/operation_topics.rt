@@ -122,8 +122,8 @@ fn field_word(field: &Field<'_>) -> &'static str {
         Field::Displacement(_) => "displacement",
         Field::Shift(_) => "shift",
         Field::Wide(_) => "wide",
-        Field::Long(_, Some(_)) => "long,d",
-        Field::Long(_, None) => "long",
+        Field::Long(_, d) if d.expression().is_some() => "long,d",
+        Field::Long(_, _) => "long",
     }
 }
 

@@ -13,8 +13,8 @@ ghost use Rattle.ppu_opcodes.specs.Joins.PeripheralShapes.{IsFound, IsFieldOf, f
 
 use crate::code::Form;
 use crate::table::row_of;
-use definitions::Letter;
-use expr_forms::{Expr, Field, Operand, Shape, Subfield};
+use definitions::{Letter, NumberBase};
+use expr_forms::{Expr, ExprText, Field, Operand, Shape, Subfield};
 
 /// The expression of a subfield, if it has neither registers nor literals.
 fn plain_value<'a>(subfield: &Subfield<'a>) -> Option<Expr<'a>>
@@ -46,14 +46,13 @@ fn long_field<'a>(operand: &Operand<'a>) -> Option<Field<'a>>
     match operand {
         Operand::One(first) => {
             let m = plain_value(first)?;
-            Some(Field::Long(m, None))
+            Some(Field::Long(m, ExprText::new(&[], NumberBase::Decimal)))
         }
-        Operand::Two(first, second) => {
+        Operand::Two(first, second, base) if second.expression.is_plain(false) => {
             let m = plain_value(first)?;
-            let d = plain_value(second)?;
-            Some(Field::Long(m, Some(d)))
+            Some(Field::Long(m, ExprText::new(second.text, *base)))
         }
-        Operand::Three(_, _, _) => None,
+        _ => None,
     }
 }
 

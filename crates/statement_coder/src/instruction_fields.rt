@@ -16,7 +16,7 @@ use crate::numbers::BlockBases;
 use crate::six_bits::{count_item, displacement_item, shift_item};
 use crate::values::expression_item;
 use definitions::DeckKind;
-use expr_forms::{Expr, Field, Names, Shape};
+use expr_forms::{ExprText, Field, Names, Shape};
 
 /// The fields of an instruction from left to right: its digits, and up to two behind them.
 #[derive(Clone, Copy)]
@@ -31,15 +31,15 @@ fn second_value<B: BlockBases, N: Names>(
     kind: DeckKind,
     bases: &B,
     names: &N,
-    d: &Option<Expr<'_>>,
+    d: &ExprText<'_>,
 ) -> Item
     ensures { (settled : List Settled) (literals : List ℕ) (statement : Settled) →
         let context = deck_with kind (B.rows bases.now) settled literals in
         AreSeen (N.names names.now) context statement →
         (m : Expression) → item_as result ≡ second_value context statement (drop 1 (long_values m d.now)) }
 {
-    match d {
-        Some(d) => expression_item(kind, bases, names, 6, d),
+    match d.expression() {
+        Some(d) => expression_item(kind, bases, names, 6, &d),
         None => known(6, 0),
     }
 }

@@ -10,10 +10,10 @@ abbrev pub IsSubfield : NumberBase → List Piece → Subfield → Type 0
 IsSubfield base pieces subfield =
     (pieces ≡ pieces_of subfield.text.now) × (expression_of base pieces ≡ Some subfield.expression) × (length subfield.text.now ≤ 711)
 
--- each of one to three subfields, in turn
+-- each of one to three subfields, in turn, two with their base
 abbrev pub IsOperand : NumberBase → List (List Piece) → code.Operand → Type 0
 IsOperand base (p ∷ []) (operand.One first) = IsSubfield base p first
-IsOperand base (p ∷ q ∷ []) (operand.Two first second) = IsSubfield base p first × IsSubfield base q second
+IsOperand base (p ∷ q ∷ []) (operand.Two first second known) = IsSubfield base p first × IsSubfield base q second × (known ≡ base)
 IsOperand base (p ∷ q ∷ r ∷ []) (operand.Three first second third) = IsSubfield base p first × IsSubfield base q second × IsSubfield base r third
 IsOperand base _ _ = ⊥
 

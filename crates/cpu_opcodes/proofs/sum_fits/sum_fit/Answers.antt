@@ -15,7 +15,7 @@ pub returns-in-Two-clause-instruction : goal.returns-in-Two-clause-instruction
 returns-in-Two-clause-instruction c base subfields h =
     sym (no_sum-fits c.args.operation.now)
     ∙ ap (λ (e : Option Expression). first_fit (map (sum_fit c.args.operation.now (sum_read e)) (sum_rows_for c.args.operation.now table.sum_rows)))
-    (sym (two_single base subfields c.in-Two.field-0 c.in-Two.field-1 (subst (λ o. IsOperand base subfields o) c.in-Two.is h)))
+    (sym (two_single base subfields c.in-Two.field-0 c.in-Two.field-1 c.in-Two.field-2 (subst (λ o. IsOperand base subfields o) c.in-Two.is h)))
 
 pub returns-in-Three-clause-instruction : goal.returns-in-Three-clause-instruction
 returns-in-Three-clause-instruction c base subfields h =
