@@ -61,7 +61,7 @@ impl FirstCards {
         sized: &SizedStatement,
         card: u32,
     ) -> Result<(), AllocError> {
-        match sized.sizing.defines() {
+        match sized.sizing.defines(kind) {
             Defines::Nothing => Ok(()),
             Defines::Symbol(_) => self.note(sized.label.as_slice(), card),
             Defines::Externals => match sized.kept.reading(kind, sized.operation) {

@@ -93,10 +93,9 @@ fn jump_words<'a>(
     if form.is_absolute() && value.unsigned_abs() <= SHORT.unsigned_abs() {
         return None;
     }
-    let here = flagged
-        .values
-        .number(flagged.sized.sizing.location())
-        .unwrap_or(0);
+    let values = &flagged.values;
+    let here = values.sizing.location(values.deck.deck.kind());
+    let here = values.number(here).unwrap_or(0);
     let says = " words away; a short jump reaches";
     out_of(text, value.saturating_sub(here), says, -SHORT, SHORT)
 }

@@ -19,8 +19,9 @@ impl<'a> Names for SeenNames<'a> {
     ghost use Rattle.std.specs.Prelude.{Ok, pos};
     ghost use Rattle.definitions.specs.Forms.{absolute};
     ghost use Rattle.deck_assembler.specs.Joins.FirstSymbols.{symbol_in};
+    ghost use Rattle.statement_coder.specs.Joins.Sizings.{location_in, origin_in};
 
-    ghost names = { λ n. record { symbol = symbol_in n.deck.now.symbols; literal = λ literal. Ok (absolute (pos 0)); location = n.sizing.now.location; origin = n.sizing.now.origin } };
+    ghost names = { λ n. record { symbol = symbol_in n.deck.now.symbols; literal = λ literal. Ok (absolute (pos 0)); location = location_in n.deck.now.kind n.sizing.now; origin = origin_in n.deck.now.kind n.sizing.now } };
 
     fn symbol(&self, name: &[u8]) -> Option<Form> {
         self.deck.symbols().value(name)
@@ -32,11 +33,11 @@ impl<'a> Names for SeenNames<'a> {
     }
 
     fn location(&self) -> Form {
-        self.sizing.location()
+        self.sizing.location(self.deck.kind())
     }
 
     fn origin(&self) -> Form {
-        self.sizing.origin()
+        self.sizing.origin(self.deck.kind())
     }
 }
 

@@ -137,7 +137,7 @@ impl Mentions {
         card: u32,
     ) -> Result<(), AllocError> {
         let read = kept_operand(statement.kind, sized.operation, &sized.kept);
-        match (&sized.sizing.defines(), &read.reading) {
+        match (&sized.sizing.defines(statement.kind), &read.reading) {
             (Defines::Symbol(_), _) => self.note(statement.location, false, card)?,
             (Defines::Externals, Reading::Names(names)) => self.note_names(names, false, card)?,
             _ => {}

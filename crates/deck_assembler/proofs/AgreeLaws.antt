@@ -3,7 +3,7 @@ use Rattle.std.proofs.Common.{◌≡◌, ℕ, ◌+◌, ◌≤◌, List, [], ◌�
 use Rattle.cards.specs.Joins.Spans.{statement_at}
 use Rattle.definitions.{specs.Cards.Card, specs.Operands.{Operand, NamesOperand}, specs.Operations.Operation, specs.Letters.in_order, specs.Settled.{Settled, Definition, defined}, specs.Settling.{View, settle, settled_all, is_known, external, externals}, specs.Statements.Statement, specs.Laws.States.{BlockState, state_after}, specs.Laws.Agreement.{Agree, early_symbols, lawful_names, unnumbered}, specs.declared.deck_kind.DeckKind.DeckKind, proofs.StateSteps.settled_all-in_use, proofs.TailLaws.{views-agree, tails-agree}}
 use Rattle.operations.specs.Joins.OperationsAs.{operation_as}
-use Rattle.statement_coder.specs.{Joins.Definitions.{defined_by, IsOfExt}, Joins.Sizings.IsSizing, declared.sizing.Sizing.Sizing, Joins.KeptReadings.IsKeptReading}
+use Rattle.statement_coder.specs.{Joins.Definitions.{defined_by, IsOfExt}, Joins.Sizings.{defines_in, IsSizing}, declared.sizing.Sizing.Sizing, Joins.KeptReadings.IsKeptReading}
 use Rattle.statement_coder.specs.declared.definitions_made.Defines as code
 use Rattle.statement_coder.specs.declared.definitions_made.Defines.TheVariants as defines
 use Rattle.deck_assembler.{specs.Joins.Agreements.{AreNamesAlike, AreExternalsAlike, AreAlikeFrom}, specs.Joins.LiteralsRead.IsBareOperand, specs.Joins.OldDecks.AreKeptFrom, specs.Joins.SizedDecks.{own_of, IsSizedStatement, AreSizedFrom}, specs.Joins.Tails.AreKeptAlike, specs.declared.sized_statement.SizedStatement.SizedStatement, proofs.OntoLaws.drop-more}
@@ -41,9 +41,9 @@ externals-later middle other earlier before (NamesOperand names) what same h = n
 externals-later middle other earlier before operand what same h = tt
 
 -- the sizing of a statement is that of one which is the same but for its number
-sizing-alike : (v w : View) (first second : Settled) (sizing : Sizing) → unnumbered first ≡ unnumbered second → AreExternalsAlike v w first.read.operand sizing.defines →
-    IsSizing v first sizing → IsSizing w second sizing
-sizing-alike v w first second sizing e h is = record {
+sizing-alike : (kind : DeckKind) (v w : View) (first second : Settled) (sizing : Sizing) → unnumbered first ≡ unnumbered second → AreExternalsAlike v w first.read.operand (defines_in kind sizing) →
+    IsSizing kind v first sizing → IsSizing kind w second sizing
+sizing-alike kind v w first second sizing e h is = record {
   block = is.block ∙ ap (λ (s : Settled). s.block) e;
   change = is.change ∙ ap (λ (s : Settled). s.change) e;
   is_placed = is.is_placed ∙ ap (λ (s : Settled). s.is_placed) e;
@@ -54,10 +54,11 @@ sizing-alike v w first second sizing e h is = record {
   setting = is.setting ∙ ap (λ (s : Settled). s.setting) e;
   location = is.location ∙ ap (λ (s : Settled). s.location) e;
   origin = is.origin ∙ ap (λ (s : Settled). s.origin) e;
-  definitions = sym (ap (λ (s : Settled). defined_by w s.read.fields.location s.read.operand sizing.defines) e)
-      ∙ sym (defined_by-alike v w first.read.fields.location first.read.operand sizing.defines h)
+  counters = λ same. is.counters (ap (λ (s : Settled). s.location) e ∙ same ∙ sym (ap (λ (s : Settled). s.origin) e));
+  definitions = sym (ap (λ (s : Settled). defined_by w s.read.fields.location s.read.operand (defines_in kind sizing)) e)
+      ∙ sym (defined_by-alike v w first.read.fields.location first.read.operand (defines_in kind sizing) h)
       ∙ is.definitions ∙ ap (λ (s : Settled). s.definitions) e;
-  externals = subst (λ (operation : Operation). IsOfExt operation sizing.defines) (ap (λ (s : Settled). s.read.operation) e) is.externals;
+  externals = subst (λ (operation : Operation). IsOfExt operation (defines_in kind sizing)) (ap (λ (s : Settled). s.read.operation) e) is.externals;
   letters = is.letters ∙ ap (λ (s : Settled). in_order s.letters) e;
 }
 
@@ -66,7 +67,7 @@ sized-alike : (kind : DeckKind) (front earlier : List Statement) (stood there : 
     IsSizedStatement kind front stood ahead sized statement → ahead ≡ drop there cards → other ≡ statement_at cards (record { start = there; count = sized.cards }) →
     unnumbered (settle kind (settled_all kind front) statement) ≡ unnumbered (settle kind (settled_all kind earlier) other) →
     state_after (settled_all kind front) ≡ state_after (settled_all kind earlier) →
-    AreExternalsAlike (λ name. defined name (settled_all kind front)) (λ name. defined name (settled_all kind earlier)) (settle kind (settled_all kind front) statement).read.operand sized.sizing.defines →
+    AreExternalsAlike (λ name. defined name (settled_all kind front)) (λ name. defined name (settled_all kind earlier)) (settle kind (settled_all kind front) statement).read.operand (defines_in kind sized.sizing) →
     IsSizedStatement kind earlier there (drop there cards) sized other
 sized-alike kind front earlier stood there ahead cards sized statement other is e o same states h =
     let first = settle kind (settled_all kind front) statement in
@@ -77,7 +78,7 @@ sized-alike kind front earlier stood there ahead cards sized statement other is 
       some = is.some;
       few = is.few;
       within = subst (λ (l : List Card). sized.cards ≤ length l) e is.within;
-      sizing = sizing-alike (λ name. defined name (settled_all kind front)) (λ name. defined name (settled_all kind earlier)) first second sized.sizing same h is.sizing;
+      sizing = sizing-alike kind (λ name. defined name (settled_all kind front)) (λ name. defined name (settled_all kind earlier)) first second sized.sizing same h is.sizing;
       number_base = is.number_base ∙ ap (λ (state : BlockState). state.number_base) states;
       operation = sym (ap (λ (s : Settled). s.read.operation) same) ∙ is.operation;
       label = is.label ∙ ap (λ (s : Settled). own_of s.read) same;
@@ -113,7 +114,7 @@ tail-kept kind cards v w middle other front earlier stood there ahead (sized ∷
     let whole = settled_all kind earlier in
     let first = settle kind all statement in
     let second = settle kind whole next in
-    let here = alike-later middle other v w all whole (early_symbols first.read) first.read.operand sized.sizing.defines a b same alike.0.early alike.0.externals in
+    let here = alike-later middle other v w all whole (early_symbols first.read) first.read.operand (defines_in kind sized.sizing) a b same alike.0.early alike.0.externals in
     let taken : statement.cards ≡ next.cards = sym are.0.cards ∙ ap (take sized.cards) e in
     let step = tails-agree kind all whole (statement ∷ []) (next ∷ []) (settled_all-in_use kind front) (settled_all-in_use kind earlier) states (taken, tt) (here.0, tt) in
     let one : unnumbered first ≡ unnumbered second = first-same (unnumbered first) (unnumbered second) step.0 in

@@ -1,7 +1,7 @@
 -- Where two decks agree, as the definitions say it, the walk over them finds that they do.
 use Rattle.std.{proofs.Common.{◌≡◌, ℕ, suc, ◌+◌, ◌<◌, ◌≤◌, inl, inr, List, [], ◌∷◌, ◌++◌, drop, take, length, refl, sym, ap, ap₂, ◌∙◌, subst, arith, append_assoc, length-append, length-take-le, take-append-drop}, specs.List.AllByRecursion, specs.Prelude.reverse, proofs.lemmas.Bool.cases_lt, proofs.lemmas.List.{length-drop, length-reverse, reverse-append}}
 use Rattle.definitions.{specs.Cards.Card, specs.DeckKinds.kind_of_statements, specs.Laws.Edits.{Edited, IsUntouched, Split, DoAgree}, specs.Operands.{Operand, NamesOperand}, specs.Operations.Operation, specs.Settled.{Settled, defined}, specs.Settling.{View, settle, settled_all}, specs.Statements.{Statement, cards_in}, specs.Laws.States.state_after, specs.Laws.Agreement.{Agree, early_symbols, own_symbols, operand_symbols, settled_tail, AgreeOnTail, HaveSameCards}, specs.declared.deck_kind.DeckKind.DeckKind, proofs.EditLaws.{agreement-lasts, cards_in-append}, proofs.NamesLaws.all-behind, proofs.TailLaws.settled_all-append}
-use Rattle.statement_coder.specs.Joins.Definitions.{IsOfExt}
+use Rattle.statement_coder.specs.Joins.{Definitions.{IsOfExt}, Sizings.{defines_in}}
 use Rattle.statement_coder.specs.declared.definitions_made.Defines as code
 use Rattle.statement_coder.specs.declared.definitions_made.Defines.TheVariants as defines
 use Rattle.deck_assembler.{specs.Joins.Agreements.{AreAlikeFrom, AreExternalsAlike}, specs.Joins.FirstSymbols.symbol_in, specs.Joins.Formers.known_in, specs.Joins.Meetings.{AgreeFrom, AreMeeting, IsShort, StandApart, WillAgreeLater}, specs.Joins.SizedDecks.AreSizedFrom, specs.Joins.Sizers.stood, specs.declared.old_deck.OldDeck.OldDeck, specs.declared.sized_statement.SizedStatement.SizedStatement, proofs.CutLaws.known-cards, proofs.OntoLaws.append-none, proofs.PieceMeetings.sized-length}
@@ -44,7 +44,7 @@ alike-from kind v w front middle stood ahead (sized ∷ rest) (statement ∷ lat
     let read = (settle kind (settled_all kind (middle ++ front)) statement).read in (
       record {
         early = early;
-        externals = names-alike v w read.operand read.operation sized.sizing.defines are.0.sizing.externals
+        externals = names-alike v w read.operand read.operation (defines_in kind sized.sizing) are.0.sizing.externals
             (all-behind (λ name. v name ≡ w name) (own_symbols read.operation read.fields.location) (operand_symbols read.operand read.operation) early);
       },
       alike-from kind v w front (statement ∷ middle) (stood + sized.cards) (drop sized.cards ahead) rest later behind others are.1 split,

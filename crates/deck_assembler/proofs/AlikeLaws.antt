@@ -1,6 +1,7 @@
 -- Where two views agree on the statements that are left of a deck, a trial finds it; and only there.
 use Rattle.std.{proofs.Common.{◌≡◌, ℕ, ◌+◌, Option, Some, List, [], ◌∷◌, ◌++◌, drop, refl, sym, ap, ◌∙◌, subst, append_assoc}, specs.Prelude.slice_get, specs.List.AllByRecursion}
 use Rattle.definitions.{specs.Cards.Card, specs.Forms.Form, specs.Operations.Operation, specs.Settled.ReadStatement, specs.Settling.{View, settle, settled_all}, specs.Statements.Statement, specs.Operands.{Operand, NamesOperand}, specs.Laws.Agreement.{Agree, early_symbols, lawful_names, own_symbols, operand_symbols}, specs.declared.deck_kind.DeckKind.DeckKind, proofs.NamesLaws.{all-front, all-behind}}
+use Rattle.statement_coder.specs.Joins.Sizings.{defines_in}
 use Rattle.statement_coder.specs.declared.definitions_made.Defines as code
 use Rattle.statement_coder.specs.declared.definitions_made.Defines.TheVariants as defines
 use Rattle.deck_assembler.specs.{Joins.Agreements.{left, DoesAgree, IsAgreeing, IsAlike, IsAlikeEver, IsAlikeOnce, AreAlikeFrom, AreExternalsAlike, AreNamesAlike, StandAlike}, Joins.DeckParts.{DeckPiece, sized_in}, Joins.FirstSymbols.symbol_in, Joins.SizedDecks.{own_of, AreSizedFrom}, declared.early_trial.Trial.Trial, declared.old_deck.OldDeck.OldDeck, declared.sized_statement.SizedStatement.SizedStatement}
@@ -93,7 +94,7 @@ all-itself kind v earlier [] statements = tt
 all-itself kind v earlier (one ∷ sized) [] = tt
 all-itself kind v earlier (one ∷ sized) (statement ∷ statements) =
     let read = (settle kind (settled_all kind earlier) statement).read in
-    (record { early = agree-itself v (early_symbols read); externals = externals-itself v read.operand one.sizing.defines }, all-itself kind v (statement ∷ earlier) sized statements)
+    (record { early = agree-itself v (early_symbols read); externals = externals-itself v read.operand (defines_in kind one.sizing) }, all-itself kind v (statement ∷ earlier) sized statements)
 
 -- where the symbols are the same, all that is left agrees
 pub same-agrees : (deck : OldDeck) (symbols : List (ℕ × Form)) → deck.symbols ≡ symbols → IsAgreeing deck symbols

@@ -1,12 +1,12 @@
 -- What stays of an old deck in an edited one of another kind: the neutral statements in front, and their lines.
-use Rattle.std.{proofs.Common.{◌≡◌, ◌∙◌, ℕ, ◌+◌, ◌-◌, ◌<◌, ◌≤◌, ◌⊎◌, inl, inr, true, true≢false, List, [], ◌∷◌, ◌++◌, Some, length, take, drop, refl, sym, ap, ap₂, subst, arith, append-nil, length-append, length-take-le}, specs.Prelude.reverse, specs.List.AllByRecursion, proofs.lemmas.Bool.cases_lt, proofs.lemmas.List.{drop-take, length-drop, length-reverse, reverse-append, reverse-reverse, take-take}}
-use Rattle.definitions.{specs.Cards.Card, specs.DeckKinds.kind_of_statements, specs.Laws.Agreement.own_symbols, specs.Operands.{Operand, operand_of}, specs.Operations.is_neutral, specs.Settled.defined, specs.Settling.{View, settle, settled_all}, specs.Statements.{Statement, cards_in}, specs.declared.deck_kind.DeckKind.DeckKind, specs.declared.deck_kind.DeckKind.TheVariants.{Rel, Abs, Periph}, specs.declared.number_base.NumberBase.NumberBase, proofs.EditLaws.cards_in-append, proofs.NamesLaws.all-behind}
+use Rattle.std.{proofs.Common.{◌≡◌, ◌∙◌, ℕ, ◌+◌, ◌-◌, ◌<◌, ◌≤◌, ◌⊎◌, inl, inr, true, true≢false, List, [], ◌∷◌, ◌++◌, Option, Some, None, length, take, drop, refl, sym, ap, ap₂, subst, arith, append-nil, length-append, length-take-le}, specs.Prelude.{reverse, unwrap_or}, specs.List.AllByRecursion, proofs.lemmas.Bool.cases_lt, proofs.lemmas.List.{drop-take, length-drop, length-reverse, reverse-append, reverse-reverse, take-take}}
+use Rattle.definitions.{specs.Cards.Card, specs.Counters.counters_at, specs.DeckKinds.kind_of_statements, specs.Forms.Form, specs.Laws.Agreement.own_symbols, specs.Operands.{Operand, operand_of}, specs.Operations.is_neutral, specs.Settled.{Settled, defined}, specs.Settling.{View, settle, settled_all}, specs.Statements.{Statement, cards_in}, specs.declared.deck_kind.DeckKind.DeckKind, specs.declared.deck_kind.DeckKind.TheVariants.{Rel, Abs, Periph}, specs.declared.number_base.NumberBase.NumberBase, proofs.EditLaws.cards_in-append, proofs.NamesLaws.all-behind}
 use Rattle.operations.specs.Joins.OperationsAs.{operation_as}
 use Rattle.definitions.specs.Operations as op
+use Rattle.statement_coder.specs.declared.definitions_made.Definition.TheVariants as definition
 use Rattle.statement_coder.specs.declared.kept_readings.KeptReading.TheVariants as kept
-use Rattle.statement_coder.specs.{Joins.Definitions.{defined_by, IsOfExt}, Joins.KeptReadings.IsKeptReading, Joins.Sizings.IsSizing, declared.kept_readings.KeptReading.KeptReading}
-use Rattle.use_blocks.specs.Joins.EffectsAs.{change_as, setting_as}
-use Rattle.deck_assembler.{specs.Joins.Agreements.{left, HaveSameEnd}, specs.Joins.DeckParts.{DeckParts, sized_in}, specs.Joins.Formers.known_in, specs.Joins.LiteralsRead.IsBareOperand, specs.Joins.Heads.{counter_of, AreHead, IsHeadDeck, IsOldDeck, IsRecounted, IsWholeDeck, BeginsBeside}, specs.Joins.Meetings.{cards_of, IsShort}, specs.Joins.OldDecks.{IsAtStage, IsInFront, IsKeptOn}, specs.Joins.SizedDecks.{own_of, IsSizedDeck, IsSizedStatement, AreSizedFrom}, specs.declared.old_deck.OldCards.OldCards, specs.declared.old_deck.OldDeck.OldDeck, specs.declared.sized_statement.SizedStatement.SizedStatement, proofs.AgreementLaws.between, proofs.CutLaws.cut-front, proofs.DueLaws.filled-short, proofs.ForwardLaws.stood-more, proofs.HeadLaws.deck-in-front, proofs.NeutralLaws.{AreNeutral, IsNeutral, base-same, counted, front-neutral, neutral-known, neutral-open, neutral-settles, neutral-told, neutral-view}, proofs.OntoLaws.{append-none, reverse-onto}}
+use Rattle.statement_coder.specs.{Joins.Definitions.{defined_by, externals_of, made_as, IsOfExt}, Joins.KeptReadings.IsKeptReading, Joins.Sizings.{location_in, origin_in, IsSizing}, declared.definitions_made.Definition.Definition, declared.kept_readings.KeptReading.KeptReading}
+use Rattle.deck_assembler.{specs.Joins.Agreements.{left, HaveSameEnd}, specs.Joins.DeckParts.{DeckParts, sized_in}, specs.Joins.Formers.known_in, specs.Joins.LiteralsRead.IsBareOperand, specs.Joins.Heads.{AreHead, IsHeadDeck, IsOldDeck, IsWholeDeck, BeginsBeside}, specs.Joins.Meetings.{cards_of, IsShort}, specs.Joins.OldDecks.{IsAtStage, IsInFront, IsKeptOn}, specs.Joins.SizedDecks.{own_of, IsSizedDeck, IsSizedStatement, AreSizedFrom}, specs.declared.old_deck.OldCards.OldCards, specs.declared.old_deck.OldDeck.OldDeck, specs.declared.sized_statement.SizedStatement.SizedStatement, proofs.AgreementLaws.between, proofs.CutLaws.cut-front, proofs.DueLaws.filled-short, proofs.ForwardLaws.stood-more, proofs.HeadLaws.deck-in-front, proofs.NeutralLaws.{counter_of, AreNeutral, IsNeutral, base-same, counted, front-neutral, neutral-known, neutral-nothing, neutral-open, neutral-settles, neutral-told, neutral-view}, proofs.OntoLaws.{append-none, reverse-onto}}
 
 -- what a neutral statement has as its operand is so in any kind
 neutral-operand : (first second : DeckKind) (base : NumberBase) (operation : op.Operation) (name text : List ℕ) → is_neutral (Some operation) ≡ true → operand_of first base operation name text ≡ operand_of second base operation name text
@@ -19,43 +19,63 @@ neutral-kept : (first second : DeckKind) (operation : op.Operation) (reading : K
 neutral-kept first second operation (kept.Spelt text) operand e h = h ∙ neutral-operand first second text.value.base operation text.value.name.items text.value.variable.items e
 neutral-kept first second operation _ operand e h = h
 
--- a neutral statement that was sized behind neutral ones is so in a deck of another kind, with other counters
-recounted-sized : (first second : DeckKind) (earlier : List Statement) (stood : ℕ) (ahead other : List Card) (sized made : SizedStatement) (statement : Statement) → AreNeutral earlier → IsNeutral statement →
-    IsRecounted (counter_of second) sized made → IsSizedStatement first earlier stood ahead sized statement → take sized.cards ahead ≡ take sized.cards other → sized.cards ≤ length other →
-    IsSizedStatement second earlier stood other made statement
-recounted-sized first second earlier stood ahead other sized made statement are neutral re is e within =
+-- what defines nothing does so with another counter
+none-defined : (v w : View) (location : List ℕ) (operand : Operand) (counter other value : Form) (what : Definition) → v ≡ w → defined_by v location operand (made_as counter value what) ≡ [] →
+    defined_by w location operand (made_as other value what) ≡ []
+none-defined v w location operand counter other value definition.Nothing e none = refl
+none-defined v w location operand counter other value definition.Counter e none = absurd cc
+none-defined v w location operand counter other value definition.Number e none = absurd cc
+none-defined v w location operand counter other value definition.Externals e none = ap (λ (view : View). externals_of view operand) (sym e) ∙ none
+
+of-ext : (operation : op.Operation) (counter other value : Form) (what : Definition) → IsOfExt operation (made_as counter value what) → IsOfExt operation (made_as other value what)
+of-ext operation counter other value definition.Nothing is = tt
+of-ext operation counter other value definition.Counter is = is
+of-ext operation counter other value definition.Number is = is
+of-ext operation counter other value definition.Externals is = is
+
+-- a neutral statement that was sized behind neutral ones is so in a deck of another kind
+neutral-sized : (first second : DeckKind) (earlier : List Statement) (stood : ℕ) (ahead other : List Card) (sized : SizedStatement) (statement : Statement) → AreNeutral earlier → IsNeutral statement →
+    IsSizedStatement first earlier stood ahead sized statement → take sized.cards ahead ≡ take sized.cards other → sized.cards ≤ length other → IsSizedStatement second earlier stood other sized statement
+neutral-sized first second earlier stood ahead other sized statement are neutral is e within =
     let before = settle first (settled_all first earlier) statement in
+    let after = settle second (settled_all second earlier) statement in
+    let sizing = sized.sizing in
     let same = neutral-settles first second earlier statement are neutral in
-    let view : Path View (λ name. defined name (settled_all second earlier)) (λ name. defined name (settled_all first earlier)) = neutral-view second earlier are ∙ sym (neutral-view first earlier are) in
-    let there : IsSizing (λ name. defined name (settled_all second earlier)) (counted (counter_of second) before) made.sizing = record {
-      block = re.block ∙ is.sizing.block;
-      change = ap change_as re.change ∙ is.sizing.change;
-      is_placed = re.is_placed ∙ is.sizing.is_placed;
-      place = re.place ∙ is.sizing.place;
-      end = re.end ∙ is.sizing.end;
-      asks = re.asks ∙ is.sizing.asks;
-      begins_run = re.begins_run ∙ is.sizing.begins_run;
-      setting = ap setting_as re.setting ∙ is.sizing.setting;
-      location = re.location;
-      origin = re.origin;
-      definitions = ap₂ (λ v what. defined_by v before.read.fields.location before.read.operand what) view re.defines ∙ is.sizing.definitions;
-      externals = subst (IsOfExt before.read.operation) (sym re.defines) is.sizing.externals;
-      letters = re.letters ∙ is.sizing.letters;
+    let itself = neutral-settles first first earlier statement are neutral in
+    let view : Path View (λ name. defined name (settled_all first earlier)) (λ name. defined name (settled_all second earlier)) = neutral-view first earlier are ∙ sym (neutral-view second earlier are) in
+    let one = is.sizing.counters (ap (λ (s : Settled). s.location) itself ∙ sym (ap (λ (s : Settled). s.origin) itself)) in
+    let stands : origin_in second sizing ≡ (counters_at second before.block before.place None).origin = λ i. (counters_at second (is.sizing.block i) (is.sizing.place i) None).origin in
+    let origin : origin_in second sizing ≡ counter_of second = stands ∙ ap (λ (s : Settled). (counters_at second s.block s.place None).origin) (sym same) ∙ ap (λ (s : Settled). s.origin) same in
+    let there : IsSizing second (λ name. defined name (settled_all second earlier)) (counted (counter_of second) before) sizing = record {
+      block = is.sizing.block;
+      change = is.sizing.change;
+      is_placed = is.sizing.is_placed;
+      place = is.sizing.place;
+      end = is.sizing.end;
+      asks = is.sizing.asks;
+      begins_run = is.sizing.begins_run;
+      setting = is.sizing.setting;
+      location = ap (λ (l : Option Form). unwrap_or l (origin_in second sizing)) one ∙ origin;
+      origin = origin;
+      counters = λ both. one;
+      definitions = none-defined _ _ before.read.fields.location before.read.operand (location_in first sizing) (location_in second sizing) sizing.value sizing.usual.definition view
+          (is.sizing.definitions ∙ neutral-nothing first earlier statement are neutral) ∙ sym (neutral-nothing first earlier statement are neutral);
+      externals = of-ext before.read.operation (location_in first sizing) (location_in second sizing) sizing.value sizing.usual.definition is.sizing.externals;
+      letters = is.sizing.letters;
     } in
     record {
       before = is.before;
-      cards = ap (λ n. take n other) re.cards ∙ sym e ∙ is.cards;
-      some = subst (λ n. 0 < n) (sym re.cards) is.some;
-      few = subst (λ n. n ≤ 10) (sym re.cards) is.few;
-      within = subst (λ n. n ≤ length other) (sym re.cards) within;
-      sizing = subst (λ settled. IsSizing (λ name. defined name (settled_all second earlier)) settled made.sizing) (sym same) there;
-      number_base = re.number_base ∙ is.number_base ∙ base-same first second earlier;
-      operation = ap (λ settled. settled.read.operation) same ∙ is.operation ∙ ap operation_as (sym re.operation);
-      label = ap₂ (λ operation label. own_symbols (operation_as operation) label) re.operation re.label ∙ is.label ∙ sym (ap (λ settled. own_of settled.read) same);
-      kept = subst (λ (operand : Operand). IsKeptReading second (operation_as made.operation) made.kept operand) (sym (ap (λ settled. settled.read.operand) same))
-          (subst (λ (both : op.Operation × KeptReading). IsKeptReading second both.0 both.1 before.read.operand) (λ i. (sym (ap operation_as re.operation) i, sym re.kept i))
-          (neutral-kept first second (operation_as sized.operation) sized.kept before.read.operand (ap (λ (o : op.Operation). is_neutral (Some o)) (sym is.operation) ∙ neutral-known first statement neutral) is.kept));
-      bare = λ b. subst IsBareOperand (sym (ap (λ settled. settled.read.operand) same)) (is.bare (sym re.bare ∙ b));
+      cards = sym e ∙ is.cards;
+      some = is.some;
+      few = is.few;
+      within = within;
+      sizing = subst (λ settled. IsSizing second (λ name. defined name (settled_all second earlier)) settled sizing) (sym same) there;
+      number_base = is.number_base ∙ base-same first second earlier;
+      operation = ap (λ settled. settled.read.operation) same ∙ is.operation;
+      label = is.label ∙ sym (ap (λ settled. own_of settled.read) same);
+      kept = subst (λ (operand : Operand). IsKeptReading second (operation_as sized.operation) sized.kept operand) (sym (ap (λ settled. settled.read.operand) same))
+          (neutral-kept first second (operation_as sized.operation) sized.kept before.read.operand (ap (λ (o : op.Operation). is_neutral (Some o)) (sym is.operation) ∙ neutral-known first statement neutral) is.kept);
+      bare = λ b. subst IsBareOperand (sym (ap (λ settled. settled.read.operand) same)) (is.bare b);
     }
 
 -- no neutral statement that ends within so many cards stands behind these
@@ -75,7 +95,7 @@ record HasHead (kind : DeckKind) (before : ℕ) (earlier : List Statement) (stoo
   stops : DoStop before (reverse given ++ earlier) rest
 
 has-head : (first second : DeckKind) (before : ℕ) (earlier : List Statement) (stood : ℕ) (ahead : List Card) (sized made : List SizedStatement) (later : List Statement) (behind : List ℕ) (others : List Statement) →
-    AreNeutral earlier → length (cards_in earlier) ≡ stood → stood ≤ before → AreSizedFrom first earlier stood ahead sized later behind others → AreHead (counter_of second) before stood sized made →
+    AreNeutral earlier → length (cards_in earlier) ≡ stood → stood ≤ before → AreSizedFrom first earlier stood ahead sized later behind others → AreHead before stood sized made →
     HasHead second before earlier stood ahead made later
 has-head first second before earlier stood ahead [] [] [] behind others are place few sized head = record {
   given = [];
@@ -112,13 +132,12 @@ has-head first second before earlier stood ahead (one ∷ sized') [] (statement 
 }
 has-head first second before earlier stood ahead (one ∷ sized') (more ∷ made) (statement ∷ later) behind others are place few sized head =
     let is = sized.0 in
-    let of = head.0 in
-    let re = head.1.0 in
+    let of = head.1.0 in
     let neutral = neutral-told first statement (ap (λ o. is_neutral (Some o)) is.operation ∙ of.neutral) in
     let moved = stood-more earlier statement ahead one.cards is.cards is.within in
     let rest = has-head first second before (statement ∷ earlier) (stood + one.cards) (drop one.cards ahead) sized' made later behind others (neutral, are) (omega (arith, moved, place)) of.within sized.1 head.1.1 in
     let whole = reverse-onto statement rest.given earlier in
-    let same = re.cards in
+    let same = ap (λ (s : SizedStatement). s.cards) head.0 in
     let less = length-drop one.cards ahead in
     let rest_within = rest.within in
     let own_within = is.within in
@@ -134,7 +153,8 @@ has-head first second before earlier stood ahead (one ∷ sized') (more ∷ made
       rest = rest.rest;
       all = ap (λ l. statement ∷ l) rest.all;
       sized = (
-        recounted-sized first second earlier stood ahead (take n ahead) one more statement are neutral re is (sym (take-take one.cards n ahead (omega (arith, same)))) (omega (arith, same, full)),
+        subst (λ (s : SizedStatement). IsSizedStatement second earlier stood (take n ahead) s statement) (sym head.0)
+            (neutral-sized first second earlier stood ahead (take n ahead) one statement are neutral is (sym (take-take one.cards n ahead (omega (arith, same)))) (omega (arith, same, full))),
         subst (λ (both : ℕ × List Card). AreSizedFrom second (statement ∷ earlier) both.0 both.1 made rest.given [] []) (λ i. (stood + sym same i, cut i)) rest.sized,
       );
       neutral = subst AreNeutral whole rest.neutral;

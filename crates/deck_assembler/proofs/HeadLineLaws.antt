@@ -5,7 +5,7 @@ use Rattle.statement_coder.specs.declared.items.Item as code
 use Rattle.deck_objects.specs.{Joins.CodedLines.{IsCoded, IsShown, IsStored, AreShown}, Joins.LineItems.{kept_from, kept_items, AreBitsOf, AreKept, AreShort}, declared.lines.CodedLine.CodedLine, declared.lines.Line.Line}
 use Rattle.deck_objects.specs.declared.lines.LineFields as kept
 use Rattle.deck_objects.specs.declared.lines.LineFields.TheVariants as fields
-use Rattle.deck_assembler.{specs.Joins.FormerLines.{shown_from, AreBeside}, specs.Joins.Formers.known_in, specs.Joins.Heads.{counter_of, cards_of_lines, AreHeadLines, IsLineOfHead}, specs.Joins.Rebindings.AreBindings, specs.declared.former_lines.FormerLines.FormerLines, proofs.ForwardLaws.stood-more, proofs.HeadDeckLaws.{DoStop, HasTop, head-top}, proofs.NeutralLaws.{AreNeutral, IsNeutral, counted, neutral-items, neutral-known, neutral-letters, neutral-settles, neutral-told}, proofs.OntoLaws.reverse-onto}
+use Rattle.deck_assembler.{specs.Joins.FormerLines.{shown_from, AreBeside}, specs.Joins.Formers.known_in, specs.Joins.Heads.{cards_of_lines, AreHeadLines, IsLineOfHead}, specs.Joins.Rebindings.AreBindings, specs.declared.former_lines.FormerLines.FormerLines, proofs.ForwardLaws.stood-more, proofs.HeadDeckLaws.{DoStop, HasTop, head-top}, proofs.NeutralLaws.{counter_of, AreNeutral, IsNeutral, counted, neutral-items, neutral-known, neutral-letters, neutral-settles, neutral-told}, proofs.OntoLaws.reverse-onto}
 
 -- what is known of a deck, as if it were of another kind
 abbrev pub context_as : DeckKind → Context → Context

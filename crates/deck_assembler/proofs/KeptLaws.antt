@@ -1,10 +1,11 @@
 -- What a line keeps of fields is those fields to whoever links.
 use Rattle.std.{proofs.Common.{◌≡◌, ◌∙◌, ℕ, ◌+◌, ◌-◌, ◌*◌, ◌≤◌, true, false, List, [], ◌∷◌, ◌++◌, length, take, drop, map, refl, ap, sym, subst, arith}, specs.Prelude.slice_get, proofs.lemmas.Bool.true≢false, proofs.lemmas.List.{drop-map, drop_at, length-map, take_all, length-drop, take-take, drop-take}}
-use Rattle.definitions.specs.{Kinds.unit_bits, Lengths.BlockRow, Operands.Operand, Operations.Operation, Settled.Settled, Settling.View, StatementItems.{Item, known}, Words.{Coded, width_of}, declared.deck_kind.DeckKind.DeckKind, Laws.Filling.{HasFields, DoFill}}
+use Rattle.definitions.specs.{Kinds.unit_bits, Lengths.BlockRow, Operands.Operand, Operations.Operation, Settled.Settled, Settling.{View, is_run}, StatementItems.{Item, known}, Words.{Coded, width_of}, declared.deck_kind.DeckKind.DeckKind, Laws.Filling.{HasFields, DoFill}}
 use Rattle.definitions.specs.Operations as op
 use Rattle.statement_coder.{specs.Joins.Items.{item_as, items_as}, specs.declared.instruction_fields.InstructionItems.InstructionItems, specs.Joins.CodedItems.{IsKept, is_zeros, stores_zeros, zeros_of}, specs.Joins.WordItems.listed_fields, specs.declared.coded.CodedItems.CodedItems, specs.declared.sizing.Sizing.Sizing, proofs.ListLaws.kept-length}
 use Rattle.statement_coder.specs.declared.items.Item as code
 use Rattle.operations.specs.Joins.OperationsAs.{operation_as}
+use Rattle.use_blocks.specs.Joins.EffectsAs.{setting_as}
 use Rattle.deck_objects.specs.{Joins.LineItems.{listed, kept_from, AreBitsOf, AreShort, AreKept}, Joins.CodedLines.{IsCoded, IsNamed}, declared.lines.LineFields.LineFields}
 use Rattle.deck_objects.specs.declared.lines.CodedLine as lines
 use Rattle.deck_objects.specs.declared.lines.LineFields.TheVariants as kept
@@ -54,23 +55,23 @@ same-bits : (fields : List Item) → AreBitsOf fields fields
 same-bits fields = record { some = λ h. h; none = λ e. e; width = refl; bits = λ linking. refl; unfit = λ layout based from. refl }
 
 -- what a line keeps are the bits of its statement
-line-bits : (kind : DeckKind) (operand : Operand) (sizing : Sizing) (items : List code.Item) (fields : LineFields) (told : List Item) → DoFill kind sizing.place sizing.end told → AreKeptAs kind operand sizing fields items told →
-    AreBitsOf (kept_from kind items sizing.place sizing.end fields) told
+line-bits : (kind : DeckKind) (operand : Operand) (sizing : Sizing) (items : List code.Item) (fields : LineFields) (told : List Item) → DoFill kind sizing.usual.place sizing.usual.end told → AreKeptAs kind operand sizing fields items told →
+    AreBitsOf (kept_from kind items sizing.usual.place sizing.usual.end fields) told
 line-bits kind operand sizing items kept.Absent told filled h = subst (λ l. AreBitsOf [] l) (sym h) (same-bits [])
 line-bits kind operand sizing items (kept.Known bits) told filled h =
-    number-bits kind operand ((sizing.end - sizing.place) * unit_bits kind) bits told h.0 (filled-width kind sizing.place sizing.end operand told filled h.0) h.1
+    number-bits kind operand ((sizing.usual.end - sizing.usual.place) * unit_bits kind) bits told h.0 (filled-width kind sizing.usual.place sizing.usual.end operand told filled h.0) h.1
 line-bits kind operand sizing items (kept.Listed first count) told filled h = subst (λ l. AreBitsOf l told) (sym h.1) (bits-listed kind operand told)
 line-bits kind operand sizing items kept.Zeros told filled h = subst (λ l. AreBitsOf (zeros_of kind sizing ∷ []) l) (sym h) (same-bits (zeros_of kind sizing ∷ []))
 
 -- and short
-line-short : (kind : DeckKind) (operand : Operand) (sizing : Sizing) (items : List code.Item) (line : lines.CodedLine) (fields : LineFields) (told : List Item) → line.place ≡ sizing.place → line.end ≡ sizing.end → line.fields ≡ fields →
-    DoFill kind sizing.place sizing.end told → (are_zeros fields ≡ false → AreShort (listed_fields kind operand told)) → AreKeptAs kind operand sizing fields items told → AreKept kind items line fields
+line-short : (kind : DeckKind) (operand : Operand) (sizing : Sizing) (items : List code.Item) (line : lines.CodedLine) (fields : LineFields) (told : List Item) → line.place ≡ sizing.usual.place → line.end ≡ sizing.usual.end → line.fields ≡ fields →
+    DoFill kind sizing.usual.place sizing.usual.end told → (are_zeros fields ≡ false → AreShort (listed_fields kind operand told)) → AreKeptAs kind operand sizing fields items told → AreKept kind items line fields
 line-short kind operand sizing items line kept.Absent told e f g filled short h = tt
 line-short kind operand sizing items line (kept.Known bits) told e f g filled short h =
     subst (λ (kept' : LineFields). AreShort (kept_from kind items line.place line.end kept')) (sym g)
     (subst (λ n. AreShort (known ((line.end - n) * unit_bits kind) bits ∷ [])) (sym e)
-    (subst (λ n. AreShort (known ((n - sizing.place) * unit_bits kind) bits ∷ [])) (sym f)
-    (number-short kind operand ((sizing.end - sizing.place) * unit_bits kind) bits told (filled-width kind sizing.place sizing.end operand told filled h.0) h.1)))
+    (subst (λ n. AreShort (known ((n - sizing.usual.place) * unit_bits kind) bits ∷ [])) (sym f)
+    (number-short kind operand ((sizing.usual.end - sizing.usual.place) * unit_bits kind) bits told (filled-width kind sizing.usual.place sizing.usual.end operand told filled h.0) h.1)))
 line-short kind operand sizing items line (kept.Listed first count) told e f g filled short h = (h.0, subst AreShort (sym h.1) (short refl))
 line-short kind operand sizing items line kept.Zeros told e f g filled short h = tt
 
@@ -87,12 +88,12 @@ zero-operation _ e = absurd (true≢false (sym e))
 
 -- the line of a statement of which so much is known
 pub line-coded : (kind : DeckKind) (rows : List BlockRow) (view : View) (settled : Settled) (sizing : Sizing) (told : CodedItems) (before after items : List code.Item) (fields : List Item) (line : lines.CodedLine) →
-    operation_as line.operation ≡ settled.read.operation → IsNamed (slice_get rows line.block) settled.block → line.place ≡ sizing.place → line.end ≡ sizing.end → line.begins_run ≡ sizing.begins_run →
+    operation_as line.operation ≡ settled.read.operation → IsNamed (slice_get rows line.block) settled.block → line.place ≡ sizing.usual.place → line.end ≡ sizing.usual.end → line.begins_run ≡ is_run (setting_as sizing.setting) →
     IsTold kind view settled sizing told before after fields → AreKeptAs kind settled.read.operand sizing line.fields items fields → are_zeros line.fields ≡ is_zeros told →
     IsCoded kind rows items line (record { settled = settled; fields = fields })
 line-coded kind rows view settled sizing told before after items fields line operation block place end begins is kept' zeros =
-    let filled : DoFill kind sizing.place sizing.end fields =
-    subst (λ n. DoFill kind n sizing.end fields) (sym is.is_sizing.place) (subst (λ n. DoFill kind settled.place n fields) (sym is.is_sizing.end) is.filled) in
+    let filled : DoFill kind sizing.usual.place sizing.usual.end fields =
+    subst (λ n. DoFill kind n sizing.usual.end fields) (sym is.is_sizing.place) (subst (λ n. DoFill kind settled.place n fields) (sym is.is_sizing.end) is.filled) in
     let alike : are_zeros line.fields ≡ stores_zeros settled.read.operation = zeros ∙ is.zeros in
     record {
       operation = operation;
@@ -101,7 +102,7 @@ line-coded kind rows view settled sizing told before after items fields line ope
       end = end ∙ is.is_sizing.end;
       begins_run = begins ∙ is.is_sizing.begins_run;
       fields = subst (λ n. AreBitsOf (kept_from kind items n line.end line.fields) fields) (sym place)
-          (subst (λ n. AreBitsOf (kept_from kind items sizing.place n line.fields) fields) (sym end)
+          (subst (λ n. AreBitsOf (kept_from kind items sizing.usual.place n line.fields) fields) (sym end)
           (line-bits kind settled.read.operand sizing items line.fields fields filled kept'));
       kept = line-short kind settled.read.operand sizing items line line.fields fields place end refl filled (λ e. is.short (sym alike ∙ e)) kept';
       zeros = (λ e. zero-operation settled.read.operation (sym alike ∙ ap are_zeros e), λ e. zero-fields line.fields (alike ∙ ap stores_zeros e));

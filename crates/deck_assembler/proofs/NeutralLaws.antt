@@ -1,8 +1,7 @@
 -- Neutral statements settle alike in every kind of deck but for their two counters, and decks of two kinds begin alike by neutral ones alone.
 use Rattle.std.{proofs.Common.{◌≡◌, ◌∙◌, ℕ, codes, ◌⊎◌, inl, inr, Bool, true, false, ◌&&◌, List, [], ◌∷◌, ◌++◌, Option, Some, None, map, flat_map, refl, sym, ap, ap₂, subst, if◌then◌else◌, append_assoc}, specs.Prelude.{reverse, nat_le, ◌||◌}, specs.List.AllByRecursion, proofs.lemmas.Bool.true≢false, proofs.lemmas.List.{map-append, reverse-append}, specs.Option.option_or}
-use Rattle.definitions.{specs.Blocks.{changes, open_names, block_in_use, blocks_used, nominal}, specs.Characters.same_text, specs.Counters.counting_in, specs.DeckKinds.{is_end, has_end, kind_made, kind_of, kind_of_statements, number_base_after}, specs.Fields.{Fields, fields_of}, specs.Forms.Form, specs.Letters.{entry_letters, letters_of}, specs.Operands.{Operand, Unread, BadOperand, base_operand, operand_of}, specs.Operations.{Operation, is_neutral, operation_of, or_instruction, is_instruction_name, pseudo_among, pseudo_instructions}, specs.Places.{no_position, position_in}, specs.Settled.{Settled, NoChange, Unchanged, defined, defined_in}, specs.Settling.{Seen, View, seen_of, number_base_of, all_neutral, settle, settled_all, settled_from, settled_read}, specs.StatementItems.{Context, Item, items_of, operand_items}, specs.Statements.Statement, specs.declared.deck_kind.DeckKind.DeckKind, specs.declared.deck_kind.DeckKind.TheVariants.{Rel, Abs, Periph}, specs.declared.letter.Letter.Letter, specs.declared.number_base.NumberBase.NumberBase, proofs.TextLaws.same_text-true}
+use Rattle.definitions.{specs.Blocks.{changes, open_names, block_in_use, blocks_used, nominal}, specs.Characters.same_text, specs.Counters.{counters_at, counting_in}, specs.DeckKinds.{is_end, has_end, kind_made, kind_of, kind_of_statements, number_base_after}, specs.Fields.{Fields, fields_of}, specs.Forms.Form, specs.Letters.{entry_letters, letters_of}, specs.Operands.{Operand, Unread, BadOperand, base_operand, operand_of}, specs.Operations.{Operation, is_neutral, operation_of, or_instruction, is_instruction_name, pseudo_among, pseudo_instructions}, specs.Places.{no_position, position_in}, specs.Settled.{Settled, NoChange, Unchanged, defined, defined_in}, specs.Settling.{Seen, View, seen_of, number_base_of, all_neutral, settle, settled_all, settled_from, settled_read}, specs.StatementItems.{Context, Item, items_of, operand_items}, specs.Statements.Statement, specs.declared.deck_kind.DeckKind.DeckKind, specs.declared.deck_kind.DeckKind.TheVariants.{Rel, Abs, Periph}, specs.declared.letter.Letter.Letter, specs.declared.number_base.NumberBase.NumberBase, proofs.TextLaws.same_text-true}
 use Rattle.definitions.specs.Operations as op
-use Rattle.deck_assembler.specs.Joins.Heads.{counter_of}
 
 -- whether a statement may stand in front of ABS and PERIPH
 abbrev pub IsNeutral : Statement → Type 0
@@ -10,6 +9,10 @@ IsNeutral statement = is_neutral (pseudo_among (fields_of statement.cards).opera
 
 abbrev pub AreNeutral : List Statement → Type 0
 AreNeutral statements = AllByRecursion IsNeutral statements
+
+-- both counters of a neutral statement, in front of which stand neutral ones alone
+abbrev pub counter_of : DeckKind → Form
+counter_of kind = (counters_at kind nominal 0 None).origin
 
 -- a settled statement with other counters
 abbrev pub counted : Form → Settled → Settled
@@ -219,6 +222,10 @@ neutral-settles first second earlier statement are is =
     two
     ∙ ap₂ (λ base neutral. counted (counter_of second) (closed Rel base neutral statement plain.operation plain.operand)) (base-same second first earlier) (sym same)
     ∙ sym (ap (counted (counter_of second)) one)
+
+-- they define nothing
+pub neutral-nothing : (kind : DeckKind) (earlier : List Statement) (statement : Statement) → AreNeutral earlier → IsNeutral statement → (settle kind (settled_all kind earlier) statement).definitions ≡ []
+neutral-nothing kind earlier statement are is = (settle-calm kind (settled_all kind earlier) statement (plain-of statement is) (calm-behind kind earlier are)).definitions
 
 -- which operations are neutral
 pub neutral-known : (kind : DeckKind) (statement : Statement) → IsNeutral statement → is_neutral (Some (operation_of kind (fields_of statement.cards).operation)) ≡ true

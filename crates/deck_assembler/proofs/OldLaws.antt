@@ -1,6 +1,7 @@
 -- One statement after the other of a deck that an edited one is made of.
 use Rattle.std.{proofs.Common.{◌≡◌, ℕ, ◌+◌, ◌-◌, ◌≤◌, List, [], ◌∷◌, ◌++◌, drop, length, sym, ap, ap₂, ◌∙◌, subst, arith, append_assoc}, specs.Prelude.reverse, proofs.lemmas.List.{length-drop, reverse-append}}
 use Rattle.definitions.{specs.Cards.Card, specs.Settled.defined, specs.Forms.Form, specs.Settling.{View, settle, settled_all}, specs.Statements.Statement, specs.Laws.States.{Effect, state_after, effect_of, advanced}, specs.declared.deck_kind.DeckKind.DeckKind, proofs.StateSteps.{state_after-step, settled_all-in_use}}
+use Rattle.statement_coder.specs.Joins.Sizings.{defines_in}
 use Rattle.deck_assembler.{specs.Joins.Agreements.{HasFront, HaveSameEnd, IsOfSameDeck, IsSameFront}, specs.Joins.FirstSymbols.{symbol_in, with_defined, IsLawfulOperand}, specs.Joins.Formers.known_in, specs.Joins.SizedDecks.{IsSizedStatement, AreSizedFrom}, specs.declared.old_deck.OldDeck.OldDeck, specs.declared.old_deck.Stage.Stage, specs.declared.sized_statement.SizedStatement.SizedStatement, proofs.DefinitionLaws.defined-step, proofs.ForwardLaws.stood-more, proofs.OntoLaws.drop-more}
 
 -- a statement that was sized, and those behind it
@@ -40,7 +41,7 @@ pub front-step : (cards : List Card) (sized : SizedStatement) (later : List Size
     let settled = settle old.kind (settled_all old.kind has.front) next.statement in
     new.kind ≡ old.kind → new.ahead.now ≡ drop sized.cards old.ahead.now → effect ≡ effect_of old.kind settled → new.state ≡ advanced effect old.state →
     IsLawfulOperand settled.read.operand →
-    symbol_in new.symbols ≡ with_defined settled.read.fields.location settled.read.operand sized.sizing.defines (symbol_in old.symbols) → HasFront cards later new
+    symbol_in new.symbols ≡ with_defined settled.read.fields.location settled.read.operand (defines_in old.kind sized.sizing) (symbol_in old.symbols) → HasFront cards later new
 front-step cards sized later old new has effect kind ahead made state lawful symbols =
     let next = next-of cards sized later old has in
     let all = settled_all old.kind has.front in
@@ -62,8 +63,8 @@ front-step cards sized later old new has effect kind ahead made state lawful sym
           (subst (λ (l : List Card). AreSizedFrom old.kind (next.statement ∷ has.front) (has.stood + sized.cards) l later next.statements has.behind has.others) more next.are);
       state = state ∙ ap₂ advanced made has.state ∙ sym (state_after-step old.kind settled all (settled_all-in_use old.kind (next.statement ∷ has.front)))
           ∙ ap (λ (k : DeckKind). state_after (settled_all k (next.statement ∷ has.front))) (sym kind);
-      symbols = symbols ∙ ap (with_defined settled.read.fields.location settled.read.operand sized.sizing.defines) has.symbols
-          ∙ defined-step old.kind all next.statement sized.sizing.defines lawful next.is.sizing.definitions
+      symbols = symbols ∙ ap (with_defined settled.read.fields.location settled.read.operand (defines_in old.kind sized.sizing)) has.symbols
+          ∙ defined-step old.kind all next.statement (defines_in old.kind sized.sizing) lawful next.is.sizing.definitions
           ∙ ap {B = View} (λ (k : DeckKind). λ name. defined name (settled_all k (next.statement ∷ has.front))) (sym kind);
     }
 

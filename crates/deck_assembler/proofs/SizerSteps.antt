@@ -3,7 +3,7 @@ use Rattle.std.{proofs.Common.{◌≡◌, ℕ, Bool, true, false, List, ◌∷�
 use Rattle.definitions.{specs.Blocks.{block_in_use, is_accepted, change_of}, specs.Cards.Card, specs.Literals.{operand_literals, with_literals}, specs.Operands.{Operand, UseName, UseBefore, operand_of}, specs.Settled.{BlockChange, NoChange, Opens, defined}, specs.Settling.{View, Seen, seen_of, number_base_of, settle, settled_all, settled_from, settled_read}, specs.Statements.Statement, specs.Laws.Agreement.own_symbols, specs.Laws.States.{BlockState, Effect, state_after, seen_from, effect_of, advanced, lengths_advanced, names_of_blocks}, specs.declared.deck_kind.DeckKind.DeckKind, specs.declared.number_base.NumberBase.NumberBase, proofs.StateSteps.{seen_of-state, state_after-step, lengths_of-step, settled_all-in_use}}
 use Rattle.operations.specs.Joins.OperationsAs.{operation_as}
 use Rattle.use_blocks.specs.Joins.{Changes.IsAccepted, EffectsAs.change_as}
-use Rattle.statement_coder.{specs.Joins.KeptReadings.IsKeptReading, specs.Joins.Readings.IsReading, specs.Joins.Sizings.{read_as, IsSizing}, specs.Joins.StatementsRead.IsRead, specs.declared.sizing.Sizing.Sizing, proofs.ReadLaws.settled-sizing}
+use Rattle.statement_coder.{specs.Joins.KeptReadings.IsKeptReading, specs.Joins.Readings.IsReading, specs.Joins.Sizings.{defines_in, read_as, IsSizing}, specs.Joins.StatementsRead.IsRead, specs.declared.sizing.Sizing.Sizing, proofs.ReadLaws.settled-sizing}
 use Rattle.statement_coder.specs.declared.readings.Reading as readings
 use Rattle.statement_coder.specs.declared.statement.Statement as statements
 use Rattle.deck_assembler.{specs.Joins.FirstSymbols.with_defined, specs.Joins.LiteralsRead.IsBareOperand, specs.Joins.PieceSteps.{with_statement, sized_newest}, specs.Joins.Sizers.{stood, ahead, IsNext, IsNoted, AreSized, HaveStates, AreFilledNewest, IsSizer}, specs.Joins.SharedNames.with_new_by, specs.Joins.SizedDecks.{own_of, IsSizedStatement}, specs.declared.sized_statement.SizedStatement.SizedStatement, specs.declared.sizer.Sizer.Sizer, proofs.DefinitionLaws.defined-step, proofs.ExternalLaws.externals-step, proofs.PieceSteps.{sized-step, states-step, filled-step}}
@@ -21,25 +21,25 @@ settled-operand kind earlier given code base r read e h =
 -- what was sized is what is settled
 pub settled-sized : (kind : DeckKind) (earlier : List Statement) (given : Statement) (code : statements.Statement) (state : BlockState) (view : View) (sizing : Sizing) →
     IsRead kind given.cards code → state ≡ state_after (settled_all kind earlier) → view ≡ (λ name. defined name (settled_all kind earlier)) →
-    IsSizing view (settled_read code.kind (seen_from state view) (read_as code given (operand_of code.kind state.number_base (operation_as code.operation) code.name.now code.variable.now))) sizing →
-    IsSizing (λ name. defined name (settled_all kind earlier)) (settle kind (settled_all kind earlier) given) sizing
+    IsSizing code.kind view (settled_read code.kind (seen_from state view) (read_as code given (operand_of code.kind state.number_base (operation_as code.operation) code.name.now code.variable.now))) sizing →
+    IsSizing kind (λ name. defined name (settled_all kind earlier)) (settle kind (settled_all kind earlier) given) sizing
 settled-sized kind earlier given code state view sizing read s v h =
     let all = settled_all kind earlier in
-    let from : IsSizing view (settled_from kind (seen_from state view) given) sizing = settled-sizing view (seen_from state view) kind given code sizing read h in
-    let there : IsSizing (λ name. defined name all) (settled_from kind (seen_from (state_after all) (λ name. defined name all)) given) sizing =
-    subst (λ (both : BlockState × View). IsSizing both.1 (settled_from kind (seen_from both.0 both.1) given) sizing) (λ i. (s i, v i)) from in
-    subst (λ seen. IsSizing (λ name. defined name all) (settled_from kind seen given) sizing) (sym (seen_of-state all)) there
+    let from : IsSizing kind view (settled_from kind (seen_from state view) given) sizing = settled-sizing view (seen_from state view) kind given code sizing read h in
+    let there : IsSizing kind (λ name. defined name all) (settled_from kind (seen_from (state_after all) (λ name. defined name all)) given) sizing =
+    subst (λ (both : BlockState × View). IsSizing kind both.1 (settled_from kind (seen_from both.0 both.1) given) sizing) (λ i. (s i, v i)) from in
+    subst (λ seen. IsSizing kind (λ name. defined name all) (settled_from kind seen given) sizing) (sym (seen_of-state all)) there
 
 -- what one statement does to all that is kept
 pub record IsStep (kind : DeckKind) (earlier : List Statement) (given : Statement) (effect : Effect) (sized : SizedStatement) (old new : Sizer) : Type 0 where
-  pub sizing : IsSizing (λ name. defined name (settled_all kind earlier)) (settle kind (settled_all kind earlier) given) sized.sizing
-  pub number_base : sized.sizing.number_base ≡ number_base_of (settled_all kind earlier)
+  pub sizing : IsSizing kind (λ name. defined name (settled_all kind earlier)) (settle kind (settled_all kind earlier) given) sized.sizing
+  pub number_base : sized.sizing.usual.number_base ≡ number_base_of (settled_all kind earlier)
   pub operation : (settle kind (settled_all kind earlier) given).read.operation ≡ operation_as sized.operation
   pub label : own_symbols (operation_as sized.operation) sized.label ≡ own_of (settle kind (settled_all kind earlier) given).read
   pub kept : IsKeptReading kind (operation_as sized.operation) sized.kept (settle kind (settled_all kind earlier) given).read.operand
   pub bare : sized.is_bare ≡ true → IsBareOperand (settle kind (settled_all kind earlier) given).read.operand
   pub made : effect ≡ effect_of kind (settle kind (settled_all kind earlier) given)
-  pub noted : IsNoted (settle kind (settled_all kind earlier) given).read.fields.location (settle kind (settled_all kind earlier) given).read.operand sized.sizing.defines effect old new
+  pub noted : IsNoted (settle kind (settled_all kind earlier) given).read.fields.location (settle kind (settled_all kind earlier) given).read.operand (defines_in kind sized.sizing) effect old new
   pub pieces : reverse new.pieces.items ≡ with_statement old.state sized (reverse old.pieces.items)
   pub state : new.state ≡ advanced effect old.state
 
@@ -66,11 +66,11 @@ sizer-step kind cards earlier given effect sized old new next is step =
     record {
       state = step.state ∙ ap₂ advanced step.made is.state ∙ sym (state_after-step kind settled all in_use);
       symbols =
-          step.noted.symbols ∙ ap (with_defined settled.read.fields.location settled.read.operand sized.sizing.defines) is.symbols
-          ∙ defined-step kind all given sized.sizing.defines step.noted.lawful step.sizing.definitions;
+          step.noted.symbols ∙ ap (with_defined settled.read.fields.location settled.read.operand (defines_in kind sized.sizing)) is.symbols
+          ∙ defined-step kind all given (defines_in kind sized.sizing) step.noted.lawful step.sizing.definitions;
       externals =
-          step.noted.externals ∙ (λ i. with_new_by settled.read.operand sized.sizing.defines (is.symbols i) (is.externals i))
-          ∙ externals-step all settled sized.sizing.defines step.noted.lawful step.sizing.definitions step.sizing.externals;
+          step.noted.externals ∙ (λ i. with_new_by settled.read.operand (defines_in kind sized.sizing) (is.symbols i) (is.externals i))
+          ∙ externals-step all settled (defines_in kind sized.sizing) step.noted.lawful step.sizing.definitions step.sizing.externals;
       literals = step.noted.literals ∙ ap (with_literals (operand_literals settled.read.operand)) is.literals;
       lengths =
           step.noted.lengths ∙ (λ i. lengths_advanced (block_in_use (is.state i).open_names) (step.made i) (is.lengths i))

@@ -4,11 +4,13 @@ ghost use Rattle.std.specs.Prelude.{◌≡◌, ◌≤◌, ◌∷◌, ◌++◌, [
 ghost use Rattle.definitions.specs.Operands as operands;
 ghost use Rattle.definitions.specs.Settling.{external};
 ghost use Rattle.statement_coder.specs.Joins.Readings.{IsReading};
+ghost use Rattle.statement_coder.specs.Joins.Sizings.{defines_in};
 ghost use Rattle.deck_assembler.specs.Joins.FirstSymbols.{symbol_in, with_symbol, with_externals, with_names, with_defined};
 ghost use Rattle.deck_assembler.specs.Joins.SharedNames.{with_new, with_new_by, with_new_of};
 
 use crate::operand_names::names_of;
 use crate::symbol_table::SymbolTable;
+use definitions::DeckKind;
 use expr_forms::{Form, LinkedNames, Name, Part, Relocation};
 use statement_coder::{Defines, KeptSizing, Reading};
 use std::alloc::AllocError;
@@ -96,19 +98,20 @@ pub(crate) fn define(
     }
 }
 
-/// Takes in the symbol of its location field that a sized statement defines, if it defines one: without
-/// a location field it does not.
+/// Takes in the symbol of its location field that a sized statement of a deck of this kind defines, if it
+/// defines one: without a location field it does not.
 pub(crate) fn define_own(
     symbols: &mut SymbolTable,
+    kind: DeckKind,
     location: &[u8],
     sizing: &KeptSizing,
 ) -> Result<(), AllocError>
-    ensures { OnOk result (symbol_in symbols.new ≡ with_defined location.now operands.Unread sizing.now.defines (symbol_in symbols.old)) }
+    ensures { OnOk result (symbol_in symbols.new ≡ with_defined location.now operands.Unread (defines_in kind sizing.now) (symbol_in symbols.old)) }
 {
     if location.is_empty() {
         return Ok(());
     }
-    match sizing.defines() {
+    match sizing.defines(kind) {
         Defines::Nothing => Ok(()),
         Defines::Symbol(form) => {
             symbols.define(location, form)?;

@@ -35,7 +35,7 @@ impl Trial<'_> {
             return false;
         }
         let reading = sized.kept.reading(self.kind, sized.operation);
-        let defines = sized.sizing.defines();
+        let defines = sized.sizing.defines(self.kind);
         is_operand_alike(self.first, self.second, &reading, sized.operation, defines)
     }
 

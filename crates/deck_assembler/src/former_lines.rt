@@ -6,6 +6,7 @@ ghost use Rattle.definitions.specs.Laws.Rebound.{is_rebound};
 ghost use Rattle.definitions.specs.Settled.{Settled, defined};
 ghost use Rattle.definitions.specs.StatementItems.{Context};
 ghost use Rattle.statement_coder.specs.Joins.ReadOperands.{IsReadOperand};
+ghost use Rattle.statement_coder.specs.Joins.Sizings.{location_in, origin_in};
 ghost use Rattle.deck_assembler.specs.Joins.FirstSymbols.{symbol_in};
 ghost use Rattle.deck_assembler.specs.Joins.FormerLines.{IsBare, IsMissedInFront, IsMissedInTail, IsNextInFront, IsNextInTail, IsNextLine};
 ghost use Rattle.deck_assembler.specs.Joins.Rebindings.{AreBindings};
@@ -137,13 +138,14 @@ impl FormerLine<'_> {
     ) -> bool
         ensures { (old new : Context) (settled : Settled) → AreBindings self.now.bindings old →
             symbol_in view.now.deck.now.symbols ≡ (λ name. defined name new.settled) → view.now.deck.now.literals ≡ new.literals → view.now.bases.now ≡ new.rows →
-            IsReadOperand read.now settled → sizing.now.location ≡ settled.location → sizing.now.origin ≡ settled.origin → result ≡ is_rebound old new settled }
+            IsReadOperand read.now settled → location_in view.now.deck.now.kind sizing.now ≡ settled.location → origin_in view.now.deck.now.kind sizing.now ≡ settled.origin → result ≡ is_rebound old new settled }
     {
+        let kind = view.deck.kind();
         let rebinding = Rebinding {
             old: self.bindings,
             new: view.bindings(),
-            location: sizing.location(),
-            origin: sizing.origin(),
+            location: sizing.location(kind),
+            origin: sizing.origin(kind),
         };
         rebinding.differs(read)
     }

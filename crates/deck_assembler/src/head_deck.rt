@@ -1,9 +1,9 @@
 //! The neutral statements in front of an edited card: in a deck of another kind they stay as they were
-//! sized, but for their two counters.
+//! sized.
 ghost use Rattle.std.specs.Prelude.{◌≡◌, ◌++◌, List, true, IfOk};
 ghost use Rattle.deck_assembler.specs.Joins.Agreements.{left};
 ghost use Rattle.deck_assembler.specs.Joins.DeckParts.{sized_in};
-ghost use Rattle.deck_assembler.specs.Joins.Heads.{AreHead, IsHeadDeck, IsOfHead, IsRecounted};
+ghost use Rattle.deck_assembler.specs.Joins.Heads.{AreHead, IsHeadDeck, IsOfHead};
 ghost use Rattle.deck_assembler.specs.Joins.Meetings.{cards_of};
 
 use crate::former_lines::ends_within;
@@ -12,7 +12,6 @@ use crate::pieces::Piece;
 use crate::sized_statement::SizedStatement;
 use crate::symbol_table::SymbolTable;
 use definitions::DeckKind;
-use expr_forms::Form;
 use std::alloc::{AllocError, Global};
 use std::collections::VecDeque;
 use std::hash::RandomState;
@@ -25,26 +24,6 @@ struct Head {
     cards: usize,
 }
 
-/// A statement with another value of its two counters, as in a deck of this kind: nothing of it is sized
-/// again.
-fn recounted(
-    alloc: Global,
-    sized: SizedStatement,
-    kind: DeckKind,
-    counter: Form,
-) -> Result<SizedStatement, AllocError>
-    ensures { IfOk result (IsRecounted counter sized) }
-{
-    Ok(SizedStatement {
-        cards: sized.cards,
-        operation: sized.operation,
-        label: sized.label,
-        is_bare: sized.is_bare,
-        kept: sized.kept,
-        sizing: sized.sizing.recounted(alloc, kind, counter)?,
-    })
-}
-
 /// Whether a statement behind so many cards is neutral and ends within so many.
 fn is_of_head(sized: &SizedStatement, stood: usize, before: usize) -> bool
     ensures yes { result ≡ true → IsOfHead before stood sized.now }
@@ -53,16 +32,9 @@ fn is_of_head(sized: &SizedStatement, stood: usize, before: usize) -> bool
     sized.operation.is_neutral() && ends_within(stood, sized.cards, before)
 }
 
-/// The first statements of a deck, as far as they are neutral and end within so many cards, with this
-/// value of their two counters.
-fn taken_head(
-    alloc: Global,
-    deck: &mut OldDeck<'_>,
-    before: usize,
-    kind: DeckKind,
-    counter: Form,
-) -> Result<Head, AllocError>
-    ensures head { IfOk result (λ head. AreHead counter before 0 (left deck.old) head.statements.items) }
+/// The first statements of a deck, as far as they are neutral and end within so many cards.
+fn taken_head(alloc: Global, deck: &mut OldDeck<'_>, before: usize) -> Result<Head, AllocError>
+    ensures head { IfOk result (λ head. AreHead before 0 (left deck.old) head.statements.items) }
     ensures cards { IfOk result (λ head. head.cards ≡ cards_of head.statements.items) }
 {
     let mut head = Vec::new(alloc);
@@ -75,7 +47,7 @@ fn taken_head(
                     break 'statements;
                 }
                 cards += sized.cards as usize;
-                head.push(recounted(alloc, sized, kind, counter)?)?;
+                head.push(sized)?;
             }
         }
     }
@@ -97,10 +69,8 @@ pub(crate) fn head_deck<'a>(
 ) -> Result<OldDeck<'a>, AllocError>
     ensures { IfOk result (IsHeadDeck kind old.entry.before old.entry.cards.now (sized_in pieces.items)) }
 {
-    let state = BlockState::new(alloc)?;
-    let counter = state.origin(kind, 0);
     let mut whole = OldDeck::of(alloc, keys, old, pieces, kind, Stage::Over)?;
-    let head = taken_head(alloc, &mut whole, old.before, kind, counter)?;
+    let head = taken_head(alloc, &mut whole, old.before)?;
     let ahead = old.cards.split_at(head.cards.min(old.cards.len())).0;
     Ok(OldDeck {
         kind,
@@ -110,7 +80,7 @@ pub(crate) fn head_deck<'a>(
         before: head.cards,
         behind: 0,
         stage: Stage::Front,
-        state,
+        state: BlockState::new(alloc)?,
         symbols: SymbolTable::new(alloc, keys),
         missed: None,
     })

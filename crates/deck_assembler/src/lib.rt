@@ -14,7 +14,7 @@
 //! before, but for those of which `Rebinding` finds a name bound otherwise, and counts no more than those
 //! as coded beside what lies between (`code_due`). Where all names mean the same in both decks
 //! (`Bindings::are_same`) no statement is asked. In a deck of another kind the neutral statements in front
-//! stay, with other counters (`head_deck`), and so do their lines.
+//! stay (`head_deck`), and so do their lines.
 #![tactic(auto)]
 
 // Statements in pieces.

@@ -136,7 +136,7 @@ impl<'a> OldDeck<'a> {
     {
         let statement = Statement::read(self.kind, next_cards(self.ahead, 0, sized.cards), room);
         let reading = sized.kept.reading(self.kind, sized.operation);
-        let defines = sized.sizing.defines();
+        let defines = sized.sizing.defines(self.kind);
         define(
             &mut self.symbols,
             &mut Vec::new(alloc),

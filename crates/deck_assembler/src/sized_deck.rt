@@ -80,8 +80,7 @@ impl SizedDeck {
     /// What these cards make, where so many of the first and of the last are those of the deck that this
     /// was made of. The statements of the first ones stay as they were sized, and so do all those behind
     /// the edited card from a place on where both decks agree; the others are sized once, and each that is
-    /// settled as none of the deck before counts one. Where the kind of the deck changes those in front
-    /// have other counters, and none behind stays. And what coding needs of this deck. An error where
+    /// settled as none of the deck before counts one. Where the kind of the deck changes none behind stays. And what coding needs of this deck. An error where
     /// memory runs out: then some of them were counted.
     pub fn edited(
         self,

@@ -8,6 +8,7 @@ ghost use Rattle.definitions.specs.declared.deck_kind.DeckKind as kinds;
 ghost use Rattle.operations.specs.Joins.OperationsAs.{operation_as};
 ghost use Rattle.statement_coder.specs.Joins.KeptReadings.{IsKeptReading};
 ghost use Rattle.statement_coder.specs.Joins.Readings.{IsReading, IsLawful};
+ghost use Rattle.statement_coder.specs.Joins.Sizings.{defines_in};
 ghost use Rattle.statement_coder.specs.Joins.StatementsRead.{IsRead};
 ghost use Rattle.use_blocks.specs.Joins.Changes.{IsAccepted};
 ghost use Rattle.use_blocks.specs.Joins.EffectsAs.{change_as, effect_as};
@@ -84,7 +85,12 @@ impl Sizer {
         let letters = operand_letters(alloc, keys, statement, &reading, symbols, meter)?;
         let sizing = size(alloc, statement, &reading, &letters, state, symbols, meter)?;
         let effect = sizing.effect(statement);
-        let is_bare = self.note(&reading, statement.location, sizing.defines(), &effect)?;
+        let is_bare = self.note(
+            &reading,
+            statement.location,
+            sizing.defines(statement.kind),
+            &effect,
+        )?;
         let kept = reading.kept(alloc, statement, base)?;
         let sized = SizedStatement {
             cards: count,
@@ -151,15 +157,15 @@ impl Sizer {
         requires blocks { block_names self.old.lengths ≡ names_of_blocks self.old.state.blocks }
         requires accepted { IsAccepted (change_as effect.now.change) self.old.state }
         ensures noted { OnOk result ((operand : operands.Operand) → IsKeptReading statement.now.kind (operation_as sized.now.operation) sized.now.kept operand → (sized.now.is_bare ≡ true → IsBareOperand operand) →
-            IsNoted statement.now.location.now operand sized.now.sizing.defines (effect_as effect.now) self.old self.new) }
+            IsNoted statement.now.location.now operand (defines_in statement.now.kind sized.now.sizing) (effect_as effect.now) self.old self.new) }
         ensures state { self.new.state ≡ self.old.state }
         ensures pieces { self.new.pieces ≡ self.old.pieces }
     {
         if sized.is_bare {
-            return self.note_own(sized, statement.location, effect);
+            return self.note_own(statement, sized, effect);
         }
         let reading = sized.kept.reading(statement.kind, sized.operation);
-        let defines = sized.sizing.defines();
+        let defines = sized.sizing.defines(statement.kind);
         self.note(&reading, statement.location, defines, effect)?;
         Ok(())
     }
@@ -168,17 +174,22 @@ impl Sizer {
     /// in where memory runs out.
     fn note_own(
         &mut self,
+        statement: &Statement<'_>,
         sized: &SizedStatement,
-        location: &[u8],
         effect: &Effect,
     ) -> Result<(), AllocError>
         requires blocks { block_names self.old.lengths ≡ names_of_blocks self.old.state.blocks }
         requires accepted { IsAccepted (change_as effect.now.change) self.old.state }
-        ensures noted { OnOk result ((operand : operands.Operand) → IsBareOperand operand → IsNoted location.now operand sized.now.sizing.defines (effect_as effect.now) self.old self.new) }
+        ensures noted { OnOk result ((operand : operands.Operand) → IsBareOperand operand → IsNoted statement.now.location.now operand (defines_in statement.now.kind sized.now.sizing) (effect_as effect.now) self.old self.new) }
         ensures state { self.new.state ≡ self.old.state }
         ensures pieces { self.new.pieces ≡ self.old.pieces }
     {
-        define_own(&mut self.symbols, location, &sized.sizing)?;
+        define_own(
+            &mut self.symbols,
+            statement.kind,
+            statement.location,
+            &sized.sizing,
+        )?;
         self.lengths.follow(&self.state, effect)?;
         Ok(())
     }

@@ -154,7 +154,8 @@ fn one_statement<B: BlockBases>(
     if is_coded {
         coded(answer, &read, &sizing, symbols, bases, &mut done)?;
     } else {
-        sizing_shown(answer, &sizing, &sizing.effect(&statement));
+        let effect = sizing.effect(&statement);
+        sizing_shown(answer, statement.kind, &sizing, &effect);
     }
     meter(answer, &done);
     Ok(())
@@ -184,7 +185,7 @@ fn sized(
     )
 }
 
-fn sizing_shown(answer: &mut Answer, sizing: &KeptSizing, effect: &Effect) {
+fn sizing_shown(answer: &mut Answer, kind: DeckKind, sizing: &KeptSizing, effect: &Effect) {
     answer.either(sizing.is_placed(), "placed", "-");
     match effect.position {
         Some(position) => answer.either(position.asks(), "asks", "-"),
@@ -193,7 +194,7 @@ fn sizing_shown(answer: &mut Answer, sizing: &KeptSizing, effect: &Effect) {
     answer.number(&sizing.place());
     answer.number(&sizing.end());
     answer.quoted(sizing.letters().text().as_slice());
-    defined(answer, &sizing.defines())
+    defined(answer, &sizing.defines(kind))
 }
 
 /// The code of a statement that was sized.

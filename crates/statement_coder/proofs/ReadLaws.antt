@@ -15,12 +15,12 @@ same-read kind base given fields operation f o = ap₂ (read_with kind base give
 
 -- what is settled from what was read is what the definitions settle
 pub settled-sizing : (view : View) (seen : Seen) (kind : DeckKind) (given : Statement) (code : statements.Statement) (sizing : Sizing) → IsRead kind given.cards code →
-    IsSizing view (settled_read code.kind seen (read_as code given (operand_of code.kind seen.number_base (operation_as code.operation) code.name.now code.variable.now))) sizing →
-    IsSizing view (settled_from kind seen given) sizing
+    IsSizing code.kind view (settled_read code.kind seen (read_as code given (operand_of code.kind seen.number_base (operation_as code.operation) code.name.now code.variable.now))) sizing →
+    IsSizing kind view (settled_from kind seen given) sizing
 settled-sizing view seen kind given code sizing read is =
     let fields : Fields = record { location = code.location.now; operation = code.name.now; variable = code.variable.now } in
     let same : fields ≡ fields_of given.cards = λ i. record { location = read.location i; operation = read.name i; variable = read.variable i } in
     let operation : operation_as code.operation ≡ operation_of code.kind (fields_of given.cards).operation =
     read.operation ∙ sym (ap (λ k. operation_of k (fields_of given.cards).operation) read.kind) in
-    subst (λ k. IsSizing view (settled_from k seen given) sizing) read.kind
-    (subst (λ r. IsSizing view (settled_read code.kind seen r) sizing) (same-read code.kind seen.number_base given fields (operation_as code.operation) same operation) is)
+    subst (λ k. IsSizing k view (settled_from k seen given) sizing) read.kind
+    (subst (λ r. IsSizing code.kind view (settled_read code.kind seen r) sizing) (same-read code.kind seen.number_base given fields (operation_as code.operation) same operation) is)

@@ -30,7 +30,7 @@ fn within(sizing: &KeptSizing, items: CodedItems, list: &mut Vec<Item>) -> Coded
     ensures some { is_zeros items ≡ false → is_zeros result ≡ false }
     ensures told { (kind : kinds.DeckKind) (operand : operands.Operand) (before : List fields.Item) (told : List definitions.Item) →
         AreTold kind operand sizing.now items before list.old.items told →
-        AreTold kind operand sizing.now result before list.new.items (if nat_le sizing.now.end sizing.now.place then [] else told) }
+        AreTold kind operand sizing.now result before list.new.items (if nat_le sizing.now.usual.end sizing.now.usual.place then [] else told) }
 {
     if sizing.end() <= sizing.place() {
         take_back(items, list);
@@ -59,7 +59,7 @@ fn placed(
     list: &mut Vec<Item>,
 ) -> CodedItems
     ensures zeros { is_zeros items ≡ false → is_zeros result ≡ stores_zeros (operation_as operation) }
-    ensures told { (kind : kinds.DeckKind) (view : View) (context : definitions.Context) (settled : Settled) (before : List fields.Item) → context.kind ≡ kind → IsSizing view settled sizing.now →
+    ensures told { (kind : kinds.DeckKind) (view : View) (context : definitions.Context) (settled : Settled) (before : List fields.Item) → context.kind ≡ kind → IsSizing kind view settled sizing.now →
         AreTold kind settled.read.operand sizing.now items before list.old.items (operand_items context settled settled.read.operand) →
         AreTold kind settled.read.operand sizing.now result before list.new.items (items_of context settled (operation_as operation)) }
 {
@@ -85,7 +85,11 @@ fn coded<S: FinalSymbols, B: BlockBases>(
 {
     let kind = read.kind;
     let operation = read.operation;
-    let names = FinalNames { symbols, sizing };
+    let names = FinalNames {
+        symbols,
+        kind,
+        sizing,
+    };
     let told = fields_told(kind, bases, &names, &read.reading, list)?;
     let entries = entry_letters(kind, operation, symbols, &read.reading);
     let fields = told_letters(&told, list);

@@ -15,7 +15,7 @@ use operations::Operation;
 
 /// What a statement defines, whatever the values are.
 #[derive(Clone, Copy)]
-pub(crate) enum Definition {
+pub enum Definition {
     Nothing,
     /// The symbol of its location field, as the location counter.
     Counter,
@@ -33,18 +33,6 @@ pub enum Defines {
     Symbol(Form),
     /// The names of its EXT that are new, as externals.
     Externals,
-}
-
-/// What is defined, with the location counter and the value.
-pub(crate) fn defined_with(definition: Definition, counter: Form, value: Form) -> Defines
-    ensures { result ≡ made_as counter value definition }
-{
-    match definition {
-        Definition::Nothing => Defines::Nothing,
-        Definition::Counter => Defines::Symbol(counter),
-        Definition::Number => Defines::Symbol(value),
-        Definition::Externals => Defines::Externals,
-    }
 }
 
 /// The symbol of a location field as the location counter, where it is one that is not defined before.

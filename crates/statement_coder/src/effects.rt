@@ -10,16 +10,14 @@ ghost use Rattle.definitions.specs.Statements as statements;
 ghost use Rattle.definitions.specs.declared.deck_kind.DeckKind as kinds;
 ghost use Rattle.definitions.specs.declared.number_base.NumberBase as bases;
 ghost use Rattle.use_blocks.specs.Joins.EffectsAs.{effect_as};
-ghost use Rattle.statement_coder.specs.Joins.KeptSizings.{usual_as};
 ghost use Rattle.statement_coder.specs.Joins.Sizings.{IsSizing};
 ghost use Rattle.statement_coder.specs.Joins.StatementsRead.{IsRead};
 
-use crate::sizing::Sizing;
+use crate::kept_sizing::KeptSizing;
 use crate::statement::Statement;
-use crate::usual_sizing::UsualSizing;
 use definitions::DeckKind;
 use operations::number_base_set;
-use use_blocks::{BlockChange, Effect, LocationSetting, Position};
+use use_blocks::{Effect, Position};
 
 /// How many words reach to the end of a statement.
 fn words_to(kind: DeckKind, end: u32) -> u32
@@ -53,54 +51,36 @@ fn reached_from(kind: DeckKind, is_placed: bool, place: u32, end: u32) -> u32
     }
 }
 
-impl Sizing {
+impl KeptSizing {
     /// How many words of its block the statement reaches; an ORG reaches none.
     fn reached(&self, kind: DeckKind) -> u32
-        ensures { (view : View) (settled : Settled) → IsSizing view settled self.now → result ≡ reached kind settled }
+        ensures { (view : View) (settled : Settled) → IsSizing kind view settled self.now → result ≡ reached kind settled }
     {
-        if self.begins_run {
-            0
-        } else {
-            reached_from(kind, self.is_placed, self.place, self.end)
+        if self.begins_run() {
+            return 0;
         }
+        let usual = self.usual();
+        reached_from(kind, usual.is_placed, usual.place, usual.end)
     }
 
     /// What the statement that was sized does to the state before it: exactly the definitions' effect.
     /// Its position is in units of the block, what it reaches in words. The state that it was sized
     /// from accepts its change.
-    pub(crate) fn effect(&self, statement: &Statement<'_>) -> Effect
+    #[inline(always)]
+    pub fn effect(&self, statement: &Statement<'_>) -> Effect
         ensures effect { (kind : kinds.DeckKind) (given : statements.Statement) (base : bases.NumberBase) (view : View) (settled : Settled) →
-            IsRead kind given.cards statement.now → settled.read ≡ read_of kind base given → IsSizing view settled self.now →
+            IsRead kind given.cards statement.now → settled.read ≡ read_of kind base given → IsSizing kind view settled self.now →
             effect_as result ≡ effect_of kind settled }
         ensures change { result.change ≡ self.now.change }
     {
+        let usual = self.usual();
         Effect {
-            change: self.change,
-            position: position_behind(self.is_placed, self.end, self.asks),
-            setting: self.setting,
+            change: self.change(),
+            position: position_behind(usual.is_placed, usual.end, usual.asks),
+            setting: self.setting(),
             number_base: number_base_set(statement.name, statement.variable),
             neutral: statement.operation.is_neutral(),
             reached: self.reached(statement.kind),
-        }
-    }
-}
-
-impl UsualSizing {
-    /// The same of a usual sizing.
-    #[inline(always)]
-    pub(crate) fn effect(&self, statement: &Statement<'_>) -> Effect
-        ensures effect { (kind : kinds.DeckKind) (given : statements.Statement) (base : bases.NumberBase) (view : View) (settled : Settled) →
-            IsRead kind given.cards statement.now → settled.read ≡ read_of kind base given → IsSizing view settled (usual_as self.now) →
-            effect_as result ≡ effect_of kind settled }
-        ensures change { result.change ≡ (usual_as self.now).change }
-    {
-        Effect {
-            change: BlockChange::Nothing,
-            position: position_behind(self.is_placed, self.end, self.asks),
-            setting: LocationSetting::Unchanged,
-            number_base: number_base_set(statement.name, statement.variable),
-            neutral: statement.operation.is_neutral(),
-            reached: reached_from(statement.kind, self.is_placed, self.place, self.end),
         }
     }
 }

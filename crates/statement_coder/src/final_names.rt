@@ -8,7 +8,7 @@ ghost use Rattle.definitions.specs.declared.letter.Letter as marks;
 ghost use Rattle.expr_forms.specs.Joins.Elements.{literal_as};
 
 use crate::kept_sizing::KeptSizing;
-use definitions::Letter;
+use definitions::{DeckKind, Letter};
 use expr_forms::{Form, Literal, Names};
 
 /// The values of all symbols and literals of a deck.
@@ -26,15 +26,18 @@ pub trait FinalSymbols {
         ensures { result ≡ literals self.now (literal_as literal.entry) };
 }
 
-/// What a statement sees: those symbols and literals, and its two counters.
+/// What a statement of a deck of this kind sees: those symbols and literals, and its two counters.
 #[derive(Drop)]
 pub(crate) struct FinalNames<'a, S: FinalSymbols> {
     pub(crate) symbols: &'a S,
+    pub(crate) kind: DeckKind,
     pub(crate) sizing: &'a KeptSizing,
 }
 
 impl<'a, S: FinalSymbols> Names for FinalNames<'a, S> {
-    ghost names = { λ n. record { symbol = S.symbols n.symbols.now; literal = S.literals n.symbols.now; location = n.sizing.now.location; origin = n.sizing.now.origin } };
+    ghost use Rattle.statement_coder.specs.Joins.Sizings.{location_in, origin_in};
+
+    ghost names = { λ n. record { symbol = S.symbols n.symbols.now; literal = S.literals n.symbols.now; location = location_in n.kind n.sizing.now; origin = origin_in n.kind n.sizing.now } };
 
     fn symbol(&self, name: &[u8]) -> Option<Form> {
         self.symbols.symbol(name)
@@ -45,10 +48,10 @@ impl<'a, S: FinalSymbols> Names for FinalNames<'a, S> {
     }
 
     fn location(&self) -> Form {
-        self.sizing.location()
+        self.sizing.location(self.kind)
     }
 
     fn origin(&self) -> Form {
-        self.sizing.origin()
+        self.sizing.origin(self.kind)
     }
 }

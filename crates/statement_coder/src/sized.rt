@@ -1,21 +1,20 @@
 //! What a statement is once the state before it is known.
-ghost use Rattle.std.specs.Prelude.{◌≡◌, ◌≤◌, ◌+◌, ◌-◌, ◌^◌, true, None, min, IfOk, IsOk, OnErr, OnOk};
+ghost use Rattle.std.specs.Prelude.{◌≡◌, ◌≤◌, ◌+◌, ◌-◌, ◌^◌, true, None, min, unwrap_or, IfOk, IsOk, OnErr, OnOk};
 ghost use Rattle.definitions.specs.Statements as statements;
 ghost use Rattle.definitions.specs.Statements.{is_stray};
-ghost use Rattle.definitions.specs.Counters.{counters_at};
 ghost use Rattle.definitions.specs.Operands as operands;
 ghost use Rattle.definitions.specs.Letters.{in_order};
 ghost use Rattle.definitions.specs.Operations as op;
-ghost use Rattle.definitions.specs.Settling.{is_run, operand_letters, settled_read};
+ghost use Rattle.definitions.specs.Settling.{operand_letters, settled_read};
 ghost use Rattle.definitions.specs.Laws.States.{seen_from};
 ghost use Rattle.operations.specs.Joins.OperationsAs.{operation_as};
 ghost use Rattle.use_blocks.specs.Joins.Changes.{IsAccepted, block_now};
-ghost use Rattle.use_blocks.specs.Joins.EffectsAs.{change_as, setting_as};
+ghost use Rattle.use_blocks.specs.Joins.EffectsAs.{change_as};
 ghost use Rattle.statement_coder.specs.Joins.Readings.{IsReading, has_names, is_plain};
 ghost use Rattle.statement_coder.specs.Joins.Sizings.{read_as, IsSizing};
 
 use crate::block_changes::change_of;
-use crate::definitions_made::{defined_with, definition_made};
+use crate::definitions_made::definition_made;
 use crate::early_values::{EarlyNames, EarlySymbols, early_value, equated};
 use crate::kept_sizing::KeptSizing;
 use crate::outcomes::outcome_of;
@@ -25,20 +24,31 @@ use crate::size_letters::{found_letters, size_letters};
 use crate::sizing::Sizing;
 use crate::statement::Statement;
 use crate::usual_sizes::size_usual;
+use crate::usual_sizing::UsualSizing;
+use expr_forms::Form;
 use operations::Letters;
 use std::alloc::{AllocError, Global};
 use std::hash::RandomState;
-use use_blocks::{BlockState, LocationSetting};
+use use_blocks::{BlockState, is_same_form};
 use work_meter::{Meter, count_sized};
 
-/// Whether a run begins: an ORG that is not faulty begins one.
-fn is_run(setting: LocationSetting) -> bool
-    ensures { result ≡ is_run (setting_as setting) }
+/// The number of a value, or 0 where it has more than 32 bits.
+fn small_number(value: Form) -> i32 {
+    match i32::try_from(value.number()) {
+        Ok(number) => number,
+        Err(_) => 0,
+    }
+}
+
+/// The location counter, where it is not the origin counter.
+fn where_moved(location: Form, origin: Form) -> Option<Form>
+    ensures moved { unwrap_or result origin ≡ location }
+    ensures same { location ≡ origin → result ≡ None }
 {
-    match setting {
-        LocationSetting::Ended => true,
-        LocationSetting::Unchanged => false,
-        LocationSetting::Counts(_) => false,
+    if is_same_form(location, origin) {
+        None
+    } else {
+        Some(location)
     }
 }
 
@@ -53,11 +63,9 @@ fn settle<S: EarlySymbols>(
 ) -> Sizing
     ensures sizing { (given : statements.Statement) (operand : operands.Operand) → is_stray given.cards ≡ statement.now.is_stray → IsReading reading.now operand →
         of_operand.now ≡ in_order (operand_letters statement.now.kind (operation_as statement.now.operation) operand (S.view symbols.now)) →
-        IsSizing (S.view symbols.now) (settled_read statement.now.kind (seen_from state.now (S.view symbols.now)) (read_as statement.now given operand)) result }
+        IsSizing statement.now.kind (S.view symbols.now) (settled_read statement.now.kind (seen_from state.now (S.view symbols.now)) (read_as statement.now given operand)) result }
     ensures accepted { IsAccepted (change_as result.change) state.now }
-    ensures number_base { result.number_base ≡ state.now.number_base }
-    ensures origin { result.origin ≡ (counters_at statement.now.kind result.block result.place None).origin }
-    ensures uncounted { (block_now state.now).counting ≡ None → result.location ≡ result.origin }
+    ensures number_base { result.usual.number_base ≡ state.now.number_base }
 {
     let kind = statement.kind;
     let operation = statement.operation;
@@ -77,7 +85,6 @@ fn settle<S: EarlySymbols>(
     let outcome = outcome_of(kind, operation, size, &used.name(), place, value);
     let is_defined = symbols.symbol(statement.location).is_some();
     let definition = definition_made(kind, operation, reading, statement.location, is_defined);
-    let defines = defined_with(definition, location, equated);
     let letters = size_letters(
         statement,
         is_defined,
@@ -86,24 +93,22 @@ fn settle<S: EarlySymbols>(
         of_operand,
         outcome.letter,
     );
-    let change = change_of(reading, state);
-    let asks = asks_after(statement, reading);
-    let begins_run = is_run(outcome.setting);
-    let block = used.name();
     Sizing {
-        block,
-        change,
-        is_placed: operation.has_place(),
-        place,
-        end: outcome.end,
-        asks,
-        begins_run,
+        usual: UsualSizing {
+            block: used.name(),
+            is_placed: operation.has_place(),
+            asks: asks_after(statement, reading),
+            definition,
+            number_base: state.number_base(),
+            place,
+            end: outcome.end,
+            number: small_number(equated),
+            letters,
+        },
+        change: change_of(reading, state),
         setting: outcome.setting,
-        location,
-        origin,
-        defines,
-        letters,
-        number_base: state.number_base(),
+        location: where_moved(location, origin),
+        value: equated,
     }
 }
 
@@ -147,13 +152,12 @@ fn kept_settled<S: EarlySymbols>(
 ) -> Result<KeptSizing, AllocError>
     ensures sizing { IfOk result (λ sizing. (given : statements.Statement) (operand : operands.Operand) → is_stray given.cards ≡ statement.now.is_stray → IsReading reading.now operand →
         of_operand.now ≡ in_order (operand_letters statement.now.kind (operation_as statement.now.operation) operand (S.view symbols.now)) →
-        IsSizing (S.view symbols.now) (settled_read statement.now.kind (seen_from state.now (S.view symbols.now)) (read_as statement.now given operand)) sizing) }
+        IsSizing statement.now.kind (S.view symbols.now) (settled_read statement.now.kind (seen_from state.now (S.view symbols.now)) (read_as statement.now given operand)) sizing) }
     ensures accepted { IfOk result (λ sizing. IsAccepted (change_as sizing.change) state.now) }
-    ensures number_base { IfOk result (λ sizing. sizing.number_base ≡ state.now.number_base) }
+    ensures number_base { IfOk result (λ sizing. sizing.usual.number_base ≡ state.now.number_base) }
 {
     let sizing = settle(statement, reading, state, symbols, of_operand);
-    let is_counted = state.block().counting().is_some();
-    KeptSizing::new(alloc, statement.kind, is_counted, sizing)
+    KeptSizing::new(alloc, sizing)
 }
 
 /// What a statement is whose operand was read, once the state before it and the early values of symbols are
@@ -171,9 +175,9 @@ pub fn size<S: EarlySymbols>(
 ) -> Result<KeptSizing, AllocError>
     ensures sizing { IfOk result (λ sizing. (given : statements.Statement) (operand : operands.Operand) → is_stray given.cards ≡ statement.now.is_stray → IsReading reading.now operand →
         of_operand.now ≡ in_order (operand_letters statement.now.kind (operation_as statement.now.operation) operand (S.view symbols.now)) →
-        IsSizing (S.view symbols.now) (settled_read statement.now.kind (seen_from state.now (S.view symbols.now)) (read_as statement.now given operand)) sizing) }
+        IsSizing statement.now.kind (S.view symbols.now) (settled_read statement.now.kind (seen_from state.now (S.view symbols.now)) (read_as statement.now given operand)) sizing) }
     ensures accepted { IfOk result (λ sizing. IsAccepted (change_as sizing.change) state.now) }
-    ensures number_base { IfOk result (λ sizing. sizing.number_base ≡ state.now.number_base) }
+    ensures number_base { IfOk result (λ sizing. sizing.usual.number_base ≡ state.now.number_base) }
     ensures needs_none { (block_now state.now).counting ≡ None → is_plain reading.now ≡ true → IsOk result }
     ensures sized { meter.new.sized ≡ min (meter.old.sized + 1) (2 ^ 64 - 1) }
     ensures rises { meter.old.sized ≤ meter.new.sized }
@@ -181,7 +185,7 @@ pub fn size<S: EarlySymbols>(
 {
     count_sized(meter);
     match size_usual(statement, reading, of_operand, state, symbols) {
-        Some(usual) => Ok(KeptSizing::usual(usual)),
+        Some(usual) => Ok(KeptSizing::of(usual)),
         None => kept_settled(alloc, statement, reading, of_operand, state, symbols),
     }
 }

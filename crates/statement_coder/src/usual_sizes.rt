@@ -59,7 +59,7 @@ pub(crate) fn size_usual<S: EarlySymbols>(
 ) -> Option<UsualSizing>
     ensures sizing { IfSome result (λ usual. (given : statements.Statement) (operand : operands.Operand) → is_stray given.cards ≡ statement.now.is_stray → IsReading reading.now operand →
         of_operand.now ≡ in_order (operand_letters statement.now.kind (operation_as statement.now.operation) operand (S.view symbols.now)) →
-        IsSizing (S.view symbols.now) (settled_read statement.now.kind (seen_from state.now (S.view symbols.now)) (read_as statement.now given operand)) (usual_as usual)) }
+        IsSizing statement.now.kind (S.view symbols.now) (settled_read statement.now.kind (seen_from state.now (S.view symbols.now)) (read_as statement.now given operand)) (usual_as usual)) }
     ensures number_base { IfSome result (λ usual. usual.number_base ≡ state.now.number_base) }
     ensures some { (block_now state.now).counting ≡ None → is_plain reading.now ≡ true → is_some result ≡ true }
 {
@@ -74,7 +74,6 @@ pub(crate) fn size_usual<S: EarlySymbols>(
     let is_defined = symbols.symbol(statement.location).is_some();
     Some(UsualSizing {
         block: used.name(),
-        kind,
         is_placed: operation.has_place(),
         asks: asks_after(statement, reading),
         definition: definition_made(kind, operation, reading, statement.location, is_defined),

@@ -1,24 +1,30 @@
-//! What is kept of a usual sizing.
+//! What is kept of each sizing.
 ghost use Rattle.std.specs.Prelude.{◌≤◌};
 
 use crate::definitions_made::Definition;
-use definitions::{DeckKind, NumberBase};
+use definitions::NumberBase;
 use expr_forms::Name;
 use operations::Letters;
 
-/// What cannot be found from the rest in a usual sizing: its statement changes neither block nor
-/// location counter, and both counters are the word of its block.
+/// All that there is of a usual sizing: its statement changes neither block nor location counter, both
+/// counters are the word of its block, and its value is a number. Place and end are in units of its block,
+/// which has at most 524,288.
 #[derive(Drop)]
-pub(crate) struct UsualSizing {
-    pub(crate) block: Name,
-    pub(crate) kind: DeckKind,
-    pub(crate) is_placed: bool,
-    pub(crate) asks: bool,
-    pub(crate) definition: Definition,
-    pub(crate) number_base: NumberBase,
-    pub(crate) place: u32,
-    pub(crate) end: u32,
-    pub(crate) number: i32,
-    pub(crate) letters: Letters,
+pub struct UsualSizing {
+    /// The block in use.
+    pub block: Name,
+    /// Whether it has a place of its own.
+    pub is_placed: bool,
+    /// Whether the next instruction of the block must be upper.
+    pub asks: bool,
+    pub definition: Definition,
+    /// The number base under which its operand was read.
+    pub number_base: NumberBase,
+    pub place: u32,
+    pub end: u32,
+    /// Its value, where that is a number of so many bits.
+    pub number: i32,
+    /// The letters that are known without later statements.
+    pub letters: Letters,
     ghost within: { end ≤ 524288 },
 }

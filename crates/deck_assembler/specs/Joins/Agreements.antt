@@ -1,6 +1,7 @@
 -- Where an edited deck agrees again with the one before it, so that all that is left stays as it was sized.
 use Rattle.std.specs.Prelude.{ℕ, ◌≡◌, ◌≤◌, ◌-◌, ⊤, ◌++◌, Bool, true, false, List, [], ◌∷◌, Option, drop, length, reverse}
 use Rattle.definitions.specs.{Cards.Card, Forms.Form, Operands.{Operand, NamesOperand}, Settled.{ReadStatement, defined}, Settling.{View, settle, settled_all}, Statements.{Statement, cards_in}, Laws.States.state_after, Laws.Agreement.{Agree, early_symbols, lawful_names}, declared.deck_kind.DeckKind.DeckKind}
+use Rattle.statement_coder.specs.Joins.Sizings.{defines_in}
 use Rattle.statement_coder.specs.declared.definitions_made.Defines as code
 use Rattle.statement_coder.specs.declared.definitions_made.Defines.TheVariants as defines
 use Rattle.deck_assembler.specs.{Joins.DeckParts.sized_in, Joins.FirstSymbols.symbol_in, Joins.Formers.known_in, Joins.SizedDecks.{IsSizedStatement, AreSizedFrom}, declared.early_trial.Trial.Trial, declared.old_deck.OldDeck.OldDeck, declared.sized_statement.SizedStatement.SizedStatement}
@@ -30,7 +31,7 @@ abbrev pub AreAlikeFrom : DeckKind → View → View → List Statement → List
 AreAlikeFrom kind v w earlier [] statements = ⊤
 AreAlikeFrom kind v w earlier (sized ∷ later) [] = ⊤
 AreAlikeFrom kind v w earlier (sized ∷ later) (statement ∷ statements) =
-    IsAlike v w (settle kind (settled_all kind earlier) statement).read sized.sizing.defines × AreAlikeFrom kind v w (statement ∷ earlier) later statements
+    IsAlike v w (settle kind (settled_all kind earlier) statement).read (defines_in kind sized.sizing) × AreAlikeFrom kind v w (statement ∷ earlier) later statements
 
 -- statements in order were sized behind some others, and two views agree on all of them
 pub record StandAlike (kind : DeckKind) (ahead : List Card) (v w : View) (sized : List SizedStatement) : Type 0 where
@@ -46,7 +47,7 @@ pub record StandAlike (kind : DeckKind) (ahead : List Card) (v w : View) (sized 
 abbrev pub IsAlikeEver : Trial → SizedStatement → Type 0
 IsAlikeEver trial sized =
     (earlier : List Statement) (stood : ℕ) (ahead : List Card) (given : Statement) → IsSizedStatement trial.kind earlier stood ahead sized given →
-    IsAlike (symbol_in trial.first.now) (symbol_in trial.second.now) (settle trial.kind (settled_all trial.kind earlier) given).read sized.sizing.defines
+    IsAlike (symbol_in trial.first.now) (symbol_in trial.second.now) (settle trial.kind (settled_all trial.kind earlier) given).read (defines_in trial.kind sized.sizing)
 
 -- a statement was sized behind some others, and the two tables of a trial agree on it
 pub record IsAlikeOnce (trial : Trial) (sized : SizedStatement) : Type 0 where
@@ -55,7 +56,7 @@ pub record IsAlikeOnce (trial : Trial) (sized : SizedStatement) : Type 0 where
   pub ahead : List Card
   pub given : Statement
   pub is : IsSizedStatement trial.kind earlier stood ahead sized given
-  pub alike : IsAlike (symbol_in trial.first.now) (symbol_in trial.second.now) (settle trial.kind (settled_all trial.kind earlier) given).read sized.sizing.defines
+  pub alike : IsAlike (symbol_in trial.first.now) (symbol_in trial.second.now) (settle trial.kind (settled_all trial.kind earlier) given).read (defines_in trial.kind sized.sizing)
 
 -- the statements of a deck that are left
 abbrev pub left : OldDeck → List SizedStatement

@@ -1,52 +1,27 @@
--- The neutral statements in front of an edited card, which stay in a deck of another kind but for their two counters.
-use Rattle.std.specs.{Prelude.{ℕ, ◌≡◌, ⊤, ◌+◌, ◌≤◌, true, List, [], ◌∷◌, ◌++◌, Some, None, take, length}, List.AllByRecursion}
-use Rattle.definitions.specs.{Blocks.nominal, Cards.Card, Counters.counters_at, DeckKinds.kind_of_statements, Laws.Edits.{Edited, IsUntouched}, Forms.Form, Operations.is_neutral, Statements.Statement, declared.deck_kind.DeckKind.DeckKind}
+-- The neutral statements in front of an edited card, which stay in a deck of another kind.
+use Rattle.std.specs.{Prelude.{ℕ, ◌≡◌, ⊤, ◌+◌, ◌≤◌, true, List, [], ◌∷◌, ◌++◌, Some, take, length}, List.AllByRecursion}
+use Rattle.definitions.specs.{Cards.Card, DeckKinds.kind_of_statements, Laws.Edits.{Edited, IsUntouched}, Operations.is_neutral, Statements.Statement, declared.deck_kind.DeckKind.DeckKind}
 use Rattle.operations.specs.Joins.OperationsAs.{operation_as}
 use Rattle.deck_objects.specs.declared.lines.{CodedLine.CodedLine, Line.Line}
 use Rattle.deck_assembler.specs.{Joins.Agreements.left, Joins.DeckParts.{DeckPiece, sized_in}, Joins.Formers.known_in, Joins.Meetings.{cards_of, IsShort}, Joins.OldDecks.{IsKeptOn, StandsInFront}, declared.old_deck.OldCards.OldCards, declared.old_deck.OldDeck.OldDeck, declared.sized_statement.SizedStatement.SizedStatement}
 use Rattle.deck_assembler.specs.declared.old_deck.Stage.TheVariants as stages
-
--- both counters of a neutral statement, in front of which stand neutral ones alone
-abbrev pub counter_of : DeckKind → Form
-counter_of kind = (counters_at kind nominal 0 None).origin
-
--- a statement that was sized, with this value of both counters
-pub record IsRecounted (counter : Form) (sized made : SizedStatement) : Type 0 where
-  pub cards : made.cards ≡ sized.cards
-  pub operation : made.operation ≡ sized.operation
-  pub label : made.label ≡ sized.label
-  pub kept : made.kept ≡ sized.kept
-  pub bare : made.is_bare ≡ sized.is_bare
-  pub block : made.sizing.block ≡ sized.sizing.block
-  pub change : made.sizing.change ≡ sized.sizing.change
-  pub is_placed : made.sizing.is_placed ≡ sized.sizing.is_placed
-  pub place : made.sizing.place ≡ sized.sizing.place
-  pub end : made.sizing.end ≡ sized.sizing.end
-  pub asks : made.sizing.asks ≡ sized.sizing.asks
-  pub begins_run : made.sizing.begins_run ≡ sized.sizing.begins_run
-  pub setting : made.sizing.setting ≡ sized.sizing.setting
-  pub location : made.sizing.location ≡ counter
-  pub origin : made.sizing.origin ≡ counter
-  pub defines : made.sizing.defines ≡ sized.sizing.defines
-  pub letters : made.sizing.letters ≡ sized.sizing.letters
-  pub number_base : made.sizing.number_base ≡ sized.sizing.number_base
 
 -- a statement behind so many cards is neutral, and ends within so many
 pub record IsOfHead (before stood : ℕ) (sized : SizedStatement) : Type 0 where
   pub neutral : is_neutral (Some (operation_as sized.operation)) ≡ true
   pub within : stood + sized.cards ≤ before
 
--- the first statements in order, as far as they are neutral and end within so many cards, with this value of both counters
-abbrev pub AreHead : Form → ℕ → ℕ → List SizedStatement → List SizedStatement → Type 0
-AreHead counter before stood [] [] = ⊤
-AreHead counter before stood [] (made ∷ more) = ⊥
-AreHead counter before stood (sized ∷ left) [] = IsOfHead before stood sized → ⊥
-AreHead counter before stood (sized ∷ left) (made ∷ more) = IsOfHead before stood sized × (IsRecounted counter sized made × AreHead counter before (stood + sized.cards) left more)
+-- the first statements in order, as far as they are neutral and end within so many cards
+abbrev pub AreHead : ℕ → ℕ → List SizedStatement → List SizedStatement → Type 0
+AreHead before stood [] [] = ⊤
+AreHead before stood [] (made ∷ more) = ⊥
+AreHead before stood (sized ∷ left) [] = IsOfHead before stood sized → ⊥
+AreHead before stood (sized ∷ left) (made ∷ more) = (made ≡ sized) × (IsOfHead before stood sized × AreHead before (stood + sized.cards) left more)
 
 -- they are all of an old deck that stays in front
 pub record IsHeadDeck (kind : DeckKind) (before : ℕ) (cards : List Card) (sized : List SizedStatement) (deck : OldDeck) : Type 0 where
   pub kind_is : deck.kind ≡ kind
-  pub head : AreHead (counter_of kind) before 0 sized (left deck)
+  pub head : AreHead before 0 sized (left deck)
   pub before_is : deck.before ≡ cards_of (left deck)
   pub ahead : cards_of (left deck) ≤ length cards → deck.ahead.now ≡ take (cards_of (left deck)) cards
   pub behind : deck.behind ≡ 0

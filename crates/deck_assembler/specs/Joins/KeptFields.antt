@@ -33,7 +33,7 @@ are_zeros _ = false
 
 -- what is stated of a settled statement with these fields, and what the laws say of those
 pub record IsTold (kind : DeckKind) (view : View) (settled : Settled) (sizing : Sizing) (told : CodedItems) (before after : List code.Item) (fields' : List Item) : Type 0 where
-  pub is_sizing : IsSizing view settled sizing
+  pub is_sizing : IsSizing kind view settled sizing
   pub are_told : AreTold kind settled.read.operand sizing told before after fields'
   pub zeros : is_zeros told ≡ stores_zeros settled.read.operation
   pub filled : DoFill kind settled.place settled.end fields'

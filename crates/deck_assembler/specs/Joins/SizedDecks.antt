@@ -16,8 +16,8 @@ pub record IsSizedStatement (deck_kind : DeckKind) (earlier : List Statement) (s
   pub some : 0 < sized.cards
   pub few : sized.cards ≤ 10
   pub within : sized.cards ≤ length ahead
-  pub sizing : IsSizing (λ name. defined name (settled_all deck_kind earlier)) (settle deck_kind (settled_all deck_kind earlier) statement) sized.sizing
-  pub number_base : sized.sizing.number_base ≡ number_base_of (settled_all deck_kind earlier)
+  pub sizing : IsSizing deck_kind (λ name. defined name (settled_all deck_kind earlier)) (settle deck_kind (settled_all deck_kind earlier) statement) sized.sizing
+  pub number_base : sized.sizing.usual.number_base ≡ number_base_of (settled_all deck_kind earlier)
   pub operation : (settle deck_kind (settled_all deck_kind earlier) statement).read.operation ≡ operation_as sized.operation
   pub label : own_symbols (operation_as sized.operation) sized.label ≡ own_of (settle deck_kind (settled_all deck_kind earlier) statement).read
   pub kept : IsKeptReading deck_kind (operation_as sized.operation) sized.kept (settle deck_kind (settled_all deck_kind earlier) statement).read.operand

@@ -19,7 +19,7 @@ pub record AreListed (kind : DeckKind) (operand : Operand) (count : ℕ) (before
 
 -- zeros from the place of a statement to its end
 abbrev pub zeros_of : DeckKind → Sizing → Item
-zeros_of kind sizing = known ((sizing.end - sizing.place) / units kind * word_bits kind) 0
+zeros_of kind sizing = known ((sizing.usual.end - sizing.usual.place) / units kind * word_bits kind) 0
 
 -- what is listed of the fields of a statement with this operand, with the list before and after it, are these;
 -- those of an instruction are what a list would have

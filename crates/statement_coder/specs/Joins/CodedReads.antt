@@ -8,12 +8,12 @@ use Rattle.statement_coder.specs.declared.items.Item as code
 abbrev pub AreCodedItems : ReadOperand → Sizing → View → (Literal → Result Form Letter) → List BlockRow → Coded → List code.Item → List code.Item → Type 0
 AreCodedItems read sizing symbols literals rows coded before after =
     (view : View) (settled : Settled) (all : List Settled) (words : List ℕ) → symbols ≡ (λ name. defined name all) → literals ≡ (λ literal. literal_form words literal) →
-    IsSizing view settled sizing → IsReadOperand read settled →
+    IsSizing read.kind view settled sizing → IsReadOperand read settled →
     AreTold read.kind settled.read.operand sizing coded.items before after (items_of (deck_with read.kind rows all words) settled settled.read.operation)
 
 -- and so are the letters
 abbrev pub AreCodedLetters : ReadOperand → Sizing → View → (Literal → Result Form Letter) → List BlockRow → Coded → Type 0
 AreCodedLetters read sizing symbols literals rows coded =
     (view : View) (settled : Settled) (all : List Settled) (words : List ℕ) → symbols ≡ (λ name. defined name all) → literals ≡ (λ literal. literal_form words literal) →
-    IsSizing view settled sizing → IsReadOperand read settled →
+    IsSizing read.kind view settled sizing → IsReadOperand read settled →
     coded.letters ≡ in_order (letters_of (deck_with read.kind rows all words) settled)

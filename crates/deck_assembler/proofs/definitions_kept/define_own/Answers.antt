@@ -2,6 +2,7 @@
 use Rattle.std.proofs.{Common.{◌≡◌, ◌==◌, ℕ, true, List, [], ◌∷◌, None, length, refl, sym, arith}, lemmas.Bool.Decides.nat_tests}
 use Rattle.definitions.specs.Operands as operands
 use Rattle.definitions.{specs.Settling.{View}, proofs.TestLaws.option_or-none}
+use Rattle.statement_coder.specs.Joins.Sizings.{defines_in}
 use Rattle.statement_coder.specs.declared.definitions_made.Defines as made
 use Rattle.statement_coder.specs.declared.definitions_made.Defines.TheVariants as defines
 use Rattle.deck_assembler.specs.Joins.FirstSymbols.{symbol_in, with_defined}
@@ -17,4 +18,4 @@ no-field [] what v e = nameless what v
 no-field (c ∷ cs) what v e = let none : length (c ∷ cs) ≡ 0 = grind (arith, nat_tests) in absurd (omega (arith, none))
 
 pub returns-then-is_empty : goal.returns-then-is_empty
-returns-then-is_empty c = no-field c.args.location.now c.args.sizing.now.defines (symbol_in c.args.symbols.now) c.if-is_empty.ensures
+returns-then-is_empty c = no-field c.args.location.now (defines_in c.args.kind c.args.sizing.now) (symbol_in c.args.symbols.now) c.if-is_empty.ensures

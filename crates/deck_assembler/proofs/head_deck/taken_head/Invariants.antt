@@ -5,7 +5,7 @@ use Rattle.deck_assembler.proofs.head_deck.taken_head.Given as goal
 -- what goes on with the statements that are left goes on with those that were taken
 abbrev pub invariant-statements : goal.invariant-statements
 invariant-statements l = record {
-  head : (rest : List SizedStatement) → AreHead l.counter l.before l.cards (left l.deck) rest → AreHead l.counter l.before 0 (left l.initial.deck) (l.head.items ++ rest);
+  head : (rest : List SizedStatement) → AreHead l.before l.cards (left l.deck) rest → AreHead l.before 0 (left l.initial.deck) (l.head.items ++ rest);
   cards : l.cards ≡ cards_of l.head.items;
 }
 

@@ -1,6 +1,6 @@
 use Rattle.std.proofs.Common.{◌≡◌, ◌∙◌, ap, sym, refl, subst}
 use Rattle.definitions.{specs.Letters.{in_order, letters_of}, specs.Settled.defined, specs.Settling.{View, settle, settled_all}, specs.StatementItems.items_of, proofs.FillLaws.settle-fill}
-use Rattle.statement_coder.specs.Joins.{Items.deck_with, CodedItems.{AreTold, stores_zeros}}
+use Rattle.statement_coder.specs.Joins.{Items.deck_with, CodedItems.{AreTold, stores_zeros}, Sizings.IsSizing}
 use Rattle.deck_assembler.{specs.Joins.KeptFields.IsTold, specs.Joins.Walks.{context_in, whole_of, all_settled}, proofs.ShortLaws.settle-short}
 use Rattle.deck_assembler.proofs.line_coder.statement_line.Goals as goal
 
@@ -16,7 +16,7 @@ returns-clause-line c =
     let view : View = λ name. defined name before in
     let told = subst (λ k. AreTold k settled.read.operand sizing c.in_ok-coded.coded.items c.args.items.now.items c.code.new.list.items
     (items_of (deck_with k whole.rows (all_settled whole) whole.deck.literals) settled settled.read.operation)) same
-    (c.in_ok-coded.ensures.items view settled (all_settled whole) whole.deck.literals is.sized.symbols refl sized.sizing taken) in
+    (c.in_ok-coded.ensures.items view settled (all_settled whole) whole.deck.literals is.sized.symbols refl (subst (λ k. IsSizing k view settled sizing) (sym same) sized.sizing) taken) in
     let is_told : IsTold kind view settled sizing c.in_ok-coded.coded.items c.args.items.now.items c.code.new.list.items (items_of context settled settled.read.operation) = record {
       is_sizing = sized.sizing;
       are_told = told;
@@ -30,7 +30,7 @@ returns-clause-line c =
         some = sized.some;
         within = sized.within;
         letters = subst (λ k. c.in_ok-coded.coded.letters ≡ in_order (letters_of (deck_with k whole.rows (all_settled whole) whole.deck.literals) settled)) same
-            (c.in_ok-coded.ensures.letters view settled (all_settled whole) whole.deck.literals is.sized.symbols refl sized.sizing taken);
+            (c.in_ok-coded.ensures.letters view settled (all_settled whole) whole.deck.literals is.sized.symbols refl (subst (λ k. IsSizing k view settled sizing) (sym same) sized.sizing) taken);
         stored = c.in_ok-line.ensures.line kind whole.rows view settled c.args.items.now.items (items_of context settled settled.read.operation) (sym taken.operation) named is_told;
       },
       c.in_ok-line.ensures.before kind view settled c.args.items.now.items (items_of context settled settled.read.operation) is_told,

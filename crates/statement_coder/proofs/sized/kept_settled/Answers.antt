@@ -8,5 +8,5 @@ returns-clause-sizing g c =
     let view = g.S.EarlySymbols.view c.args.symbols.now in
     let code = c.args.statement.now in
     IfOk-weaker c.new.result _ _ (λ kept same given operand stray reading letters.
-    subst (IsSizing view (settled_read code.kind (seen_from c.args.state.now view) (read_as code given operand))) (sym same)
+    subst (IsSizing code.kind view (settled_read code.kind (seen_from c.args.state.now view) (read_as code given operand))) (sym same)
     (c.settle-sizing.ensures.sizing given operand stray reading letters)) c.new.ensures.kept

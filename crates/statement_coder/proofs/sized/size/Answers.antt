@@ -8,7 +8,7 @@ returns-in-Some-clause-sizing g c =
     let view = g.S.EarlySymbols.view c.args.symbols.now in
     let code = c.args.statement.now in
     λ given operand stray reading letters.
-    subst (IsSizing view (settled_read code.kind (seen_from c.args.state.now view) (read_as code given operand))) (sym c.usual.ensures)
+    subst (IsSizing code.kind view (settled_read code.kind (seen_from c.args.state.now view) (read_as code given operand))) (sym c.of.ensures)
     (c.in-Some.ensures.sizing given operand stray reading letters)
 
 pub returns-in-None-clause-needs_none : goal.returns-in-None-clause-needs_none

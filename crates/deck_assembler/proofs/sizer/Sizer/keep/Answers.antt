@@ -2,7 +2,7 @@
 use Rattle.std.{proofs.Common.{List, ℕ, refl, sym, ap, ◌∙◌, subst}, specs.Prelude.reverse}
 use Rattle.definitions.specs.{Settling.{number_base_of, settle, settled_all}, Laws.States.advanced, declared.deck_kind.DeckKind.DeckKind}
 use Rattle.operations.specs.Joins.OperationsAs.{operation_as}
-use Rattle.statement_coder.specs.Joins.KeptReadings.{IsKeptReading}
+use Rattle.statement_coder.specs.Joins.{KeptReadings.{IsKeptReading}, Sizings.{defines_in}}
 use Rattle.use_blocks.specs.Joins.{EffectsAs.effect_as, BlockLengths.block_names}
 use Rattle.deck_assembler.{specs.Joins.FirstSymbols.symbol_in, specs.Joins.PieceSteps.with_statement, specs.Joins.Sizers.IsNoted, proofs.SizerSteps.sizer-step}
 use Rattle.deck_assembler.proofs.sizer.Sizer.keep.Goals as goal
@@ -17,7 +17,7 @@ returns c = λ kind cards earlier given read next is sized_is.
     let operand = settled.read.operand in
     let effect = effect_as c.effect-effect.result in
     let kept = subst (λ (k : DeckKind). IsKeptReading k (operation_as sized.operation) sized.kept operand) (sym read.kind) sized_is.kept in
-    let noted = subst (λ (l : List ℕ). IsNoted l operand sized.sizing.defines effect old c.note_kept.new.self) read.location (c.in_ok-note_kept.ensures.noted operand kept sized_is.bare) in
+    let noted = subst (λ (l : DeckKind × List ℕ). IsNoted l.1 operand (defines_in l.0 sized.sizing) effect old c.note_kept.new.self) (λ i. (read.kind i, read.location i)) (c.in_ok-note_kept.ensures.noted operand kept sized_is.bare) in
     sizer-step kind cards earlier given effect sized old c.put.new.self next is (record {
       sizing = sized_is.sizing;
       number_base = sized_is.number_base;

@@ -2,7 +2,7 @@
 use Rattle.std.{proofs.Common.{◌≡◌, ℕ, List, refl, sym, ap, ap₂, ◌∙◌, subst}, specs.Prelude.reverse}
 use Rattle.definitions.specs.{Operands.operand_of, Settling.{number_base_of, settle, settled_all}, Laws.Agreement.own_symbols, Laws.States.{BlockState, advanced}, declared.deck_kind.DeckKind.DeckKind}
 use Rattle.operations.specs.Joins.OperationsAs.{operation_as}
-use Rattle.statement_coder.specs.{Joins.KeptReadings.IsKeptReading, declared.definitions_made.Defines.Defines}
+use Rattle.statement_coder.specs.{Joins.KeptReadings.IsKeptReading, Joins.Sizings.defines_in, declared.definitions_made.Defines.Defines}
 use Rattle.use_blocks.specs.Joins.{EffectsAs.effect_as, BlockLengths.block_names}
 use Rattle.deck_assembler.{specs.Joins.FirstSymbols.symbol_in, specs.Joins.PieceSteps.with_statement, specs.Joins.Sizers.IsNoted, specs.declared.sized_statement.SizedStatement.SizedStatement, proofs.SizerSteps.{operand_in, settled-operand, settled-sized, sizer-step}}
 use Rattle.deck_assembler.proofs.sizer.Sizer.take.Goals as goal
@@ -28,8 +28,8 @@ returns-clause-taken c = λ kind cards earlier given read next is.
     let lawful = c.read_operand-reading.ensures.lawful in
     let spelt : settled.read.operand ≡ operand_of code.kind base (operation_as code.operation) code.name.now code.variable.now =
     λ i. operand_of (sym read.kind i) (sym based i) (sym read.operation i) (sym read.name i) (sym read.variable i) in
-    let defined = subst (λ (defines : Defines). IsNoted code.location.now settled.read.operand defines effect old c.note.new.self) c.defines.ensures (c.in_ok-is_bare.ensures.noted settled.read.operand operand lawful) in
-    let noted = subst (λ (l : List ℕ). IsNoted l settled.read.operand sizing.defines effect old c.note.new.self) read.location defined in
+    let defined = subst (λ (defines : Defines). IsNoted code.location.now settled.read.operand defines effect old c.note.new.self) (c.defines.ensures ∙ ap (λ k. defines_in k sizing) read.kind) (c.in_ok-is_bare.ensures.noted settled.read.operand operand lawful) in
+    let noted = subst (λ (l : List ℕ). IsNoted l settled.read.operand (defines_in kind sizing) effect old c.note.new.self) read.location defined in
     sizer-step kind cards earlier given effect sized old c.put.new.self next is (record {
       sizing = is_sizing;
       number_base = number_base;
