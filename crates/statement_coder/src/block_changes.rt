@@ -75,6 +75,7 @@ fn is_refused_use(field: UseField, state: &BlockState) -> bool
 }
 
 /// Whether a USE is refused.
+#[inline(never)]
 fn is_refused_block(reading: &Reading<'_>, state: &BlockState) -> bool
     ensures { (operand : operands.Operand) → IsReading reading.now operand → result ≡ is_refused_use operand (names_of_blocks state.now.blocks) }
 {
@@ -93,6 +94,7 @@ fn is_refused_block(reading: &Reading<'_>, state: &BlockState) -> bool
 }
 
 /// Whether a statement is O: its operation is unknown or misplaced, or its block is not to be had.
+#[inline(always)]
 pub(crate) fn is_refused(
     statement: &Statement<'_>,
     reading: &Reading<'_>,

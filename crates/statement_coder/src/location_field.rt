@@ -37,6 +37,7 @@ pub(crate) fn defines_location(operation: Operation) -> bool
 
 /// The letter of a location field, whose symbol is defined before or not: L where it is not lawful,
 /// D where its symbol is defined before.
+#[inline(always)]
 pub(crate) fn location_letter(
     kind: DeckKind,
     operation: Operation,

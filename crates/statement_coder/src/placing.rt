@@ -54,6 +54,7 @@ fn is_upper(kind: DeckKind, operation: Operation, location: &[u8], asks: bool) -
 }
 
 /// The place of a statement that has one, from the end of the statement before it in its block.
+#[inline(always)]
 fn least_place(
     kind: DeckKind,
     operation: Operation,
@@ -74,6 +75,7 @@ fn least_place(
 
 /// The place of a statement: one that has none of its own has the position of its block, or the
 /// next word where upper is asked.
+#[inline(always)]
 fn place_of(
     kind: DeckKind,
     operation: Operation,
@@ -149,6 +151,7 @@ fn is_one(text: &[u8]) -> bool
 }
 
 /// Whether the name of a central instruction with this field asks that the next one is upper.
+#[inline(always)]
 fn asks_upper(name: &[u8], text: &[u8]) -> bool
     requires { length text.now ≤ 711 }
     ensures { result ≡ asks_upper name.now (length (subfields_of (pieces_of text.now))) }

@@ -110,6 +110,7 @@ pub(crate) fn found_letters<S: EarlySymbols>(
 }
 
 /// O alone of a refused statement, and else the letters of its operand and of its outcome.
+#[inline(always)]
 fn variable_letters(
     statement: &Statement<'_>,
     reading: &Reading<'_>,
@@ -130,6 +131,7 @@ fn variable_letters(
 
 /// The letters of a statement that are known without later statements, where those of its operand are, and
 /// whether its symbol is defined before.
+#[inline(always)]
 pub(crate) fn size_letters(
     statement: &Statement<'_>,
     is_defined: bool,

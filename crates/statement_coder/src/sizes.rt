@@ -46,6 +46,7 @@ fn datum_words(kind: DeckKind, datum: &Datum<'_>) -> u32
 }
 
 /// How many words the subfields of a DATA fill.
+#[inline(never)]
 fn data_words(kind: DeckKind, words: DataWords<'_>) -> u32
     ensures words { result ≡ min (data_words kind words.entry) 10000000 }
 {
@@ -60,6 +61,7 @@ fn data_words(kind: DeckKind, words: DataWords<'_>) -> u32
 }
 
 /// How many words the subfields of a CON fill.
+#[inline(never)]
 fn con_words(kind: DeckKind, words: ConWords<'_>) -> u32
     ensures words { result ≡ min (data_words kind words.entry) 10000000 }
 {
@@ -74,6 +76,7 @@ fn con_words(kind: DeckKind, words: ConWords<'_>) -> u32
 }
 
 /// How many bits the fields of a VFD have.
+#[inline(never)]
 fn field_bits(fields: BitFields<'_>) -> u32
     ensures bits { result ≡ min (bits_of fields.entry) 10000000 }
 {
@@ -118,6 +121,7 @@ fn shape_units(shape: &Shape<'_>) -> u32
 }
 
 /// How many units of its deck an operand fills; what no block has room for is not counted further.
+#[inline(always)]
 pub(crate) fn size_of(kind: DeckKind, reading: &Reading<'_>) -> u32
     ensures size { (operand : operands.Operand) → IsReading reading.now operand → min result 600000 ≡ min (size_of kind operand) 600000 }
     ensures within { result ≤ 40000000 }

@@ -31,6 +31,7 @@ impl Lengths {
     /// Takes the step of a statement behind this state, which has the same blocks and accepts its
     /// change: the block in use reaches what the statement does, and a USE opens its block; a new one
     /// alone takes memory. Without memory all is as before.
+    #[inline(always)]
     pub fn follow(&mut self, state: &BlockState, effect: &Effect) -> Result<(), AllocError>
         requires same_blocks { block_names self.old ≡ names_of_blocks state.now.blocks }
         requires accepted { IsAccepted (change_as effect.now.change) state.now }

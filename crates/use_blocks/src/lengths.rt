@@ -80,6 +80,7 @@ impl Lengths {
 
     /// A USE opens a block, which is accepted; a new one alone takes memory. Without memory all is
     /// as before.
+    #[inline(never)]
     pub fn open(&mut self, name: &Name) -> Result<(), AllocError>
         requires { is_accepted name.now (block_names self.old) ≡ true }
         ensures opened { OnOk result (self.new ≡ lengths_behind (Opens name.now) self.old) }
@@ -95,6 +96,7 @@ impl Lengths {
 
     /// What a statement in a block does: it reaches so many words, and may open a block, which is
     /// accepted; a new one alone takes memory. Without memory all is as before.
+    #[inline(always)]
     pub fn advance(
         &mut self,
         block: usize,
