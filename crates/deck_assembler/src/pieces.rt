@@ -1,5 +1,5 @@
 //! The statements of a deck in pieces of at most 128 (ours).
-ghost use Rattle.std.specs.Prelude.{◌≡◌, ◌≤◌, ◌<◌, ◌∷◌, ◌++◌, [], false, length, reverse, IfOk, OnOk};
+ghost use Rattle.std.specs.Prelude.{◌≡◌, ◌≤◌, ◌<◌, ◌∷◌, ◌++◌, [], false, length, reverse, true, IfOk, OnOk};
 ghost use Rattle.deck_assembler.specs.Joins.PieceSteps.{is_full, with_pushed, with_statement, onto_latest};
 
 use crate::sized_statement::SizedStatement;
@@ -54,7 +54,6 @@ impl Piece {
     }
 
     /// A piece of one statement behind this state, with memory for all others.
-    #[inline(never)]
     fn begin(alloc: Global, state: &BlockState, sized: SizedStatement) -> Result<Piece, AllocError>
         ensures { IfOk result (λ piece. piece ≡ record { state = state.now; statements = sized ∷ [] }) }
     {
@@ -97,6 +96,21 @@ fn push_onto_last(pieces: &mut Vec<Piece>, sized: SizedStatement) -> Result<(), 
     }
 }
 
+/// Begins a piece with a statement behind this state.
+#[inline(never)]
+fn begin_piece(
+    alloc: Global,
+    pieces: &mut Vec<Piece>,
+    state: &BlockState,
+    sized: SizedStatement,
+) -> Result<(), AllocError>
+    requires { is_full (reverse pieces.old.items) ≡ true }
+    ensures { OnOk result (reverse pieces.new.items ≡ with_statement state.now sized (reverse pieces.old.items)) }
+{
+    pieces.push(Piece::begin(alloc, state, sized)?)?;
+    Ok(())
+}
+
 /// Puts a statement behind the others; this is the state before it. It takes memory where a piece
 /// begins alone.
 #[inline(always)]
@@ -109,8 +123,7 @@ pub(crate) fn add_statement(
     ensures { OnOk result (reverse pieces.new.items ≡ with_statement state.now sized (reverse pieces.old.items)) }
 {
     if is_full(pieces.as_slice()) {
-        pieces.push(Piece::begin(alloc, state, sized)?)?;
-        Ok(())
+        begin_piece(alloc, pieces, state, sized)
     } else {
         push_onto_last(pieces, sized)
     }

@@ -58,8 +58,21 @@ impl SymbolTable {
         Ok(SymbolTable { forms })
     }
 
-    /// The value of a symbol, if it is defined.
+    /// The value of a symbol, if it is defined; most statements have none.
+    #[inline(always)]
     pub fn value(&self, name: &[u8]) -> Option<Form>
+        ensures { result ≡ symbol_in self.now name.now }
+    {
+        if name.is_empty() {
+            None
+        } else {
+            self.found(name)
+        }
+    }
+
+    /// The same of a text with characters.
+    #[inline(never)]
+    fn found(&self, name: &[u8]) -> Option<Form>
         ensures { result ≡ symbol_in self.now name.now }
     {
         match SymbolKey::of(name) {

@@ -1,10 +1,12 @@
--- A name is found by its number.
-use Rattle.std.proofs.Common.{◌∙◌, ap, arith}
-use Rattle.deck_assembler.{specs.Joins.FirstSymbols.symbol_in, proofs.SymbolLaws.symbol_in-some}
+-- No text is a name.
+use Rattle.std.proofs.{Common.{◌≡◌, ◌==◌, ℕ, true, List, [], ◌∷◌, Option, None, length, refl, arith}, lemmas.Bool.Decides.nat_tests}
+use Rattle.definitions.specs.Forms.{Form}
+use Rattle.deck_assembler.specs.Joins.FirstSymbols.{symbol_in}
 use Rattle.deck_assembler.proofs.symbol_table.SymbolTable.value.Goals as goal
 
-pub returns-in-Some : goal.returns-in-Some
-returns-in-Some c =
-    c.copied.ensures ∙ c.get.ensures.value
-    ∙ symbol_in-some c.self.inside.forms.entries c.args.name.now c.in-Some.name (λ i. omega (arith, c.type_inv.name i)) (cc)
-    ∙ ap (λ forms. symbol_in forms c.args.name.now) c.self.view_is
+nameless : (forms : List (ℕ × Form)) (name : List ℕ) → true ≡ (length name == 0) → None ≡ symbol_in forms name
+nameless forms [] e = refl
+nameless forms (c ∷ cs) e = let none : length (c ∷ cs) ≡ 0 = grind (arith, nat_tests) in absurd (omega (arith, none))
+
+pub returns-then-is_empty : goal.returns-then-is_empty
+returns-then-is_empty c = nameless c.args.self.now c.args.name.now c.if-is_empty.ensures
