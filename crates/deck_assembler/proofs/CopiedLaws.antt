@@ -1,8 +1,8 @@
 -- A line whose fields are taken over is the line of the same statement.
-use Rattle.std.{proofs.Common.{◌≡◌, ◌∙◌, ℕ, ◌-◌, List, ◌++◌, length, take, drop, map, refl, ap, sym, subst, arith}, specs.Prelude.slice_get, proofs.lemmas.List.{drop-map, drop_at, length-map, take_all, length-drop}}
+use Rattle.std.{proofs.Common.{◌≡◌, ◌∙◌, ℕ, ◌+◌, ◌-◌, List, ◌++◌, length, length-append, take, drop, map, refl, ap, sym, subst, arith}, specs.Prelude.slice_get, proofs.lemmas.List.{drop_at, take_all, length-drop}}
 use Rattle.definitions.specs.{Lengths.BlockRow, Words.Coded, declared.deck_kind.DeckKind.DeckKind}
 use Rattle.operations.specs.Joins.OperationsAs.{operation_as}
-use Rattle.statement_coder.{specs.Joins.CodedItems.IsKept, specs.Joins.Items.item_as, proofs.ListLaws.kept-length}
+use Rattle.statement_coder.specs.Joins.Items.{item_as}
 use Rattle.statement_coder.specs.declared.items.Item as code
 use Rattle.deck_objects.specs.{Joins.CodedLines.{IsCoded, IsNamed}, Joins.LineItems.{kept_from, AreBitsOf, AreShort, AreKept}, declared.lines.LineFields.LineFields}
 use Rattle.deck_objects.specs.declared.lines.CodedLine as lines
@@ -10,13 +10,14 @@ use Rattle.deck_objects.specs.declared.lines.LineFields.TheVariants as kept
 use Rattle.deck_assembler.specs.Joins.CopiedFields.{AreListedAlike, AreCopied}
 
 -- the end of a list is what was put there
-pub listed-put : (before after some : List code.Item) → IsKept before after → map item_as after ≡ map item_as before ++ map item_as some → (others : List code.Item) (first count : ℕ) → some ≡ take count (drop first others) →
+pub listed-put : (before after some : List code.Item) → after ≡ before ++ some → (others : List code.Item) (first count : ℕ) → some ≡ take count (drop first others) →
     AreListedAlike others first count (kept.Listed (length before) (length after - length before)) after
-listed-put before after some keeps put others first count e = (
-  let longer = kept-length before after keeps in omega (arith, longer),
-  ap (map item_as) (take_all (length after - length before) (drop (length before) after) (omega (arith, length-drop (length before) after)))
-      ∙ sym (drop-map item_as (length before) after) ∙ ap (drop (length before)) put ∙ drop_at (map item_as before) (map item_as some) (length before) (length-map before item_as) ∙ ap (map item_as) e,
-)
+listed-put before after some put others first count e =
+    let longer : length after ≡ length before + length some = ap length put ∙ length-append before some in (
+      omega (arith, longer),
+      ap (map item_as) (take_all (length after - length before) (drop (length before) after) (omega (arith, length-drop (length before) after)))
+          ∙ ap (λ (l : List code.Item). map item_as (drop (length before) l)) put ∙ ap (map item_as) (drop_at before some (length before) refl ∙ e),
+    )
 
 -- the same kept fields
 same-fields : (kind : DeckKind) (others items : List code.Item) (old new : lines.CodedLine) (before after : LineFields) → old.fields ≡ before → new.fields ≡ after → new.place ≡ old.place → new.end ≡ old.end →

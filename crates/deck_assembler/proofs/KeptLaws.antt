@@ -1,8 +1,8 @@
 -- What a line keeps of fields is those fields to whoever links.
-use Rattle.std.{proofs.Common.{◌≡◌, ◌∙◌, ℕ, ◌+◌, ◌-◌, ◌*◌, ◌≤◌, true, false, List, [], ◌∷◌, ◌++◌, length, take, drop, map, refl, ap, sym, subst, arith}, specs.Prelude.slice_get, proofs.lemmas.Bool.true≢false, proofs.lemmas.List.{drop-map, drop_at, length-map, take_all, length-drop, take-take, drop-take}}
+use Rattle.std.{proofs.Common.{◌≡◌, ◌∙◌, ℕ, ◌+◌, ◌-◌, ◌*◌, ◌≤◌, true, false, List, [], ◌∷◌, length, take, drop, map, refl, ap, sym, subst, arith}, specs.Prelude.slice_get, proofs.lemmas.Bool.true≢false, proofs.lemmas.List.{take-take, drop-take}}
 use Rattle.definitions.specs.{Kinds.unit_bits, Lengths.BlockRow, Operands.Operand, Operations.Operation, Settled.Settled, Settling.{View, is_run}, StatementItems.{Item, known}, Words.{Coded, width_of}, declared.deck_kind.DeckKind.DeckKind, Laws.Filling.{HasFields, DoFill}}
 use Rattle.definitions.specs.Operations as op
-use Rattle.statement_coder.{specs.Joins.Items.{item_as, items_as}, specs.declared.instruction_fields.InstructionItems.InstructionItems, specs.Joins.CodedItems.{IsKept, is_zeros, stores_zeros, zeros_of}, specs.Joins.WordItems.listed_fields, specs.declared.coded.CodedItems.CodedItems, specs.declared.sizing.Sizing.Sizing, proofs.ListLaws.kept-length}
+use Rattle.statement_coder.{specs.Joins.Items.item_as, specs.Joins.CodedItems.{IsKept, is_zeros, stores_zeros, zeros_of}, specs.Joins.WordItems.listed_fields, specs.declared.coded.CodedItems.CodedItems, specs.declared.sizing.Sizing.Sizing, proofs.ListLaws.kept-length}
 use Rattle.statement_coder.specs.declared.items.Item as code
 use Rattle.operations.specs.Joins.OperationsAs.{operation_as}
 use Rattle.use_blocks.specs.Joins.EffectsAs.{setting_as}
@@ -10,21 +10,6 @@ use Rattle.deck_objects.specs.{Joins.LineItems.{listed, kept_from, AreBitsOf, Ar
 use Rattle.deck_objects.specs.declared.lines.CodedLine as lines
 use Rattle.deck_objects.specs.declared.lines.LineFields.TheVariants as kept
 use Rattle.deck_assembler.{specs.Joins.KeptFields.{IsNumber, AreKeptAs, IsTold, are_zeros}, proofs.ListedLaws.{bits-listed, none-listed}}
-
--- the end of a list
-listed-end : (items : List code.Item) (first : ℕ) → listed items first (length items - first) ≡ map item_as (drop first items)
-listed-end items first = ap (map item_as) (take_all (length items - first) (drop first items) (omega (arith, length-drop first items)))
-
--- the fields of an instruction, put behind a list
-pub instruction-kept : (kind : DeckKind) (operand : Operand) (sizing : Sizing) (instruction : InstructionItems) (fields : LineFields) (before after : List code.Item) (told : List Item) →
-    fields ≡ kept.Listed (length before) (length after - length before) → IsKept before after → map item_as after ≡ map item_as before ++ items_as instruction →
-    items_as instruction ≡ told → listed_fields kind operand told ≡ told → AreKeptAs kind operand sizing fields after told
-instruction-kept kind operand sizing instruction fields before after told is keeps put same whole =
-    subst (λ (f : LineFields). AreKeptAs kind operand sizing f after told) (sym is) (
-      let longer = kept-length before after keeps in omega (arith, longer),
-      listed-end after (length before) ∙ sym (drop-map item_as (length before) after) ∙ ap (drop (length before)) put
-          ∙ drop_at (map item_as before) (items_as instruction) (length before) (length-map before item_as) ∙ same ∙ sym whole,
-    )
 
 -- fields that fill a place have as many bits
 filled-width : (kind : DeckKind) (place end : ℕ) (operand : Operand) (fields : List Item) → DoFill kind place end fields → HasFields (listed_fields kind operand fields) → width_of fields ≡ (end - place) * unit_bits kind

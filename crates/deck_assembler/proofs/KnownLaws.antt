@@ -2,7 +2,7 @@
 use Rattle.std.proofs.{Common.{◌≡◌, ◌∙◌, ℕ, ◌+◌, ◌*◌, ◌/◌, ◌^◌, ◌<◌, ◌≤◌, List, [], ◌∷◌, ◌++◌, ap, ap₂, sym, subst, arith, append_assoc, if◌then◌else◌}, Math.Nat.pow-le-pow_right, lemmas.Nat.{pow-add, mul-add-lt}}
 use Rattle.definitions.specs.{Kinds.word_bits, Layout.{Layout, Based}, LinkValues.is_unfit, LinkLines.unfit_words, StatementItems.{Item, Content, Known}, Words.{content_bits, width_of}}
 use Rattle.statement_coder.proofs.JoinLaws.{width-append, joined-append}
-use Rattle.deck_assembler.specs.Joins.KeptFields.{AreTogether}
+use Rattle.deck_assembler.specs.Joins.KeptFields.{AreTogether, IsNumber}
 
 -- what does not fit in fields behind others
 pub unfit-append : (layout : Layout) (based : Based) (from : ℕ) (xs ys : List Item) → unfit_words layout based from (xs ++ ys) ≡ unfit_words layout based from xs ++ unfit_words layout based (from + width_of xs) ys
@@ -46,3 +46,11 @@ room-word n w h short = let wide : 2 ^ w ≤ 2 ^ 60 = pow-le-pow_right {n = 2} (
 -- the same width and number
 pub together-same : (fields : List Item) (v w a b : ℕ) → w ≡ v → b ≡ a → AreTogether fields v a → AreTogether fields w b
 together-same fields v w a b e f h = subst (λ n. AreTogether fields n b) (sym e) (subst (λ n. AreTogether fields v n) (sym f) h)
+
+-- together they are one number
+pub number-of : (fields : List Item) (width bits : ℕ) → AreTogether fields width bits → bits < 2 ^ width → width ≤ 60 → IsNumber fields bits
+number-of fields width bits h room short = record {
+  together = subst (λ w. AreTogether fields w bits) (sym h.wide) h;
+  room = subst (λ w. bits < 2 ^ w) (sym h.wide) room;
+  short = subst (λ w. w ≤ 60) (sym h.wide) short;
+}

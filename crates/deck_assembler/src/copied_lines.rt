@@ -1,14 +1,12 @@
 //! The line that a statement has in one object, taken over into another.
-ghost use Rattle.std.specs.Prelude.{◌≡◌, ◌≤◌, ◌+◌, ◌-◌, ◌++◌, IfOk, OnOk, List, length, map, slice_get, take, drop};
+ghost use Rattle.std.specs.Prelude.{◌≡◌, ◌≤◌, ◌+◌, ◌-◌, ◌++◌, IfOk, OnOk, List, length, slice_get, take, drop};
 ghost use Rattle.definitions.specs.Lengths.{BlockRow};
 ghost use Rattle.definitions.specs.Words as words;
 ghost use Rattle.definitions.specs.declared.deck_kind.DeckKind.{DeckKind};
 ghost use Rattle.statement_coder.specs.Joins.CodedItems.{IsKept};
-ghost use Rattle.statement_coder.specs.Joins.Items.{item_as};
 ghost use Rattle.deck_objects.specs.Joins.CodedLines.{IsCoded, IsNamed};
 ghost use Rattle.deck_assembler.specs.Joins.CopiedFields.{AreCopied};
 
-use crate::line_fields::{listed_from, put};
 use deck_objects::{CodedLine, LineFields};
 use statement_coder::Item;
 use std::alloc::AllocError;
@@ -21,25 +19,29 @@ fn some_of(items: &[Item], first: usize, count: usize) -> &[Item]
     behind.split_at(count.min(behind.len())).0
 }
 
-/// Puts some fields at the end of a list.
-fn put_all(items: &mut Vec<Item>, others: &[Item]) -> Result<(), AllocError>
-    ensures kept { IsKept items.old.items items.new.items }
-    ensures put { OnOk result (map item_as items.new.items ≡ map item_as items.old.items ++ map item_as others.now) }
+/// The fields of a list from one on. An index of more than 32 bits is taken as memory that ran out:
+/// a list that long has none.
+pub(crate) fn listed_from(first: usize, items: &[Item]) -> Result<LineFields, AllocError>
+    requires { first ≤ length items.now }
+    ensures { IfOk result (λ fields. fields ≡ LineFields.Listed first (length items.now - first)) }
 {
-    for item in others {
-        put(items, item)?;
-    }
-    Ok(())
+    let Ok(count) = u32::try_from(items.len() - first) else {
+        return Err(AllocError);
+    };
+    let Ok(first) = u32::try_from(first) else {
+        return Err(AllocError);
+    };
+    Ok(LineFields::Listed { first, count })
 }
 
 /// Some fields, put at the end of a list.
-fn put_listed(items: &mut Vec<Item>, others: &[Item]) -> Result<LineFields, AllocError>
+pub(crate) fn put_listed(items: &mut Vec<Item>, others: &[Item]) -> Result<LineFields, AllocError>
     ensures kept { IsKept items.old.items items.new.items }
-    ensures put { OnOk result (map item_as items.new.items ≡ map item_as items.old.items ++ map item_as others.now) }
+    ensures put { OnOk result (items.new.items ≡ items.old.items ++ others.now) }
     ensures listed { IfOk result (λ fields. fields ≡ LineFields.Listed (length items.old.items) (length items.new.items - length items.old.items)) }
 {
     let first = items.len();
-    put_all(items, others)?;
+    items.extend_from_slice(others)?;
     listed_from(first, items)
 }
 

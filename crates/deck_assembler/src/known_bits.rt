@@ -1,16 +1,16 @@
 //! Known fields one behind the other, as one number.
 ghost use Rattle.std.specs.Prelude.{◌≡◌, ◌+◌, ◌*◌, ◌≤◌, ◌<◌, ◌^◌, ◌++◌, ◌∷◌, [], List, IfSome, map};
 ghost use Rattle.definitions.specs.StatementItems as definitions;
-ghost use Rattle.statement_coder.specs.Joins.Items.{item_as, items_as, option_items};
-ghost use Rattle.deck_assembler.specs.Joins.KeptFields.{AreTogether};
+ghost use Rattle.statement_coder.specs.Joins.Items.{item_as};
+ghost use Rattle.deck_assembler.specs.Joins.KeptFields.{AreTogether, IsOneNumber};
 
-use statement_coder::{Content, InstructionItems, Item};
+use statement_coder::{Content, Item};
 
 /// The bits of known fields together, at most 60.
 #[derive(Clone, Copy)]
-pub(crate) struct KnownBits {
+struct KnownBits {
     width: u32,
-    pub(crate) bits: u64,
+    bits: u64,
     ghost short: { width ≤ 60 },
     ghost room: { bits < 2 ^ width },
 }
@@ -54,35 +54,19 @@ impl KnownBits {
             }
         }
     }
+}
 
-    /// A field more behind them, if there is one.
-    fn with_option(self, item: &Option<Item>) -> Option<KnownBits>
-        ensures { IfSome result (λ known. (fields : List definitions.Item) → AreTogether fields self.width self.bits →
-            AreTogether (fields ++ option_items item.now) known.width known.bits) }
-    {
-        match item {
-            None => Some(self),
-            Some(item) => self.with(item),
-        }
+/// Some fields as one number of at most 60 bits; none where there are no fields, one is left to the link, or
+/// they have more.
+pub(crate) fn listed_bits(items: &[Item]) -> Option<u64>
+    ensures { IfSome result (λ bits. IsOneNumber (map item_as items.now) bits) }
+{
+    if items.is_empty() {
+        return None;
     }
-}
-
-/// The fields of an instruction as one number; none where one is left to the link.
-pub(crate) fn instruction_bits(items: &InstructionItems) -> Option<KnownBits>
-    ensures { IfSome result (λ known. AreTogether (items_as items.now) known.width known.bits) }
-{
-    let digits = KnownBits::none().with(&items.digits)?;
-    let first = digits.with_option(&items.first)?;
-    first.with_option(&items.second)
-}
-
-/// Some fields as one number; none where one is left to the link, or they have more than 60 bits.
-pub(crate) fn listed_bits(items: &[Item]) -> Option<KnownBits>
-    ensures { IfSome result (λ known. AreTogether (map item_as items.now) known.width known.bits) }
-{
     let mut known = KnownBits::none();
     for item in items {
         known = known.with(item)?;
     }
-    Some(known)
+    Some(known.bits)
 }

@@ -14,8 +14,17 @@ use crate::SizedStatement;
 use crate::deck_view::DeckView;
 use crate::statement_lines::coded_line;
 use deck_objects::{Line, Unlinked};
-use statement_coder::{Item, Meter, ReadOperand, code};
+use statement_coder::{Content, Item, Meter, ReadOperand, code};
 use std::alloc::AllocError;
+
+/// No bits, of which a room for fields is made.
+fn no_field() -> Item {
+    Item {
+        width: 0,
+        letter: None,
+        content: Content::Known(0),
+    }
+}
 
 /// The line of a statement whose operand was read, and whose block has this index. Its fields are put
 /// behind those of the lines before it, if they are listed; where memory runs out the list is of no
@@ -40,7 +49,8 @@ pub(crate) fn statement_line(
     ensures sized { meter.new.sized ≡ meter.old.sized }
 {
     let bases = Unlinked { bases: view.bases };
-    let coded = code(read, &sized.sizing, view, &bases, items, meter)?;
+    let mut room = [no_field(), no_field(), no_field()];
+    let coded = code(read, &sized.sizing, view, &bases, items, &mut room, meter)?;
     let line = coded_line(read.operation, block, &sized.sizing, coded.items, items)?;
     Ok(Line {
         cards: sized.cards,

@@ -24,15 +24,15 @@ pub fn coded_line(
     operation: Operation,
     block: u32,
     sizing: &KeptSizing,
-    told: CodedItems,
+    told: CodedItems<'_>,
     items: &mut Vec<Item>,
 ) -> Result<CodedLine, AllocError>
     ensures line { IfOk result (λ line. (kind : DeckKind) (rows : List BlockRow) (view : View) (settled : Settled) (before : List fields.Item) (told' : List definitions.Item) →
         operation_as operation ≡ settled.read.operation → IsNamed (slice_get rows block) settled.block →
-        IsTold kind view settled sizing.now told before items.old.items told' →
+        IsTold kind view settled sizing.now told.entry before items.old.items told' →
         IsCoded kind rows items.new.items line (record { settled = settled; fields = told' })) }
     ensures before { OnOk result ((kind : DeckKind) (view : View) (settled : Settled) (before : List fields.Item) (told' : List definitions.Item) →
-        IsTold kind view settled sizing.now told before items.old.items told' → IsKept before items.new.items) }
+        IsTold kind view settled sizing.now told.entry before items.old.items told' → IsKept before items.new.items) }
     ensures unchanged { OnErr result (items.new.items ≡ items.old.items) }
 {
     let fields = line_fields(told, items)?;

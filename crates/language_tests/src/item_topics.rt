@@ -8,7 +8,7 @@ use expr_forms::{
     CountedItem, Expr, ExprText, Field, Shape, characters_number, coded_in, counted_item_in,
     counted_item_word, item_literal, item_number,
 };
-use statement_coder::{Content, InstructionItems, Item};
+use statement_coder::{Content, Item};
 use test_parts::{cut, small};
 
 /// What an item with this letter gives: in a field of 60 bits, as words, as a literal and as a number.
@@ -104,18 +104,5 @@ pub fn item(answer: &mut Answer, item: &Item) {
     }
     if let Some(letter) = &item.letter {
         answer.debug(letter);
-    }
-}
-
-/// The fields of an instruction.
-pub fn fields_of_instruction(answer: &mut Answer, items: &InstructionItems) {
-    item(answer, &items.digits);
-    if let Some(first) = &items.first {
-        answer.word(";");
-        item(answer, first);
-    }
-    if let Some(second) = &items.second {
-        answer.word(";");
-        item(answer, second);
     }
 }

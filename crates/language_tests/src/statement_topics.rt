@@ -7,14 +7,14 @@ ghost use Rattle.use_blocks.specs.Joins.EffectsAs.{change_as};
 
 use crate::expression_topics::form;
 use crate::field_topics::kind_of;
-use crate::item_topics::{fields_of_instruction, item};
+use crate::item_topics::item;
 use crate::outputs::Answer;
 use cards::{Card, StatementRoom};
 use definitions::DeckKind;
 use expr_forms::{Form, Name, Part, Relocation};
 use statement_coder::{
-    BlockBases, Coded, CodedItems, Defines, KeptSizing, ReadOperand, Statement, code,
-    operand_letters, size,
+    BlockBases, Coded, CodedItems, Content, Defines, Item, KeptSizing, ReadOperand, Statement,
+    code, operand_letters, size,
 };
 use std::alloc::{AllocError, Global};
 use std::hash::RandomState;
@@ -207,20 +207,41 @@ fn coded<B: BlockBases>(
     done: &mut Meter,
 ) -> Result<(), AllocError> {
     let mut list = Vec::new(answer.alloc);
-    let coded = code(read, sizing, symbols, bases, &mut list, done)?;
+    let mut room = [no_field(), no_field(), no_field()];
+    let coded = code(read, sizing, symbols, bases, &mut list, &mut room, done)?;
     coded_shown(answer, &coded);
-    for listed in &list {
-        answer.word(";");
-        item(answer, listed);
-    }
+    fields(answer, &list);
     Ok(())
 }
 
-fn coded_shown(answer: &mut Answer, coded: &Coded) {
+fn no_field() -> Item {
+    Item {
+        width: 0,
+        letter: None,
+        content: Content::Known(0),
+    }
+}
+
+fn fields(answer: &mut Answer, list: &[Item]) {
+    for listed in list {
+        answer.word(";");
+        item(answer, listed);
+    }
+}
+
+fn instruction(answer: &mut Answer, list: &[Item]) {
+    let (digits, behind) = list.split_at(list.len().min(1));
+    for first in digits {
+        item(answer, first);
+    }
+    fields(answer, behind);
+}
+
+fn coded_shown(answer: &mut Answer, coded: &Coded<'_>) {
     answer.quoted(coded.letters.text().as_slice());
     match &coded.items {
         CodedItems::Absent => answer.word("absent"),
-        CodedItems::Instruction(items) => fields_of_instruction(answer, items),
+        CodedItems::Instruction(fields) => instruction(answer, fields),
         CodedItems::Listed(count) => {
             answer.word("listed");
             answer.number(count)

@@ -1,8 +1,6 @@
 -- Letters that are gathered one after the other.
-use Rattle.std.proofs.Common.{◌≡◌, ◌∙◌, ℕ, List, [], ◌++◌, Option, Some, None, refl, ap, sym, append_assoc, append-nil}
+use Rattle.std.proofs.Common.{◌≡◌, ◌∙◌, ℕ, List, [], ◌++◌, refl, ap, sym, append_assoc, append-nil}
 use Rattle.definitions.specs.{Letters.in_order, declared.letter.Letter.Letter}
-use Rattle.statement_coder.specs.Joins.Items as fields
-use Rattle.statement_coder.specs.Joins.LettersAs as told
 
 -- the text of those so far; with those that are left they are all
 pub record Gathered (text : List ℕ) (left all : List Letter) : Type 0 where
@@ -26,8 +24,3 @@ one_gathered text after one left rest all e more g = record {
 -- none is left
 pub all_gathered : (text : List ℕ) (left all : List Letter) → left ≡ [] → Gathered text left all → text ≡ in_order all
 all_gathered text left all e g = g.is ∙ ap in_order (sym (append-nil g.done) ∙ ap (λ l. g.done ++ l) (sym e) ∙ g.whole)
-
--- a letter or none, as a list
-pub same_letters : (letter : Option Letter) → told.letters_as letter ≡ fields.letters_as letter
-same_letters None = refl
-same_letters (Some letter) = refl

@@ -1,10 +1,11 @@
 -- The fields of an instruction of either table are those of its operand.
-use Rattle.std.{proofs.Common.{◌≡◌, ℕ, ◌*◌, List, ◌∷◌, Option, Some, None, sym, ap, ap₂}, specs.Prelude.unwrap_or}
-use Rattle.definitions.specs.{Expressions.Expression, Matching.Instruction, PeripheralTable.{PeripheralForm, PeripheralRow}, Operands.{CentralOperand, PeripheralOperand}, Settled.Settled, StatementItems.{Item, Context, known, peripheral_items, operand_items}}
+use Rattle.std.{proofs.Common.{◌≡◌, ◌∙◌, ℕ, ◌*◌, List, ◌∷◌, Option, Some, None, refl, sym, ap, ap₂, subst}, specs.Prelude.unwrap_or}
+use Rattle.definitions.specs.{Expressions.Expression, Forms.Names, Lengths.BlockRow, Matching.Instruction, PeripheralTable.{PeripheralForm, PeripheralRow}, Operands.{Operand, CentralOperand, PeripheralOperand}, Settled.Settled, StatementItems.{Item, Context, known, peripheral_items, operand_items}, declared.deck_kind.DeckKind.DeckKind}
 use Rattle.definitions.specs.Matching as matching
-use Rattle.expr_forms.specs.{Joins.Shapes.{field_as, instruction_with, HasForm}, declared.shapes.Field.Field}
+use Rattle.expr_forms.specs.{Joins.Shapes.{field_as, instruction_with, HasForm}, declared.shapes.Field.Field, declared.shapes.Shape.Shape}
 use Rattle.expr_forms.specs.declared.shapes.Field.TheVariants as field
-use Rattle.statement_coder.specs.Joins.FieldItems.{items_behind}
+use Rattle.statement_coder.specs.{Joins.CodedItems.{AreCoded, AreCodedAs}, Joins.FieldItems.items_behind, Joins.Items.{AreSeen, deck_with}, Joins.Readings.IsInstruction, declared.coded.Coded.Coded, declared.sizing.Sizing.Sizing}
+use Rattle.statement_coder.specs.declared.items.Item as code
 
 -- behind the digits of a peripheral instruction
 pub items_behind-form : (context : Context) (statement : Settled) (f : Field) (form : PeripheralForm) (values : List Expression) → HasForm f form values →
@@ -43,3 +44,24 @@ central-items context statement digits count (field.Displacement d) instruction 
 central-items context statement digits count (field.Shift d) instruction h = cc
 central-items context statement digits count (field.Wide value) instruction h = cc
 central-items context statement digits count (field.Long m d) instruction h = cc
+
+-- what is coded of the fields of an instruction of either table is coded of its operand
+pub instruction-coded : (context : Context) (statement : Settled) (shape : Shape) (operand : Operand) (kind : DeckKind) (sizing : Sizing) (coded : Coded) (list : List code.Item) →
+    IsInstruction shape operand → AreCodedAs (known (3 * shape.digit_count) shape.digits ∷ items_behind context statement shape.field) coded →
+    AreCoded kind operand sizing coded list list (operand_items context statement operand)
+instruction-coded context statement shape (CentralOperand instruction) kind sizing coded list h told =
+    subst (λ fields. AreCodedAs fields coded) (central-items context statement shape.digits shape.digit_count shape.field instruction h) told kind (CentralOperand instruction) sizing list refl
+instruction-coded context statement shape (PeripheralOperand row values) kind sizing coded list h told =
+    subst (λ fields. AreCodedAs fields coded) (peripheral-items context statement shape.digits shape.digit_count shape.field row values h.0 h.1 h.2) told kind (PeripheralOperand row values) sizing list refl
+instruction-coded context statement shape _ kind sizing coded list h told = absurd h
+
+-- digits, and the fields of this field behind them
+pub shape-coded : (coded : Coded) (names : Names) (kind : DeckKind) (rows : List BlockRow) (shape : Shape) (found : Field) (first : Item) (rest : List Item) →
+    first ≡ known (3 * shape.digit_count) shape.digits → shape.field ≡ found →
+    ((settled : List Settled) (literals : List ℕ) (statement : Settled) → AreSeen names (deck_with kind rows settled literals) statement → rest ≡ items_behind (deck_with kind rows settled literals) statement found) →
+    AreCodedAs (first ∷ rest) coded →
+    (settled : List Settled) (literals : List ℕ) (statement : Settled) → AreSeen names (deck_with kind rows settled literals) statement →
+    AreCodedAs (known (3 * shape.digit_count) shape.digits ∷ items_behind (deck_with kind rows settled literals) statement shape.field) coded
+shape-coded coded names kind rows shape found first rest d is same told settled literals statement seen =
+    subst (λ fields. AreCodedAs fields coded)
+    (ap₂ (λ (x : Item) (xs : List Item). x ∷ xs) d (same settled literals statement seen ∙ sym (ap (items_behind (deck_with kind rows settled literals) statement) is))) told

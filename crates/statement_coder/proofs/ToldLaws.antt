@@ -3,24 +3,9 @@ use Rattle.std.proofs.{Common.{◌≡◌, ◌∙◌, ℕ, ◌-◌, ◌*◌, ◌/
 use Rattle.definitions.{specs.Forms.characters_number, specs.Kinds.word_bits, specs.Letters.in_order, specs.Operands.{Operand, WordsOperand, TextOperand}, specs.StatementItems.{Item, Content, Known, Linked, known}, specs.Words.cut, specs.declared.deck_kind.DeckKind.DeckKind, specs.declared.letter.Letter.Letter, proofs.LiteralLaws.characters_number-below}
 use Rattle.definitions.specs.Operands as operands
 use Rattle.expr_forms.proofs.CodedLaws.{word_bits-characters}
-use Rattle.statement_coder.{specs.Joins.Items.item_as, specs.Joins.CodedItems.{IsKept, AreListed, AreTold}, specs.Joins.FieldLetters.field_letters, specs.Joins.WordItems.{is_several, known_words, words_of, in_words, listed_fields}, specs.declared.coded.CodedItems.CodedItems, specs.declared.sizing.Sizing.Sizing, proofs.ListLaws.kept-length, proofs.DatumLaws.word_bits-some, proofs.WordItemLaws.in_words-known}
+use Rattle.statement_coder.{specs.Joins.Items.item_as, specs.Joins.CodedItems.{IsKept, AreCoded, AreListed, AreTold}, specs.Joins.FieldLetters.field_letters, specs.Joins.WordItems.{is_several, known_words, words_of, in_words, listed_fields}, specs.declared.coded.{Coded.Coded, CodedItems.CodedItems}, specs.declared.sizing.Sizing.Sizing, proofs.ListLaws.kept-length, proofs.DatumLaws.word_bits-some, proofs.WordItemLaws.in_words-known}
 use Rattle.statement_coder.specs.declared.items.Item as code
 use Rattle.statement_coder.specs.declared.coded.CodedItems.TheVariants as items
-
--- what was put behind a list
-pub listed_told : (kind : DeckKind) (operand : Operand) (sizing : Sizing) (told : CodedItems) (size : ℕ) (before after : List code.Item) (fields : List Item) →
-    told ≡ items.Listed (length after - size) → size ≡ length before → IsKept before after → map item_as after ≡ map item_as before ++ listed_fields kind operand fields →
-    AreTold kind operand sizing told before after fields
-listed_told kind operand sizing told size before after fields e s kept pushed =
-    subst (λ (t : CodedItems). AreTold kind operand sizing t before after fields) (sym e) listed
-  where
-    listed : AreListed kind operand (length after - size) before after fields
-    listed = record {
-      kept = kept;
-      size = let long = kept-length before after kept in omega arith;
-      told = sym (drop-map item_as (length before) after) ∙ ap (drop (length before)) pushed
-          ∙ drop_at (map item_as before) (listed_fields kind operand fields) (length before) (length-map before item_as);
-    }
 
 -- the words of a DIS are its field word by word
 pub text-words : (kind : DeckKind) (words : ℕ) (cs : List ℕ) → 1 ≤ words → length cs ≡ words * (word_bits kind / 6) →
@@ -68,11 +53,19 @@ letters-listed kind (operands.UseName name) fields = refl
 letters-listed kind operands.UseBefore fields = refl
 letters-listed kind operands.UseRefused fields = refl
 
--- the letters of what is listed are those of the fields
-pub told-letters : (kind : DeckKind) (operand : Operand) (count : ℕ) (before after : List code.Item) (fields : List Item) (text : List ℕ) →
-    AreListed kind operand count before after fields → text ≡ in_order (field_letters (map item_as (drop (length after - count) after))) → text ≡ in_order (field_letters fields)
-told-letters kind operand count before after fields text h e =
-    let from : length after - count ≡ length before = let s = h.size in omega arith in
-    e ∙ ap (λ (n : ℕ). in_order (field_letters (map item_as (drop n after)))) from
-    ∙ ap (λ (l : List Item). in_order (field_letters l)) h.told
-    ∙ ap in_order (letters-listed kind operand fields)
+-- what is coded of fields that were put behind a list
+pub listed-coded : (kind : DeckKind) (operand : Operand) (sizing : Sizing) (coded : Coded) (size : ℕ) (before after : List code.Item) (fields : List Item) →
+    coded.items ≡ items.Listed (length after - size) → coded.letters ≡ in_order (field_letters (map item_as (drop size after))) → size ≡ length before → IsKept before after →
+    map item_as after ≡ map item_as before ++ listed_fields kind operand fields → AreCoded kind operand sizing coded before after fields
+listed-coded kind operand sizing coded size before after fields e flagged s kept pushed = (
+  subst (λ (t : CodedItems). AreTold kind operand sizing t before after fields) (sym e) listed,
+  flagged ∙ ap (λ (n : ℕ). in_order (field_letters (map item_as (drop n after)))) s ∙ ap (λ (l : List Item). in_order (field_letters l)) listed.told ∙ ap in_order (letters-listed kind operand fields),
+)
+  where
+    listed : AreListed kind operand (length after - size) before after fields
+    listed = record {
+      kept = kept;
+      size = let long = kept-length before after kept in omega arith;
+      told = sym (drop-map item_as (length before) after) ∙ ap (drop (length before)) pushed
+          ∙ drop_at (map item_as before) (listed_fields kind operand fields) (length before) (length-map before item_as);
+    }

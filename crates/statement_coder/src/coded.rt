@@ -1,14 +1,14 @@
 //! What is listed of a coded statement: its fields and its letters.
-use crate::InstructionItems;
+use crate::Item;
 use operations::Letters;
 
 /// The fields of a statement.
 #[derive(Clone, Copy)]
-pub enum CodedItems {
+pub enum CodedItems<'a> {
     /// It has none.
     Absent,
     /// Those of an instruction.
-    Instruction(InstructionItems),
+    Instruction(&'a [Item]),
     /// So many at the end of the list; a field of several words is listed word by word.
     Listed(usize),
     /// Zeros from its place to its end, as BSSZ stores them.
@@ -17,7 +17,7 @@ pub enum CodedItems {
 
 /// A statement that is coded: its fields, and all its letters.
 #[derive(Drop)]
-pub struct Coded {
-    pub items: CodedItems,
+pub struct Coded<'a> {
+    pub items: CodedItems<'a>,
     pub letters: Letters,
 }

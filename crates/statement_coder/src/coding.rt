@@ -18,7 +18,7 @@ use crate::coded::{Coded, CodedItems};
 use crate::entry_letters::entry_letters;
 use crate::final_names::{FinalNames, FinalSymbols};
 use crate::kept_sizing::KeptSizing;
-use crate::operand_fields::{fields_told, take_back, told_letters};
+use crate::operand_fields::{fields_told, take_back};
 use crate::read_operands::ReadOperand;
 use crate::{BlockBases, Item};
 use operations::Operation;
@@ -26,10 +26,10 @@ use std::alloc::AllocError;
 use work_meter::{Meter, count_coded};
 
 /// The fields of a statement that stores those of its operand: none where it ends at its place.
-fn within(sizing: &KeptSizing, items: CodedItems, list: &mut Vec<Item>) -> CodedItems
-    ensures some { is_zeros items ≡ false → is_zeros result ≡ false }
+fn within<'a>(sizing: &KeptSizing, items: CodedItems<'a>, list: &mut Vec<Item>) -> CodedItems<'a>
+    ensures some { is_zeros items.entry ≡ false → is_zeros result ≡ false }
     ensures told { (kind : kinds.DeckKind) (operand : operands.Operand) (before : List fields.Item) (told : List definitions.Item) →
-        AreTold kind operand sizing.now items before list.old.items told →
+        AreTold kind operand sizing.now items.entry before list.old.items told →
         AreTold kind operand sizing.now result before list.new.items (if nat_le sizing.now.usual.end sizing.now.usual.place then [] else told) }
 {
     if sizing.end() <= sizing.place() {
@@ -41,10 +41,10 @@ fn within(sizing: &KeptSizing, items: CodedItems, list: &mut Vec<Item>) -> Coded
 }
 
 /// The zeros of a BSSZ.
-fn zeros(items: CodedItems, list: &mut Vec<Item>) -> CodedItems
+fn zeros<'a>(items: CodedItems<'a>, list: &mut Vec<Item>) -> CodedItems<'a>
     ensures zeros { result ≡ CodedItems.Zeros }
     ensures list { (kind : kinds.DeckKind) (operand : operands.Operand) (sizing : sizings.Sizing) (before : List fields.Item) (told : List definitions.Item) →
-        AreTold kind operand sizing items before list.old.items told → list.new.items ≡ before }
+        AreTold kind operand sizing items.entry before list.old.items told → list.new.items ≡ before }
 {
     take_back(items, list);
     CodedItems::Zeros
@@ -52,15 +52,15 @@ fn zeros(items: CodedItems, list: &mut Vec<Item>) -> CodedItems
 
 /// The fields of a statement, where those of its operand are listed: BSSZ has zeros, and a statement
 /// that ends at its place has none.
-fn placed(
+fn placed<'a>(
     operation: Operation,
     sizing: &KeptSizing,
-    items: CodedItems,
+    items: CodedItems<'a>,
     list: &mut Vec<Item>,
-) -> CodedItems
-    ensures zeros { is_zeros items ≡ false → is_zeros result ≡ stores_zeros (operation_as operation) }
+) -> CodedItems<'a>
+    ensures zeros { is_zeros items.entry ≡ false → is_zeros result ≡ stores_zeros (operation_as operation) }
     ensures told { (kind : kinds.DeckKind) (view : View) (context : definitions.Context) (settled : Settled) (before : List fields.Item) → context.kind ≡ kind → IsSizing kind view settled sizing.now →
-        AreTold kind settled.read.operand sizing.now items before list.old.items (operand_items context settled settled.read.operand) →
+        AreTold kind settled.read.operand sizing.now items.entry before list.old.items (operand_items context settled settled.read.operand) →
         AreTold kind settled.read.operand sizing.now result before list.new.items (items_of context settled (operation_as operation)) }
 {
     match operation {
@@ -70,13 +70,14 @@ fn placed(
 }
 
 /// An operand that was read, coded.
-fn coded<S: FinalSymbols, B: BlockBases>(
+fn coded<'a, S: FinalSymbols, B: BlockBases>(
     read: &ReadOperand<'_>,
     sizing: &KeptSizing,
     symbols: &S,
     bases: &B,
     list: &mut Vec<Item>,
-) -> Result<Coded, AllocError>
+    room: &'a mut [Item; 3],
+) -> Result<Coded<'a>, AllocError>
     ensures items { IfOk result (λ coded. AreCodedItems read.now sizing.now (S.symbols symbols.now) (S.literals symbols.now) (B.rows bases.now) coded list.old.items list.new.items) }
     ensures letters { IfOk result (λ coded. AreCodedLetters read.now sizing.now (S.symbols symbols.now) (S.literals symbols.now) (B.rows bases.now) coded) }
     ensures zeros { IfOk result (λ coded. is_zeros coded.items ≡ stores_zeros (operation_as read.now.operation)) }
@@ -90,12 +91,11 @@ fn coded<S: FinalSymbols, B: BlockBases>(
         kind,
         sizing,
     };
-    let told = fields_told(kind, bases, &names, &read.reading, list)?;
+    let told = fields_told(kind, bases, &names, &read.reading, list, room)?;
     let entries = entry_letters(kind, operation, symbols, &read.reading);
-    let fields = told_letters(&told, list);
-    let letters = sizing.letters().union(&entries.union(&fields));
+    let letters = sizing.letters().union(&entries.union(&told.letters));
     Ok(Coded {
-        items: placed(operation, sizing, told, list),
+        items: placed(operation, sizing, told.items, list),
         letters,
     })
 }
@@ -103,15 +103,16 @@ fn coded<S: FinalSymbols, B: BlockBases>(
 /// The fields of a sized statement whose operand was read, and all its letters, once all symbols and
 /// literals have their values and all blocks their places, counted in the meter: exactly those of the
 /// definitions. The fields of data are put at the end of the list, and they alone take memory; where
-/// it runs out the list is as it was.
-pub fn code<S: FinalSymbols, B: BlockBases>(
+/// it runs out the list is as it was. The fields of an instruction stand in the room.
+pub fn code<'a, S: FinalSymbols, B: BlockBases>(
     read: &ReadOperand<'_>,
     sizing: &KeptSizing,
     symbols: &S,
     bases: &B,
     list: &mut Vec<Item>,
+    room: &'a mut [Item; 3],
     meter: &mut Meter,
-) -> Result<Coded, AllocError>
+) -> Result<Coded<'a>, AllocError>
     ensures items { IfOk result (λ coded. AreCodedItems read.now sizing.now (S.symbols symbols.now) (S.literals symbols.now) (B.rows bases.now) coded list.old.items list.new.items) }
     ensures letters { IfOk result (λ coded. AreCodedLetters read.now sizing.now (S.symbols symbols.now) (S.literals symbols.now) (B.rows bases.now) coded) }
     ensures zeros { IfOk result (λ coded. is_zeros coded.items ≡ stores_zeros (operation_as read.now.operation)) }
@@ -122,5 +123,5 @@ pub fn code<S: FinalSymbols, B: BlockBases>(
     ensures sized { meter.new.sized ≡ meter.old.sized }
 {
     count_coded(meter);
-    coded(read, sizing, symbols, bases, list)
+    coded(read, sizing, symbols, bases, list, room)
 }

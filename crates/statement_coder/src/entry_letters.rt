@@ -89,6 +89,7 @@ fn operand_letters<S: FinalSymbols>(symbols: &S, reading: &Reading<'_>) -> Lette
 }
 
 /// The letters that names add to an operation outside peripheral decks.
+#[inline(always)]
 fn operation_letters<S: FinalSymbols>(
     operation: Operation,
     symbols: &S,

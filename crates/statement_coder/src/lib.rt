@@ -69,7 +69,6 @@ pub use coding::code;
 pub use definitions_made::Defines;
 pub use early_values::EarlySymbols;
 pub use final_names::FinalSymbols;
-pub use instruction_fields::InstructionItems;
 pub use items::{Content, Item, signed};
 pub use kept_readings::KeptReading;
 pub use kept_sizing::KeptSizing;

@@ -19,10 +19,14 @@ pub record IsNumber (fields : List Item) (bits : ℕ) : Type 0 where
   pub room : bits < 2 ^ width_of fields
   pub short : width_of fields ≤ 60
 
+-- there are some, and they are this number
+abbrev pub IsOneNumber : List Item → ℕ → Type 0
+IsOneNumber fields bits = HasFields fields × IsNumber fields bits
+
 -- what a line keeps of these fields of an operand, with the fields of its object
 abbrev pub AreKeptAs : DeckKind → Operand → Sizing → kept.LineFields → List code.Item → List Item → Type 0
 AreKeptAs kind operand sizing fields.Absent items told = told ≡ []
-AreKeptAs kind operand sizing (fields.Known bits) items told = HasFields (listed_fields kind operand told) × IsNumber (listed_fields kind operand told) bits
+AreKeptAs kind operand sizing (fields.Known bits) items told = IsOneNumber (listed_fields kind operand told) bits
 AreKeptAs kind operand sizing (fields.Listed first count) items told = (first + count ≤ length items) × (listed items first count ≡ listed_fields kind operand told)
 AreKeptAs kind operand sizing fields.Zeros items told = told ≡ zeros_of kind sizing ∷ []
 

@@ -1,10 +1,9 @@
 -- Fields of the code, in the words of the definitions.
-use Rattle.std.specs.Prelude.{ℕ, ◌≡◌, List, [], ◌∷◌, ◌++◌, Option, Some, None}
+use Rattle.std.specs.Prelude.{ℕ, ◌≡◌, List, [], ◌∷◌, Option, Some, None}
 use Rattle.definitions.specs.{Forms.Names, Settled.Settled, Lengths.BlockRow, StatementItems.{Content, Known, Linked, Item, Context, final_names}, declared.deck_kind.DeckKind.DeckKind, declared.letter.Letter.Letter}
 use Rattle.statement_coder.specs.declared.items.Content as contents
 use Rattle.statement_coder.specs.declared.items.Content.TheVariants as content
 use Rattle.statement_coder.specs.declared.items.Item as code
-use Rattle.statement_coder.specs.declared.instruction_fields.InstructionItems as instructions
 
 -- bits, or a form that the link makes bits of
 abbrev pub content_as : contents.Content → Content
@@ -27,12 +26,3 @@ deck_with kind rows settled literals = record { kind = kind; settled = settled; 
 -- these are the names that a statement of a deck sees
 abbrev pub AreSeen : Names → Context → Settled → Type 0
 AreSeen names context settled = names ≡ final_names context settled
-
--- a field, if there is one
-abbrev pub option_items : Option code.Item → List Item
-option_items None = []
-option_items (Some item) = item_as item ∷ []
-
--- the fields of an instruction from left to right
-abbrev pub items_as : instructions.InstructionItems → List Item
-items_as items = item_as items.digits ∷ (option_items items.first ++ option_items items.second)

@@ -9,4 +9,4 @@ returns-clause-copied c =
     let before = c.args.items.now.items in
     let after = c.put_listed.new.items.items in
     subst (λ (f : LineFields). AreListedAlike c.args.others.now c.args.first c.args.count f after) (sym c.in_ok-fields.ensures.listed)
-    (listed-put before after c.some_of.result.now c.put_listed.ensures.kept c.in_ok-fields.ensures.put c.args.others.now c.args.first c.args.count (c.some_of.ensures within))
+    (listed-put before after c.some_of.result.now c.in_ok-fields.ensures.put c.args.others.now c.args.first c.args.count (c.some_of.ensures within))

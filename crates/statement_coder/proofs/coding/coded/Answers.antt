@@ -13,22 +13,20 @@ returns-clause-items g c =
     let seen = are_seen (g.S.FinalSymbols.symbols c.args.symbols.now) (g.S.FinalSymbols.literals c.args.symbols.now) (location_in read.kind sizing) (origin_in read.kind sizing) context settled symbols words is.location is.origin in
     let told = c.in_ok-told.ensures.told all literals settled settled.read.operand sizing seen taken.operand in
     subst (λ operation. AreTold read.kind settled.read.operand sizing c.placed.result before c.placed.new.list.items (items_of context settled operation)) (sym taken.operation)
-    (c.placed.ensures.told read.kind view context settled before refl is told)
+    (c.placed.ensures.told read.kind view context settled before refl is told.0)
 
 pub returns-clause-letters : goal.returns-clause-letters
 returns-clause-letters g c =
     λ view settled all literals symbols words is taken.
     let read = c.args.read.now in
     let sizing = c.args.sizing.now in
-    let before = c.args.list.now.items in
     let context = deck_with read.kind (g.B.BlockBases.rows c.args.bases.now) all literals in
     let operand = settled.read.operand in
     let fields = operand_items context settled operand in
     let seen = are_seen (g.S.FinalSymbols.symbols c.args.symbols.now) (g.S.FinalSymbols.literals c.args.symbols.now) (location_in read.kind sizing) (origin_in read.kind sizing) context settled symbols words is.location is.origin in
     let told = c.in_ok-told.ensures.told all literals settled operand sizing seen taken.operand in
-    let in_list = subst (λ l. AreTold read.kind operand sizing c.in_ok-told.told before l fields) (sym c.deref.ensures.value) told in
     let entries : List Letter = entry_letters read.kind all settled.read.operation operand in
     let entries_are : c.entry_letters-entries.result ≡ in_order entries =
     c.entry_letters-entries.ensures all operand symbols taken.operand ∙ ap (λ operation. in_order (entry_letters read.kind all operation operand)) (sym taken.operation) in
     c.union-letters.ensures settled.letters (entries ++ field_letters fields) (c.letters.ensures ∙ is.letters)
-    (c.union.ensures entries (field_letters fields) entries_are (c.told_letters-fields.ensures read.kind operand sizing before fields in_list))
+    (c.union.ensures entries (field_letters fields) entries_are told.1)
