@@ -1,5 +1,5 @@
 -- What is left of readers one after the other.
-use Rattle.std.{proofs.Common.{ℕ, ◌≡◌, ◌+◌, ◌<◌, List, [], ◌∷◌, ◌++◌, Bool, true, false, not, length, drop, refl, sym, ap, ◌∙◌, subst, append_assoc, Option, None, Some, if◌then◌else◌, slice_index_or, slice_set}, proofs.lemmas.List.{drop_more, drop-set}, specs.Prelude.◌==◌, specs.Io.KnownBytes.{Consumes, IsAtEnd, prepend_known}}
+use Rattle.std.{proofs.Common.{ℕ, ◌≡◌, ◌+◌, ◌<◌, List, [], ◌∷◌, ◌++◌, Bool, true, false, not, length, drop, refl, sym, ap, ◌∙◌, subst, append_assoc, Option, None, Some, if◌then◌else◌, slice_index_or, slice_set}, proofs.lemmas.List.{drop_more, drop-set}, specs.Prelude.◌==◌, specs.Io.KnownBytes.{Consumes, prepend_known}}
 use Rattle.text_ports.specs.Lines.{line_feed}
 use Rattle.asm_main.specs.{Joins.Chains.{is_open_behind, joined, joined_with}, declared.chained.Part.Part}
 
@@ -26,21 +26,6 @@ joined_with-gave o (Some xs) (Some ys) rest bs p =
     subst (λ (t : Bool). Consumes (if t then Some (bs ++ ys) else prepend_known (bs ++ ys) rest) (joined_with (is_open_behind o bs) (Some ys) rest) bs)
     (sym (open-append o bs ys)) (consumes-either (is_open_behind (is_open_behind o bs) ys) bs ys rest) in
     subst (λ (l : List ℕ). Consumes (joined_with o (Some l) rest) (joined_with (is_open_behind o bs) (Some ys) rest) bs) (sym p) whole
-
--- nothing in front of what is left
-known-nil : (rest : Option (List ℕ)) → Consumes (prepend_known [] rest) rest []
-known-nil None = tt
-known-nil (Some zs) = refl
-
-ended-nil : (o : Bool) (rest : Option (List ℕ)) → Consumes (joined_with o (Some []) rest) (if o then Some [] else rest) []
-ended-nil true rest = refl
-ended-nil false rest = known-nil rest
-
--- a part had no more
-pub joined_with-ended : (o : Bool) (old new rest : Option (List ℕ)) → Consumes old new [] → IsAtEnd new → Consumes (joined_with o old rest) (if o then Some [] else rest) []
-joined_with-ended o None new rest p e = tt
-joined_with-ended o (Some xs) None rest p e = absurd p
-joined_with-ended o (Some xs) (Some ys) rest p e = subst (λ (l : List ℕ). Consumes (joined_with o (Some l) rest) (if o then Some [] else rest) []) (sym (p ∙ e)) (ended-nil o rest)
 
 -- the part at a place gave bytes, and nothing else changed
 pub joined-gave : {R : Type 0} (f : R → Option (List ℕ)) (parts : List (Part R)) (n : ℕ) (old new : Part R) (bs : List ℕ) → n < length parts → old ≡ slice_index_or parts n old → new.is_open ≡ is_open_behind old.is_open bs → Consumes (f old.reader) (f new.reader) bs → Consumes (joined f (drop n parts)) (joined f (drop n (slice_set parts n new))) bs

@@ -1,6 +1,6 @@
 -- Edits carried one behind the other.
-use Rattle.std.proofs.{Common.{ℕ, zero, suc, ◌≡◌, ◌+◌, ◌*◌, ◌^◌, ◌≤◌, ◌<◌, ◌⊎◌, inl, inr, List, [], ◌∷◌, ◌++◌, length, take, drop, get_or, Result, Ok, Err, refl, sym, ap, ◌∙◌, arith, append_assoc}, Math.ListN.{set, length-set}, lemmas.List.{at_drop_all, drop_more, take_all, take-set, append-nil, get_or-set_same}}
-use Rattle.cards.specs.{declared.edits.Edit.Edit, declared.carrying.Origin.Origin, declared.carrying.Touched.Touched, Carrying.{Whereabouts, carried_place, placed, origin_of, stands_from, stands_after, in_front, carried}, Joins.CarrySteps.{stands_through, placed_all, AreNear, in_front_all, carried_to}}
+use Rattle.std.proofs.{Common.{ℕ, zero, suc, ◌≡◌, ◌+◌, ◌*◌, ◌^◌, ◌≤◌, ◌<◌, ◌⊎◌, inl, inr, List, [], ◌∷◌, ◌++◌, length, take, drop, get_or, Result, Ok, Err, refl, sym, ap, ◌∙◌, arith, append_assoc}, Math.ListN.{set, length-set}, lemmas.List.{drop_more, take-set, get_or-set_same}}
+use Rattle.cards.specs.{declared.edits.Edit.Edit, declared.carrying.Origin.Origin, declared.carrying.Touched.Touched, Carrying.{Whereabouts, carried_place, placed, origin_of, stands_from, stands_after, in_front, carried}, Joins.CarrySteps.{stands_through, placed_all, AreNear, in_front_all}}
 
 -- where the cards stand once one edit more is made
 pub stands-more : (edits : List Edit) (places : List ℕ) (n : ℕ) (edit : Edit) (now : ℕ) (stands : Whereabouts) → n < length edits → n < length places → edit ≡ get_or edits n edit → now ≡ get_or places n now →
@@ -111,12 +111,3 @@ near-more count made now places within near here = λ k below. elim (set-either 
   | inl both ↦ (let is = both.0 in let got = both.1 in omega arith)
   | inr both ↦ (let other = both.0 in let got = both.1 in let old : get_or places k 0 ≤ 2 ^ 32 + made + 2 * k + 2 = near k (omega arith) in omega arith)
 ]
-
--- all edits are carried
-pub carries-all : (edits : List Edit) (places : List ℕ) (stands : Whereabouts) (k : ℕ) → k ≡ length edits → so_far edits places stands k ≡ carried_to edits (Ok places)
-carries-all edits places stands k all =
-    let front : List Edit = placed_all (take k edits) (take k places) in
-    at_drop_all (λ (left : List Edit). in_front_all front (carried (stands_through (take k edits) (take k places) stands) left)) edits k (omega arith)
-    ∙ ap (λ (es : List Edit). Ok es) (append-nil front)
-    ∙ ap (λ (es : List Edit). Ok (placed_all es (take k places))) (take_all k edits (omega arith))
-    ∙ ap (λ (n : ℕ). Ok (placed_all edits (take n places))) all

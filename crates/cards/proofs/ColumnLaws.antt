@@ -1,5 +1,5 @@
 -- Columns with blanks behind them, and the text of cards.
-use Rattle.std.{proofs.Common.{ℕ, ◌≡◌, ◌+◌, ◌-◌, ◌≤◌, ◌<◌, List, [], ◌∷◌, ◌++◌, length, take, drop, get_or, replicate, sym, ◌∙◌, ap, arith, length-append, append_assoc}, proofs.lemmas.List.{take-take, take-append-le, length-replicate, length-take-le, replicate-append-replicate, at_drop_more}, specs.List.flat_map}
+use Rattle.std.{proofs.Common.{ℕ, ◌≡◌, ◌+◌, ◌<◌, List, [], ◌∷◌, ◌++◌, length, drop, get_or, replicate, sym, ◌∙◌, ap, arith, length-append, append_assoc}, proofs.lemmas.List.{length-replicate, length-take-le, at_drop_more}, specs.List.flat_map}
 use Rattle.definitions.specs.{Characters.blank, Cards.padded, Statements.text_of}
 
 -- as many columns as are asked for
@@ -7,17 +7,6 @@ pub length-padded : (width : ℕ) (card : List ℕ) → length (padded width car
 length-padded width card =
     length-take-le width (card ++ replicate width blank)
     (omega (arith, length-append card (replicate width blank), length-replicate width blank))
-
--- fewer columns of a padded card are the card padded to fewer columns
-pub take-padded : (few many : ℕ) (card : List ℕ) → few ≤ many → take few (padded many card) ≡ padded few card
-take-padded few many card h =
-    let e : few + (many - few) ≡ many = omega arith in
-    take-take few many (card ++ replicate many blank) h
-    ∙ ap (λ (n : ℕ). take few (card ++ replicate n blank)) (sym e)
-    ∙ ap (λ (l : List ℕ). take few (card ++ l)) (sym (replicate-append-replicate few (many - few) blank))
-    ∙ ap (take few) (sym (append_assoc card (replicate few blank) (replicate (many - few) blank)))
-    ∙ take-append-le few (card ++ replicate few blank) (replicate (many - few) blank)
-    (omega (arith, length-append card (replicate few blank), length-replicate few blank))
 
 -- the columns of a comma card that are read
 abbrev pub comma_columns : List ℕ → List ℕ

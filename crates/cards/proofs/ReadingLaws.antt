@@ -1,6 +1,6 @@
 -- The steps of reading a variable field.
-use Rattle.std.proofs.{Common.{ℕ, zero, suc, ◌≡◌, ◌≢◌, ◌==◌, ◌+◌, ◌-◌, ◌<◌, ◌≤◌, inl, inr, List, [], ◌∷◌, Bool, true, false, true≢false, Option, Some, None, is_some, if◌then◌else◌, length, take, drop, get_or, refl, sym, ◌∙◌, ap, subst, arith, ne_eqb, codes}, lemmas.Bool.Decides.eqb_tells, lemmas.List.at_drop_more}
-use Rattle.definitions.{specs.Characters.{blank, comma, plus, minus, star, slash, equals, same_text}, specs.CountedItems.{CountedSpan, counted_item_at}, specs.Pieces.{Spot, AtStart, AtEquals, Inside, Mark, Comma, Plus, Minus, Star, Slash, Equals, ByMark, mark_of, begun_by, begun_by_counted_item, begun_at, spot_behind, left_of, field_at}, specs.Fields.variable_of, proofs.FieldLaws.{field_at-blank, field_at-other}}
+use Rattle.std.proofs.{Common.{ℕ, zero, suc, ◌≡◌, ◌≢◌, ◌==◌, ◌+◌, ◌-◌, ◌<◌, ◌≤◌, inl, inr, List, [], ◌∷◌, Bool, false, true≢false, Option, Some, None, is_some, if◌then◌else◌, length, take, drop, refl, sym, ◌∙◌, ap, subst, arith, codes}, lemmas.Bool.Decides.eqb_tells}
+use Rattle.definitions.{specs.Characters.{blank, same_text}, specs.CountedItems.{CountedSpan, counted_item_at}, specs.Pieces.{Spot, AtStart, AtEquals, Inside, begun_by_counted_item, begun_at, spot_behind, left_of, field_at}, specs.Fields.variable_of, proofs.FieldLaws.{field_at-blank, field_at-other}}
 
 -- a field begins its text
 pub take-field_at : (spot : Spot) (left : ℕ) (text : List ℕ) → take (length (field_at spot left text)) text ≡ field_at spot left text
@@ -54,54 +54,6 @@ no-item-begins [] e = refl
 no-item-begins (c ∷ cs) e =
     ap (λ (o : Option CountedSpan). length (if c == blank then [] else c ∷ field_at (spot_behind (begun_by_counted_item c o)) (left_of (begun_by_counted_item c o)) cs)) e
     ∙ nothing-more (length (field_at Inside 0 (c ∷ cs)))
-
--- a field that no equals sign begins
-pub no-equals-begins : (c : ℕ) (cs : List ℕ) → c ≢ equals → field_at AtStart 0 (c ∷ cs) ≡ field_at AtEquals 0 (c ∷ cs)
-no-equals-begins c cs h =
-    let counted = begun_by_counted_item c (counted_item_at (c ∷ cs)) in
-    ap (λ (t : Bool). let begun = if t then ByMark Equals else counted in if c == blank then [] else c ∷ field_at (spot_behind begun) (left_of begun) cs) (ne_eqb c equals h)
-
--- what follows a mark
-mark-begins : (c : ℕ) (cs : List ℕ) (by_comma by_plus by_minus by_star by_slash : Bool) →
-    let mark = if by_comma then Some Comma else if by_plus then Some Plus else if by_minus then Some Minus else if by_star then Some Star else if by_slash then Some Slash else None in
-    is_some mark ≡ true → field_at (spot_behind (begun_by c mark)) (left_of (begun_by c mark)) cs ≡ field_at AtStart 0 cs
-mark-begins c cs true _ _ _ _ h = refl
-mark-begins c cs false true _ _ _ h = refl
-mark-begins c cs false false true _ _ h = refl
-mark-begins c cs false false false true _ h = refl
-mark-begins c cs false false false false true h = refl
-mark-begins c cs false false false false false h = absurd (true≢false (sym h))
-
--- what follows another character
-other-begins : (c : ℕ) (cs : List ℕ) (mark : Option Mark) → is_some mark ≡ false →
-    field_at (spot_behind (begun_by c mark)) (left_of (begun_by c mark)) cs ≡ field_at Inside 0 cs
-other-begins c cs None h = refl
-other-begins c cs (Some mark) h = absurd (true≢false h)
-
--- how long a field is of which so many characters were read: one character more, a mark
-pub length-mark : (text : List ℕ) (len : ℕ) → len < length text → is_some (mark_of (get_or text len 0)) ≡ true →
-    length (field_at Inside 0 (drop len text)) ≡ 1 + length (field_at AtStart 0 (drop (len + 1) text))
-length-mark text len within h =
-    let c = get_or text len 0 in
-    let cs = drop (len + 1) text in
-    let other : c ≢ blank = λ e. absurd (true≢false (sym (subst (λ (d : ℕ). is_some (mark_of d) ≡ true) e h))) in
-    ap length (at_drop_more (field_at Inside 0) text len 0 within ∙ field_at-other Inside c cs other
-    ∙ ap (λ (l : List ℕ). c ∷ l) (mark-begins c cs (c == comma) (c == plus) (c == minus) (c == star) (c == slash) h))
-    ∙ one-more (length (field_at AtStart 0 cs))
-
--- another character
-pub length-other : (text : List ℕ) (len : ℕ) → len < length text → is_some (mark_of (get_or text len 0)) ≡ false → get_or text len 0 ≢ blank →
-    length (field_at Inside 0 (drop len text)) ≡ 1 + length (field_at Inside 0 (drop (len + 1) text))
-length-other text len within h other =
-    let c = get_or text len 0 in
-    let cs = drop (len + 1) text in
-    ap length (at_drop_more (field_at Inside 0) text len 0 within ∙ field_at-other Inside c cs other ∙ ap (λ (l : List ℕ). c ∷ l) (other-begins c cs (mark_of c) h))
-    ∙ one-more (length (field_at Inside 0 cs))
-
--- a blank ends it
-pub length-blank : (text : List ℕ) (len : ℕ) → len < length text → get_or text len 0 ≡ blank → length (field_at Inside 0 (drop len text)) ≡ 0
-length-blank text len within h =
-    ap length (at_drop_more (field_at Inside 0) text len 0 within ∙ field_at-blank Inside (get_or text len 0) (drop (len + 1) text) h)
 
 -- the variable field of any operation but DIS
 pub variable-other : (operation rest part : List ℕ) (len : ℕ) → same_text operation (codes "DIS") ≡ false → part ≡ rest →

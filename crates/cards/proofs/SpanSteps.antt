@@ -1,5 +1,5 @@
 -- Steps over the cards of a deck, whose statements are spans.
-use Rattle.std.{proofs.Common.{◌≡◌, ℕ, ◌+◌, ◌-◌, ◌≤◌, ◌<◌, zero, suc, List, [], ◌∷◌, ◌++◌, Bool, true, false, length, take, drop, get_or, refl, sym, ap, ◌∙◌, arith, reverse}, specs.Prelude.{All, nat_lt, nat_le, ◌&&◌, if◌then◌else◌}, specs.List.AllByRecursion, proofs.lemmas.Bool.{lt-ltb, leb-true, ltb-true}, proofs.lemmas.List.Elements.All-from_recursion, proofs.lemmas.List.{map_push, reverse-append, take_more, get_or-drop, length-reverse, length-take-le, length-drop}}
+use Rattle.std.{proofs.Common.{◌≡◌, ℕ, ◌+◌, ◌-◌, ◌≤◌, ◌<◌, zero, suc, List, [], ◌∷◌, ◌++◌, Bool, true, false, length, take, drop, get_or, refl, sym, ap, ◌∙◌, arith, reverse}, specs.Prelude.{nat_lt, nat_le, ◌&&◌, if◌then◌else◌}, specs.List.AllByRecursion, proofs.lemmas.Bool.{lt-ltb, leb-true, ltb-true}, proofs.lemmas.List.{map_push, reverse-append, take_more, get_or-drop, length-reverse, length-take-le, length-drop}}
 use Rattle.definitions.specs.{Cards.{Card, is_comma_card}, Statements.{Statement, statements_of, onto_latest, continues}}
 use Rattle.cards.{specs.declared.statement_list.Span.Span, specs.declared.statement_list.Before.Before, specs.Joins.Befores.{before_of, with_card, is_continued_by}, specs.Joins.Spans.{IsSpan, statement_at, statements_at, with_last}, proofs.BeforeSteps.{before_of-more, few-more}}
 
@@ -127,9 +127,6 @@ closed-with_last spans start k true e few all =
     rw e (push_span k spans (span_of start k) all (record { some = omega arith; few = few; within = omega arith }))
 closed-with_last spans start k false e few all = rw e all
 
-pub IsShort-none : IsShort [] 0 0 (before_of [])
-IsShort-none = record { open_few = omega arith; open_comma = λ o c. omega arith; closed = tt }
-
 pub IsShort-begins : (spans : List Span) (start k : ℕ) (before : Before) (card : Card) → IsShort spans start k before → IsShort (with_last spans start k) k (k + 1) (with_card card before)
 IsShort-begins spans start k before card h = record {
   open_few = omega arith;
@@ -153,7 +150,3 @@ IsShort-continues spans start k before card is h =
       open_comma = λ o c. omega arith;
       closed = more_cards k (k + 1) spans (omega arith) h.closed;
     })
-
--- all spans, when the last one is closed
-pub IsShort-all : (spans : List Span) (start k : ℕ) (before : Before) → IsShort spans start k before → All (IsSpan k) (with_last spans start k)
-IsShort-all spans start k before h = All-from_recursion _ (with_last spans start k) (closed-with_last spans start k (nat_lt start k) refl h.open_few h.closed)

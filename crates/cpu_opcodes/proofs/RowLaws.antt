@@ -1,9 +1,9 @@
 -- The rows of an operation give what the definitions' rows give.
 use Rattle.std.{proofs.Common.{◌≡◌, ℕ, Bool, true, false, not, cond, ◌&&◌, List, [], ◌∷◌, ◌++◌, Option, Some, None, map, filter, eqb, refl, sym, ap, ◌∙◌}, specs.Prelude.{nat_lt, option_map, option_and_then}, specs.List.{list_all, slice_split}, proofs.lemmas.Bool.{and_parts, eqb-true}}
-use Rattle.definitions.specs.{Pieces.Piece, CentralTable.SumRow, Matching.{RegisterDigits, no_ijk, is_ijk, is_octal_digit, matched, is_operation, NoField, Instruction, instruction_of, Sum, subfields_matched, with_field, sum_code, sum_instruction, ignoring_fit, row_fit, sum_fit, rows_for, sum_rows_for, first_fit}, declared.number_base.NumberBase.NumberBase}
+use Rattle.definitions.specs.{Pieces.Piece, CentralTable.SumRow, Matching.{RegisterDigits, no_ijk, is_ijk, is_octal_digit, matched, is_operation, NoField, Instruction, instruction_of, Sum, subfields_matched, with_field, sum_code, sum_instruction, row_fit, sum_fit, rows_for, sum_rows_for, first_fit}, declared.number_base.NumberBase.NumberBase}
 use Rattle.definitions.specs.CentralTable as table
 use Rattle.operations.specs.declared.row.Row.{Row}
-use Rattle.cpu_opcodes.{specs.declared.code.Code.Code, specs.declared.code.OperandForm.OperandForm, specs.declared.code.SumForm.SumForm, specs.Joins.CentralTables.{operand_row, code_row, sum_row, padded_row, padded_sum_row, ignoring_rows_of, operand_rows_of, sum_rows_of}, specs.Joins.Fits.{named_digits, row_fit_with, sum_fit_with}, proofs.OperationLaws.{is_shaped, is_found, is_operation-found, no_more, matched-letter, is_not, operation-none, operation-short}}
+use Rattle.cpu_opcodes.{specs.declared.code.OperandForm.OperandForm, specs.declared.code.SumForm.SumForm, specs.Joins.CentralTables.{operand_row, sum_row, padded_row, padded_sum_row, operand_rows_of, sum_rows_of}, specs.Joins.Fits.{named_digits, row_fit_with, sum_fit_with}, proofs.OperationLaws.{is_shaped, is_found, is_operation-found, no_more, matched-letter, is_not, operation-none, operation-short}}
 
 both_ways : true ≡ false → ⊥
 both_ways e = cc
@@ -115,12 +115,6 @@ sum-fits operation (Some sum) rows ijk named same =
     (λ row shaped is. ap (λ n. sum_instruction (sum_code row sum.others) sum (option_and_then (matched row.registers sum.registers) n)) (sym (matched-named row.operation operation shaped is)))
     refl
 
--- the rows whose operand is ignored
-pub ignoring-fits : (operation : List ℕ) (rows : List (Row Code)) → map code_row rows ≡ ignoring_rows_of operation →
-    map (λ (row : Row Code). ignoring_fit (code_row row)) rows ≡ map ignoring_fit (rows_for operation table.ignoring_rows)
-ignoring-fits operation rows same =
-    rows_agree (λ (row : table.Row). row.operation) padded_row ignoring_fit ignoring_fit code_row table.ignoring_rows rows operation same (λ row. refl) (λ row shaped is. refl) refl
-
 -- the first that fits of two lists
 abbrev pub or_fit : Option Instruction → Option Instruction → Option Instruction
 or_fit None o = o
@@ -138,7 +132,3 @@ first_fit-none (x ∷ xs) = first_fit-none xs
 -- the rows of sums that are asked for none
 pub no_sum-fits : (operation : List ℕ) → first_fit (map (sum_fit operation None) (sum_rows_for operation table.sum_rows)) ≡ None
 no_sum-fits operation = first_fit-none (sum_rows_for operation table.sum_rows)
-
--- where the rows of a table are none, no row fits
-pub none_left : {X Y : Type 0} (as_row : X → Y) (rows : List X) → rows ≡ [] → map as_row rows ≡ []
-none_left as_row rows none = ap (map as_row) none

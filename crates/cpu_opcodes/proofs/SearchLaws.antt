@@ -27,11 +27,6 @@ first_of : (i a rest : Option Instruction) → i ≡ a → is_some i ≡ true �
 first_of None a rest same some = absurd (cc)
 first_of (Some instruction) a rest same some = ap (λ o. or_fit o rest) same
 
--- where a row whose operand is ignored fits
-pub by_ignoring : (base : NumberBase) (operation : List ℕ) (subfields : List (List Piece)) (i : Option Instruction) → is_some i ≡ true → i ≡ ignoring_fits operation → i ≡ central_of base operation subfields
-by_ignoring base operation subfields i some same =
-    first_of i (ignoring_fits operation) (or_fit (sum_fits base operation subfields) (central_fits base operation subfields)) same some ∙ sym (central_of-in_turn base operation subfields)
-
 -- where none does, and one of a sum fits
 pub by_sum : (base : NumberBase) (operation : List ℕ) (subfields : List (List Piece)) (i : Option Instruction) → is_some i ≡ true →
     None ≡ ignoring_fits operation → i ≡ sum_fits base operation subfields → i ≡ central_of base operation subfields

@@ -1,18 +1,7 @@
 -- A walk over the statements of a deck: how it begins, one step of it, and its end.
-use Rattle.std.proofs.{Common.{◌≡◌, ◌∙◌, ℕ, ◌+◌, true, List, [], ◌∷◌, ◌++◌, map, drop, reverse, refl, ap, sym, subst, append-nil, append_assoc}, lemmas.List.{drop-drop, reverse-reverse, map-append, reverse-append}}
+use Rattle.std.proofs.{Common.{◌≡◌, ◌∙◌, ℕ, ◌+◌, true, List, [], ◌∷◌, ◌++◌, map, drop, reverse, refl, ap, sym, subst, append-nil, append_assoc}, lemmas.List.{drop-drop, map-append, reverse-append}}
 use Rattle.definitions.specs.{Cards.Card, Lengths.block_rows, Objects.{Shown, shown_of, only_listed}, Settling.{settle, settled_all}, Statements.Statement}
-use Rattle.deck_assembler.{specs.Joins.DeckParts.sized_in, specs.Joins.SizedDecks.{AreSizedFrom, AreListedFrom, IsSizedStatement, IsListedStatement}, specs.declared.sized_statement.SizedStatement.SizedStatement, specs.Joins.Walks.{Whole, IsWhole, has_row, all_settled, context_in, AreLined, AreLinedAs, AreNoted}, specs.Joins.DeckWalks.{IsWalked, IsListing}, specs.declared.deck_lines.DeckLines.DeckLines, specs.declared.deck_walk.Making.Making, proofs.UsedLaws.block-there}
-
--- before the first statement
-pub walk-begin : (whole : Whole) (made : Making) → IsWhole whole → made.lines.stood ≡ 0 → AreLined whole [] made.lines → AreNoted whole [] made.names → IsWalked whole (sized_in whole.deck.pieces) made
-walk-begin whole made is stood lined noted = record {
-  earlier = [];
-  coming = reverse whole.known;
-  all = append-nil (reverse (reverse whole.known)) ∙ reverse-reverse whole.known;
-  sized = subst (λ n. AreSizedFrom whole.deck.kind [] n (drop n whole.cards) (sized_in whole.deck.pieces) (reverse whole.known) whole.deck.behind (reverse whole.others)) (sym stood) is.sized.sized;
-  lined = lined;
-  noted = noted;
-}
+use Rattle.deck_assembler.{specs.Joins.SizedDecks.{AreSizedFrom, AreListedFrom, IsListedStatement}, specs.declared.sized_statement.SizedStatement.SizedStatement, specs.Joins.Walks.{Whole, IsWhole, has_row, all_settled, context_in, AreLined, AreLinedAs, AreNoted}, specs.Joins.DeckWalks.{IsWalked, IsListing}, specs.declared.deck_lines.DeckLines.DeckLines, specs.declared.deck_walk.Making.Making, proofs.UsedLaws.block-there}
 
 -- what a step makes of a statement
 pub record IsStep (whole : Whole) (sized : SizedStatement) (old new : Making) (earlier : List Statement) (given : Statement) : Type 0 where
@@ -31,29 +20,6 @@ there whole earlier coming given is all =
     (subst (λ known. has_row (settle kind (settled_all kind earlier) given).block (block_rows kind (settled_all kind known)) ≡ true) same
     (subst (λ known. has_row (settle kind (settled_all kind earlier) given).block (block_rows kind (settled_all kind known)) ≡ true) (append_assoc (reverse coming) (given ∷ []) earlier)
     (block-there kind (reverse coming ++ given ∷ []) earlier given)))
-
--- one step
-pub walk-step : (whole : Whole) (left : List SizedStatement) (sized : SizedStatement) (old new : Making) → IsWhole whole → IsWalked whole (sized ∷ left) old →
-    ((earlier : List Statement) (given : Statement) → IsSizedStatement whole.deck.kind earlier old.lines.stood (drop old.lines.stood whole.cards) sized given →
-    has_row (settle whole.deck.kind (settled_all whole.deck.kind earlier) given).block whole.rows ≡ true → AreLined whole earlier old.lines → AreNoted whole earlier old.names → IsStep whole sized old new earlier given) →
-    IsWalked whole left new
-walk-step whole left sized old new is walked next = step walked.coming walked.all walked.sized
-  where
-    step : (coming : List Statement) → reverse coming ++ walked.earlier ≡ whole.known →
-        AreSizedFrom whole.deck.kind walked.earlier old.lines.stood (drop old.lines.stood whole.cards) (sized ∷ left) coming whole.deck.behind (reverse whole.others) → IsWalked whole left new
-    step [] all h = absurd h
-    step (given ∷ coming) all h =
-        let stepped = next walked.earlier given h.0 (there whole walked.earlier coming given is all) walked.lined walked.noted in
-        record {
-          earlier = given ∷ walked.earlier;
-          coming = coming;
-          all = sym (append_assoc (reverse coming) (given ∷ []) walked.earlier) ∙ ap (λ l. l ++ walked.earlier) (sym (reverse-append (given ∷ []) coming)) ∙ all;
-          sized = subst (λ n. AreSizedFrom whole.deck.kind (given ∷ walked.earlier) n (drop n whole.cards) left coming whole.deck.behind (reverse whole.others)) (sym stepped.stood)
-              (subst (λ (ahead : List Card). AreSizedFrom whole.deck.kind (given ∷ walked.earlier) (old.lines.stood + sized.cards) ahead left coming whole.deck.behind (reverse whole.others))
-              (drop-drop sized.cards old.lines.stood whole.cards) h.1);
-          lined = stepped.lined;
-          noted = stepped.noted;
-        }
 
 -- behind END
 pub walk-noted : (whole : Whole) (made : Making) → IsWalked whole [] made → AreNoted whole whole.known made.names

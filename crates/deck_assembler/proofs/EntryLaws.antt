@@ -4,14 +4,6 @@ use Rattle.definitions.specs.{Characters.same_text, Entries.{entry_fault, with_e
 use Rattle.definitions.specs.declared.letter.Letter.TheVariants as letter
 use Rattle.deck_assembler.{proofs.DefinitionLaws.defined_in-push, specs.Joins.FirstSymbols.{is_known_name, symbol_in, with_symbol}, specs.Joins.SharedNames.AreSeen}
 
--- what is worth something is a known name
-pub symbol_in-known : (seen : List (ℕ × Form)) (name : List ℕ) (form : Form) → symbol_in seen name ≡ Some form → is_known_name name ≡ true
-symbol_in-known seen name form e = step (is_known_name name) refl
-  where
-    step : (t : Bool) → is_known_name name ≡ t → is_known_name name ≡ true
-    step true k = k
-    step false k = cc
-
 -- a name that is not seen is entered
 pub enter-new : (seen : List (ℕ × Form)) (entries after : List Definition) (name : List ℕ) (form : Form) → is_some (symbol_in seen name) ≡ false → after ≡ entries ++ record { name = name; form = form } ∷ [] → AreSeen seen entries →
     after ≡ with_entry name [] (Some form) entries

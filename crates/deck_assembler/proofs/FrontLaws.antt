@@ -1,5 +1,5 @@
 -- Statements that stand untouched in front of two decks stay as they were sized, so that nothing is counted for them.
-use Rattle.std.{proofs.Common.{◌≡◌, ℕ, suc, ◌+◌, ◌<◌, ◌≤◌, inl, inr, false, List, [], ◌∷◌, ◌++◌, drop, get_or, length, refl, sym, ap, ◌∙◌, subst, arith, length-append, length-take-le}, specs.Prelude.reverse, proofs.lemmas.Bool.cases_lt}
+use Rattle.std.{proofs.Common.{◌≡◌, ℕ, suc, ◌+◌, ◌<◌, ◌≤◌, inl, inr, false, List, [], ◌∷◌, ◌++◌, drop, get_or, length, sym, ap, ◌∙◌, subst, arith, length-append, length-take-le}, specs.Prelude.reverse, proofs.lemmas.Bool.cases_lt}
 use Rattle.cards.specs.{Joins.Spans.statement_at, declared.statement_list.Span.Span}
 use Rattle.definitions.{specs.Cards.Card, specs.DeckKinds.{has_end, up_to_end}, specs.Laws.Edits.{Edited, IsUntouched}, specs.Statements.{Statement, cards_in, statements_of}, specs.declared.deck_kind.DeckKind.DeckKind, proofs.EditLaws.cards_in-append}
 use Rattle.deck_assembler.{specs.Joins.Agreements.left, specs.Joins.FirstStatements.{first_statements, all_statements}, specs.Joins.Formers.known_in, specs.Joins.OldDecks.{IsAtStage, IsInFront, IsOnSpan, GoesOn, StandsInFront}, specs.Joins.SizedDecks.AreSizedFrom, specs.Joins.Sizers.{stood, ahead}, specs.declared.old_deck.OldDeck.OldDeck, specs.declared.sized_statement.SizedStatement.SizedStatement, specs.declared.sizer.Sizer.Sizer, proofs.EndLaws.{length-first, open-at}, proofs.ForwardLaws.stood-more, proofs.OldLaws.{all-next, has-next}}
@@ -105,9 +105,6 @@ goes-within kind old cards earlier span sizer deck sized later on goes e =
 pub record IsFrontTaken (count : ℕ) (front : List Statement) (deck now : OldDeck) (sized so_far : ℕ) : Type 0 where
   pub few : count ≤ length front → (now.stage ≡ stages.Front) × ((now.before ≡ deck.before) × (so_far ≡ sized))
   pub many : length front ≤ count → length front + so_far ≤ sized + count
-
-pub front-begins : (front : List Statement) (deck : OldDeck) (sized : ℕ) → deck.stage ≡ stages.Front → IsFrontTaken 0 front deck deck sized sized
-front-begins front deck sized stage = record { few = λ h. (stage, (refl, refl)); many = λ h. omega (arith, h) }
 
 -- the front goes on with the next statement as long as some of it are left
 pub goes-at : (of cards : List Card) (spans : List Span) (count : ℕ) (span : Span) (front : List Statement) (deck now : OldDeck) (sized so_far : ℕ) → count < length spans → has_end (first_statements cards spans count) ≡ false →

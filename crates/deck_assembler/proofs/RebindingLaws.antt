@@ -1,6 +1,6 @@
 -- The test of what a statement reads shows whether it is bound otherwise.
 use Rattle.std.{proofs.Common.{◌≡◌, ◌∙◌, ℕ, Bool, true, false, not, ◌||◌, List, [], ◌∷◌, ◌++◌, Option, Some, None, flat_map, refl, ap, ap₂, sym}, specs.Prelude.{Result, Ok, Err, ◌&&◌, pos, length, nat_le, if◌then◌else◌}, specs.List.list_any, proofs.lemmas.Bool.Decides.Decides-int_eq}
-use Rattle.definitions.specs.{CountedItems.CountedItem, Expressions.{Element, Expression, elements_of, LocationCounter}, Forms.{Form, Names, absolute, characters_number, number_form, counted_item_form, element_form}, Lengths.BlockRow, Literals.literal_form, Matching.{NoField, OfK, OfN}, Operands.Operand, Operations.Operation, PeripheralTable.PeripheralForm, Laws.Rebound.{field_elements, form_elements, value_elements, coded_elements, same_value, bound_alike, is_rebound}, Settled.Settled, StatementItems.{Context, final_names}, Symbols.{Number, Value, TooGreat}, declared.letter.Letter.Letter}
+use Rattle.definitions.specs.{CountedItems.CountedItem, Expressions.{Element, Expression, elements_of, LocationCounter}, Forms.{Form, Names, absolute, characters_number, number_form, counted_item_form, element_form}, Lengths.BlockRow, Literals.literal_form, Operands.Operand, Operations.Operation, PeripheralTable.PeripheralForm, Laws.Rebound.{field_elements, form_elements, value_elements, coded_elements, same_value, bound_alike, is_rebound}, Settled.Settled, StatementItems.{Context, final_names}, Symbols.{Number, Value, TooGreat}, declared.letter.Letter.Letter}
 use Rattle.definitions.specs.Matching as matching
 use Rattle.definitions.specs.Operands as operands
 use Rattle.definitions.specs.declared.letter.Letter.TheVariants as letter
@@ -29,21 +29,6 @@ item-same old new item = by (nat_le (length item.characters) 10)
     by : (b : Bool) → let form : Result Form Letter = if b then Ok (absolute (pos (characters_number item.characters))) else Err letter.A in same_value old new form form ≡ true
     by true = absolute-same old new (characters_number item.characters)
     by false = refl
-
--- whether one of two lists has such an element
-pub any-append : {A : Type 0} (test : A → Bool) (xs ys : List A) → list_any test (xs ++ ys) ≡ (list_any test xs || list_any test ys)
-any-append test [] ys = refl
-any-append test (x ∷ xs) ys = by (test x) (any-append test xs ys)
-  where
-    by : (b : Bool) → list_any test (xs ++ ys) ≡ (list_any test xs || list_any test ys) → (b || list_any test (xs ++ ys)) ≡ ((b || list_any test xs) || list_any test ys)
-    by true h = refl
-    by false h = h
-
-pub any-behind : {A : Type 0} (test : A → Bool) (xs ys : List A) → list_any test xs ≡ false → list_any test (xs ++ ys) ≡ list_any test ys
-any-behind test xs ys e = any-append test xs ys ∙ ap (λ b. b || list_any test ys) e
-
-pub any-found : {A : Type 0} (test : A → Bool) (xs ys : List A) → list_any test xs ≡ true → list_any test (xs ++ ys) ≡ true
-any-found test xs ys e = any-append test xs ys ∙ ap (λ b. b || list_any test ys) e
 
 -- what a central instruction reads, if there is one
 abbrev elements_if : Option matching.Instruction → List Element

@@ -1,15 +1,10 @@
 -- The steps of loading a file: the lines so far show these cards, whatever follows.
-use Rattle.std.{proofs.Common.{ℕ, ◌≡◌, ◌+◌, ◌*◌, ◌≤◌, List, [], ◌∷◌, ◌++◌, Option, Result, Ok, Err, IsOk, length, refl, sym, ap, subst, ◌∙◌, arith, append_assoc, append-nil, length-append}, specs.Io.KnownBytes.Consumes, proofs.KnownBytes.{Consumes-nil, Consumes-trans}}
+use Rattle.std.{proofs.Common.{ℕ, ◌≡◌, ◌+◌, ◌*◌, ◌≤◌, List, [], ◌∷◌, ◌++◌, Option, Result, Ok, Err, IsOk, length, refl, sym, ap, subst, ◌∙◌, arith, append_assoc, append-nil, length-append}, specs.Io.KnownBytes.Consumes, proofs.KnownBytes.{Consumes-trans}}
 use Rattle.definitions.specs.{Cards.Card, InputLines.{InputLine, Line, TooLong, lines_of, without_cr}}
 use Rattle.text_ports.{specs.Lines.{ReadsLine, ReadsWholeLine}, proofs.LineLaws.{lines_of-taken, lines_of-cut, lines_of-few, lines_of-long}}
 use Rattle.text_ports.specs.declared.lines.LineIs.TheVariants as is
 use Rattle.cards.specs.declared.card.CardFault.TheVariants as card
-use Rattle.deck_files.specs.{declared.load_fault.LoadFault.LoadFault, declared.load_fault.LoadFault.TheVariants.{ReadFault, BadLine, LastLineCut, DeckFull, OutOfMemory}, DeckFiles.{card_in, in_front, with_first, cards_behind, cards_of_file}, declared.file_sums.FileSum.FileSum, declared.file_sums.Summing.Summing, FileSums.{Sums, sum_of}, Loads.{GaveFault, LoadsFault, LoadsSummed, IsFaultOf, count_after_load}}
-
--- no cards in front
-in_front-nil : (read : Result (List Card) LoadFault) → in_front [] read ≡ read
-in_front-nil (Ok cards) = refl
-in_front-nil (Err fault) = refl
+use Rattle.deck_files.specs.{declared.load_fault.LoadFault.LoadFault, declared.load_fault.LoadFault.TheVariants.{ReadFault, BadLine, LastLineCut, DeckFull, OutOfMemory}, DeckFiles.{card_in, in_front, with_first, cards_behind, cards_of_file}, declared.file_sums.FileSum.FileSum, declared.file_sums.Summing.Summing, FileSums.{Sums, sum_of}, Loads.{GaveFault, LoadsFault, LoadsSummed, IsFaultOf}}
 
 -- cards in front of a card
 in_front-more : (cards : List Card) (columns : Card) (read : Result (List Card) LoadFault) → in_front cards (in_front (columns ∷ []) read) ≡ in_front (cards ++ columns ∷ []) read
@@ -27,18 +22,6 @@ pub record IsLoaded (old new : Option (List ℕ)) (cards : List Card) (summing :
   pub sums : Sums summing taken
   pub short : summing.length ≤ 257 * length cards
   pub whole : (rest : List ℕ) → cards_of_file (taken ++ rest) ≡ in_front cards (cards_behind (length cards) (lines_of rest))
-
--- nothing is read
-pub IsLoaded-none : (old : Option (List ℕ)) (cards : List Card) (summing : Summing) → cards ≡ [] → Sums summing [] → IsLoaded old old cards summing
-IsLoaded-none old cards summing none sums =
-    let P : List Card → Type 0 = λ (c : List Card). IsLoaded old old c summing in
-    subst P (sym none) (record {
-      taken = [];
-      consumed = Consumes-nil old;
-      sums = sums;
-      short = omega (arith, sums.0);
-      whole = λ rest. sym (in_front-nil (cards_behind 0 (lines_of rest)));
-    })
 
 -- the file is the lines so far, and what begins with more bytes
 file-behind : (taken more rest : List ℕ) (cards : List Card) (line : InputLine) (later : List InputLine) →
@@ -157,11 +140,3 @@ pub LoadsFault-line : (old new next : Option (List ℕ)) (cards : List Card) {su
 LoadsFault-line old new next cards line text fault loaded read same h =
     let P : List ℕ → Type 0 = λ (t : List ℕ). IsFaultOf fault (card_in (length cards + 1) (Line t)) in
     LoadsFault-whole old new next cards line fault loaded read (subst P same h)
-
--- such a fault is none of the reader
-pub count_after_load-line : (fault : LoadFault) (read : Result Card LoadFault) (faults : ℕ) → IsFaultOf fault read → count_after_load fault faults ≡ faults
-count_after_load-line ReadFault read faults h = absurd h
-count_after_load-line (BadLine number fault) read faults h = refl
-count_after_load-line LastLineCut read faults h = absurd h
-count_after_load-line DeckFull read faults h = refl
-count_after_load-line OutOfMemory read faults h = refl

@@ -34,11 +34,6 @@ rows-row last files after rest next line text row whole read same some added so_
     ∙ sym (rows-line last files rest next line read)
     ∙ so_far
 
--- the end
-pub rows-end : (last : ℕ) (files : Named (Option Known)) (rest next line : List ℕ) → ReadsLine (Some rest) (Some next) is.End line → rows_behind last (Some files) (lines_of rest) ≡ Some files
-rows-end last files rest next line read =
-    ap (λ (bytes : List ℕ). rows_behind last (Some files) (lines_of bytes)) (read.1 ∙ ap (λ (taken : List ℕ). taken ++ next) read.2.0 ∙ read.3)
-
 -- a line that may be cut
 pub rows-cut : (last : ℕ) (files : Named (Option Known)) (rest next line : List ℕ) → ReadsLine (Some rest) (Some next) is.Cut line → rows_behind last (Some files) (lines_of rest) ≡ None
 rows-cut last files rest next line read =

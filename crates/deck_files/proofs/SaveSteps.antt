@@ -1,14 +1,7 @@
 -- The steps of saving cards: the lines of the first cards went out.
-use Rattle.std.{proofs.Common.{ℕ, ◌≡◌, ◌+◌, ◌<◌, ◌≤◌, List, [], ◌∷◌, ◌++◌, Option, length, take, drop, get_or, refl, sym, ap, subst, ◌∙◌, arith, append-nil, length-append, take-append-drop}, specs.Io.KnownBytes.Appends, proofs.KnownBytes.Appends-trans, proofs.lemmas.Grind.flat_map-append, proofs.lemmas.List.{take_more, at_drop_more, take-append-le, take_at, drop_at}, proofs.Math.Seq.take-add}
+use Rattle.std.{proofs.Common.{ℕ, ◌≡◌, ◌+◌, ◌<◌, ◌≤◌, List, [], ◌++◌, Option, length, take, drop, get_or, refl, sym, ap, subst, ◌∙◌, arith, length-append, take-append-drop}, specs.Io.KnownBytes.Appends, proofs.KnownBytes.Appends-trans, proofs.lemmas.Grind.flat_map-append, proofs.lemmas.List.{at_drop_more, take-append-le, take_at, drop_at}, proofs.Math.Seq.take-add}
 use Rattle.definitions.specs.Cards.{Card}
 use Rattle.deck_files.specs.DeckFiles.{line_of_card, file_of}
-
--- the line of one card more
-pub file_of-more : (cards : List Card) (i : ℕ) → i < length cards → file_of (take (i + 1) cards) ≡ file_of (take i cards) ++ line_of_card (get_or cards i [])
-file_of-more cards i within =
-    ap file_of (take_more cards i [] within)
-    ∙ flat_map-append line_of_card (take i cards) (get_or cards i [] ∷ [])
-    ∙ ap (λ (l : List ℕ). file_of (take i cards) ++ l) (append-nil (line_of_card (get_or cards i [])))
 
 -- the file is the lines so far, this line, and the lines behind it
 file_of-split : (cards : List Card) (i : ℕ) → i < length cards →
@@ -25,13 +18,6 @@ take-into front line behind k within =
     ∙ ap (λ (l : List ℕ). l ++ take k (drop (length front) (front ++ (line ++ behind)))) (take_at front (line ++ behind) (length front) refl)
     ∙ ap (λ (l : List ℕ). front ++ take k l) (drop_at front (line ++ behind) (length front) refl)
     ∙ ap (λ (l : List ℕ). front ++ l) (take-append-le k line behind within)
-
--- a line that went out
-pub Appends-line : (old mid new : Option (List ℕ)) (cards : List Card) (i : ℕ) (line : List ℕ) → i < length cards → line ≡ line_of_card (get_or cards i []) →
-    Appends old mid (file_of (take i cards)) → Appends mid new line → Appends old new (file_of (take (i + 1) cards))
-Appends-line old mid new cards i line within is first second =
-    subst (λ l. Appends old new l) (ap (λ (l : List ℕ). file_of (take i cards) ++ l) is ∙ sym (file_of-more cards i within))
-    (Appends-trans old mid new (file_of (take i cards)) line first second)
 
 -- a line of which a part went out
 pub Appends-part : (old mid new : Option (List ℕ)) (cards : List Card) (i sent more : ℕ) (line : List ℕ) → i < length cards → line ≡ line_of_card (get_or cards i []) →

@@ -5,16 +5,6 @@ use Rattle.use_blocks.specs.Joins.NameKeys.{same_text_equivalence}
 use Rattle.deck_linker.specs.Joins.Placing.{entry_alone}
 use Rattle.expr_forms.proofs.NameLaws.{same_text-Decides}
 
--- the first entry of several, and those behind it
-pub entered-step : (name : List ℕ) (commons : List Common) (based : Based) (entry : Definition) (entries : List Definition) →
-    entered_in name commons based (entry ∷ entries) ≡ option_or (entry_alone name entry.name (entry_value commons based entry)) (entered_in name commons based entries)
-entered-step name commons based entry entries = by_test (same_text name entry.name)
-  where
-    by_test : (t : Bool) → (if t then Some (entry_value commons based entry) else entered_in name commons based entries)
-        ≡ option_or (if t then Some (entry_value commons based entry) else None) (entered_in name commons based entries)
-    by_test true = refl
-    by_test false = refl
-
 -- a value under a name that has none
 pub entered-new : (found : List ℕ → Option ℤ) (name : List ℕ) (value : ℤ) (other : List ℕ) → found name ≡ None →
     update same_text found name (Some value) other ≡ option_or (found other) (entry_alone other name value)

@@ -1,5 +1,5 @@
 -- The sections of common blocks.
-use Rattle.std.{proofs.Common.{◌≡◌, ℕ, zero, suc, ◌+◌, ◌-◌, ◌<◌, List, [], ◌∷◌, ◌++◌, Bool, false, eqb, length, refl, sym, ap, ap₂, ◌∙◌, append_assoc, append-nil, arith}, specs.Prelude.{codes, flat_map, if◌then◌else◌}}
+use Rattle.std.{proofs.Common.{◌≡◌, ℕ, zero, suc, ◌+◌, ◌-◌, ◌<◌, List, [], ◌∷◌, ◌++◌, Bool, false, eqb, length, refl, sym, ap, ap₂, ◌∙◌, append_assoc, arith}, specs.Prelude.{codes, flat_map, if◌then◌else◌}}
 use Rattle.definitions.specs.{Characters.line_feed, Numerals.octal_of, Layout.{Layout, Common, addressed}, Image.{word_line, common_words, common_section, common_section_by}, Words.StoredWord, declared.deck_kind.DeckKind.TheVariants.Rel}
 use Rattle.parcel_packer.specs.Joins.Filling.{words_from}
 use Rattle.deck_linker.{specs.Joins.Sections.{common_head, common_word, common_words_text}, proofs.TextLaws.four-ended}
@@ -55,12 +55,6 @@ section-written layout common old headed name base place words told past kept is
     ap₂ (λ (a b : List ℕ). a ++ b) (h ∙ ap₂ (λ (n : List ℕ) (k : ℕ). old ++ common_head n k) named based) (ap₂ common_words_text placed same)
     ∙ append_assoc old (common_head common.name common.base) (common_words_text common.base words)
     ∙ ap (λ (t : List ℕ). old ++ t) (sym (section-some common words some) ∙ section-by layout common common.is_past words (sym is ∙ kept) all)
-
--- a common block without words has no section
-pub section-none : (layout : Layout) (common : Common) (old : List ℕ) (words : List StoredWord) (past : Bool) → past ≡ false → past ≡ common.is_past → words ≡ common_words layout common.name layout.decks → words ≡ [] →
-    old ≡ old ++ common_section_by layout common
-section-none layout common old words past kept is all none =
-    sym (append-nil old) ∙ ap (λ (t : List ℕ). old ++ t) (ap (common_section common) (sym none) ∙ section-by layout common common.is_past words (sym is ∙ kept) all)
 
 -- what was put to a new sheet that grows, in two steps
 pub two-put : (start middle after first second : List ℕ) → start ≡ 0 ∷ [] → middle ≡ start ++ first → after ≡ middle ++ second → after ≡ 0 ∷ (first ++ second)

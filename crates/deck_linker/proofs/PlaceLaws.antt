@@ -51,15 +51,6 @@ end-past base object rel past = ap (λ (here : Place). here.end) (rel-place base
 pub end-standing : (base : ℕ) (object : Object) → object.kind ≡ Rel → base + deck_length object ≤ 0o400000 → end_after base object ≡ base + deck_length object
 end-standing base object rel within = ap (λ (here : Place). here.end) (rel-place base object rel ∙ place-standing base (deck_length object) within)
 
--- an ABS or PERIPH deck moves no other
-pub end-absolute : (base : ℕ) (object : Object) → is_absolute_deck object.kind ≡ true → end_after base object ≡ base
-end-absolute base object absolute = by_kind object.kind absolute
-  where
-    by_kind : (kind : DeckKind) → is_absolute_deck kind ≡ true → (deck_place kind base object).end ≡ base
-    by_kind Rel h = absurd (cc)
-    by_kind Abs h = refl
-    by_kind Periph h = refl
-
 -- common blocks keep their names
 pub names-commons : (base : ℕ) (blocks : List BlockLength) → names_of_commons (commons_from base blocks) ≡ names_of_lengths blocks
 names-commons base [] = refl

@@ -1,12 +1,12 @@
 -- A line as the statement that follows those whose runs are packed.
-use Rattle.std.{proofs.Common.{◌≡◌, ℕ, ◌-◌, ◌*◌, ◌/◌, ◌%◌, ◌≤◌, Bool, true, false, List, [], ◌∷◌, Option, Some, None, get_or, refl, sym, ap, subst, ◌∙◌, arith}, specs.Prelude.slice_get, proofs.lemmas.Option.get_or_from_slice_get, proofs.Math.Nat.mul_comm, proofs.lemmas.Nat.pow_pos}
+use Rattle.std.{proofs.Common.{◌≡◌, ℕ, ◌-◌, ◌*◌, ◌/◌, ◌%◌, ◌≤◌, true, false, List, [], ◌∷◌, refl, sym, ap, subst, ◌∙◌, arith}, proofs.Math.Nat.mul_comm, proofs.lemmas.Nat.pow_pos}
 use Rattle.definitions.{specs.Characters.same_text, specs.Kinds.{units, unit_bits, word_bits}, specs.Lengths.BlockRow, specs.Operations.is_instruction, specs.StatementItems.Item, specs.Words.{Coded, Linking}, specs.declared.deck_kind.DeckKind.DeckKind, specs.declared.deck_kind.DeckKind.TheVariants.{Rel, Abs, Periph}, proofs.TextLaws.same_text-true, specs.Laws.Filling.{DoFill, HasFields}, specs.Laws.Rising.run_end}
 use Rattle.definitions.specs.Operations as op
 use Rattle.statement_coder.specs.declared.items.Item as code
 use Rattle.operations.specs.Joins.OperationsAs.{operation_as}
 use Rattle.parcel_packer.{specs.Joins.Packing.{OpenRun, Packed, moved, put_bits}, proofs.PutLaws.unit_some}
 use Rattle.deck_listing.{specs.Joins.Putting.{StandsAt, ArePut, IsReady}, specs.Joins.Walking.DoesFollow, proofs.PutSteps.put_one}
-use Rattle.deck_objects.specs.Joins.{CodedLines.{IsCoded, IsNamed}, LineItems.{AreBitsOf, kept_items, zeros_to}}
+use Rattle.deck_objects.specs.Joins.{LineItems.{AreBitsOf, kept_items, zeros_to}}
 use Rattle.deck_objects.specs.declared.lines.CodedLine as lines
 use Rattle.deck_objects.specs.declared.lines.LineFields.TheVariants as variant
 
@@ -94,18 +94,3 @@ follows-ready kind rows items linking block line packed coded earlier follows he
   where
     bssz_instruction : op.Bssz ≡ op.Instruction → ⊥
     bssz_instruction h = cc
-
--- the row at the place of a block has its name
-pub named-row : (rows found : List BlockRow) (i : ℕ) (row : BlockRow) (name : List ℕ) → found ≡ rows → row ≡ get_or found i row → IsNamed (slice_get rows i) name → row.name ≡ name
-named-row rows found i row name e h named = named_by (slice_get rows i) refl named
-  where
-    named_by : (o : Option BlockRow) → slice_get rows i ≡ o → IsNamed o name → row.name ≡ name
-    named_by None k n = absurd n
-    named_by (Some r) k n = ap (λ (b : BlockRow). b.name) (h ∙ ap (λ (bs : List BlockRow). get_or bs i row) e ∙ get_or_from_slice_get rows i r row k) ∙ n
-
--- what the test of names shows of the block of a statement
-pub test-block : (rows found : List BlockRow) (items : List code.Item) (kind : DeckKind) (line : lines.CodedLine) (coded : Coded) (row : BlockRow) (block name : List ℕ) (test answer : Bool) →
-    IsCoded kind rows items line coded → found ≡ rows → row ≡ get_or found line.block row → name ≡ row.name → test ≡ same_text name block → test ≡ answer →
-    same_text coded.settled.block block ≡ answer
-test-block rows found items kind line coded row block name test answer is_coded e h n t a =
-    ap (λ b. same_text b block) (sym (n ∙ named-row rows found line.block row coded.settled.block e h is_coded.block)) ∙ sym t ∙ a

@@ -39,13 +39,6 @@ ends-stands size at_bit run some h room = record {
     at_place : run.filled ≡ 0 → at_bit ≡ size * run.place
     at_place f = omega arith
 
--- no fields are put already
-pub put_none : (size : ℕ) (instruction : Bool) (linking : Linking) (run : OpenRun) (from : ℕ) → StandsAt size run from → ArePut size instruction linking run from [] run
-put_none size instruction linking run from stands =
-    let same : from + 0 ≡ from = omega arith in
-    let Stands : ℕ → Type 0 = λ n. StandsAt size run n in
-    record { run = ap (λ n. moved size n run) same; stands = subst Stands (sym same) stands; fits = tt; none = λ _. refl }
-
 -- one field, as it is put
 pub put_one : (size : ℕ) (instruction : Bool) (linking : Linking) (old new : OpenRun) (from : ℕ) (item : Item) (bits : ℕ) → 0 < size → StandsAt size old from →
     bits ≡ content_bits linking item.width item.content → bits < 2 ^ item.width →
@@ -62,23 +55,6 @@ put_one size instruction linking old new from item bits some stands is_content f
       fits = (subst (λ n. n < 2 ^ item.width) is_content fits, tt);
       none = λ h. cc;
     }
-
--- a field without bits needs nothing
-pub put_empty : (size : ℕ) (instruction : Bool) (linking : Linking) (run : OpenRun) (from : ℕ) (item : Item) (bits : ℕ) → StandsAt size run from → item.width ≡ 0 →
-    bits ≡ content_bits linking item.width item.content → bits < 2 ^ item.width →
-    ArePut size instruction linking run from (item ∷ []) run
-put_empty size instruction linking run from item bits stands e is_content fits =
-    let same : from + (item.width + 0) ≡ from = omega arith in
-    let Stands : ℕ → Type 0 = λ n. StandsAt size run n in
-    record {
-      run = ap (λ n. moved size n run) same ∙ sym (none item.width (content_bits linking item.width item.content) e);
-      stands = subst Stands (sym same) stands;
-      fits = (subst (λ n. n < 2 ^ item.width) is_content fits, tt);
-      none = λ h. cc;
-    }
-  where
-    none : (width bits : ℕ) → width ≡ 0 → put_bits size instruction width bits (moved size from run) ≡ moved size from run
-    none width bits h = rw h refl
 
 width-append : (xs ys : List Item) → width_of (xs ++ ys) ≡ width_of xs + width_of ys
 width-append [] ys = omega arith

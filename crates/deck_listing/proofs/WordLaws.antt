@@ -40,18 +40,6 @@ lines_ahead-field kind next x w more rest =
     (let e : next.width + w + more ≡ next.width + (w + more) = omega arith in e)
     (moved_up next.bits x w more rest)
 
--- the lines of fields from a word on
-pub lines_ahead-first : (kind : DeckKind) (word more bits : ℕ) →
-    lines_ahead kind (record { word = word; width = 0; bits = 0 }) more bits ≡ word_lines kind word (cut (word_bits kind) (more / word_bits kind) bits)
-lines_ahead-first kind word more bits =
-    ap₂ (λ n b. word_lines kind word (cut (word_bits kind) (n / word_bits kind) b)) (let e : 0 + more ≡ more = omega arith in e) (let e : 0 * 2 ^ more + bits ≡ bits = omega arith in e)
-
--- nothing is left of a word that is not full where all words are whole
-pub lines_ahead-none : (kind : DeckKind) (next : OpenWord) → next.width < word_bits kind → (next.width + 0) % word_bits kind ≡ 0 → lines_ahead kind next 0 0 ≡ []
-lines_ahead-none Rel next short whole = ap (λ n. data_lines next.word (cut 60 n (next.bits * 2 ^ 0 + 0))) (let e : (next.width + 0) / 60 ≡ 0 = omega arith in e)
-lines_ahead-none Abs next short whole = ap (λ n. data_lines next.word (cut 60 n (next.bits * 2 ^ 0 + 0))) (let e : (next.width + 0) / 60 ≡ 0 = omega arith in e)
-lines_ahead-none Periph next short whole = ap (λ n. peripheral_lines next.word (cut 12 n (next.bits * 2 ^ 0 + 0))) (let e : (next.width + 0) / 12 ≡ 0 = omega arith in e)
-
 -- a full word has its line, and what is behind it stands in the next word
 lines_ahead-full : (kind : DeckKind) (word left bits more rest : ℕ) → bits < 2 ^ (word_bits kind + left) → rest < 2 ^ more → (word_bits kind + left + more) % word_bits kind ≡ 0 →
     lines_ahead kind (record { word = word; width = word_bits kind + left; bits = bits }) more rest

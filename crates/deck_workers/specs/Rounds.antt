@@ -34,11 +34,6 @@ abbrev pub IsRound : Round → Type 0
 IsRound (Resting claimed) = job_in claimed ≡ None
 IsRound (Working claimed result answered) = (given : Job) × (job_in claimed ≡ Some given) × MayMake given result
 
--- the last reply of a round
-abbrev pub last_reply : Round → Reply
-last_reply (Resting claimed) = claimed
-last_reply (Working claimed result answered) = answered
-
 -- the entries of a round, by a seat
 abbrev pub entries_of : ℕ → Round → History
 entries_of number (Resting claimed) = entry number (Do Claim) claimed ∷ []

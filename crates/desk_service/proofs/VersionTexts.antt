@@ -61,18 +61,9 @@ number-back most n digits some all is within =
 number-none : (most : ℕ) (text : List ℕ) → (nat_le 1 (length text) && list_all is_digit text && nat_le (number_of 10 text) most) ≡ false → number_in most text ≡ None
 number-none most text not_so = ap (λ (t : Bool). if t then Some (number_of 10 text) else None) not_so
 
-pub number-empty : (most : ℕ) (text : List ℕ) → length text ≡ 0 → number_in most text ≡ None
-number-empty most text empty =
-    number-none most text (ap (λ (n : ℕ). nat_le 1 n && list_all is_digit text && nat_le (number_of 10 text) most) empty)
-
 no-and : (b : Bool) → (b && false) ≡ false
 no-and true = refl
 no-and false = refl
-
-pub number-strange : (most : ℕ) (text : List ℕ) → list_all is_digit text ≡ false → number_in most text ≡ None
-number-strange most text strange =
-    number-none most text
-    (ap (λ (t : Bool). nat_le 1 (length text) && t && nat_le (number_of 10 text) most) strange ∙ ap (λ (t : Bool). t && nat_le (number_of 10 text) most) (no-and (nat_le 1 (length text))))
 
 pub number-great : (most : ℕ) (text : List ℕ) → most < number_of 10 text → number_in most text ≡ None
 number-great most text great =

@@ -1,51 +1,12 @@
 -- Edits that lie near each other are made at once, and others behind them.
-use Rattle.std.{proofs.Common.{◌≡◌, ◌+◌, ◌≤◌, ◌<◌, ℕ, List, [], ◌∷◌, ◌++◌, min, take, get_or, length, Option, Some, None, suc, refl, sym, ap, ap₂, ◌∙◌, arith, append_assoc}, specs.Prelude.option_map, proofs.Math.Seq.take-suc, proofs.lemmas.List.{append-nil, take_all}}
+use Rattle.std.{proofs.Common.{◌≡◌, ◌+◌, ◌≤◌, ℕ, List, [], ◌∷◌, ◌++◌, take, length, Option, Some, None, refl, ap, ap₂, ◌∙◌, arith}, specs.Prelude.option_map, proofs.lemmas.List.{append-nil, take_all}}
 use Rattle.definitions.specs.Cards.{Card}
-use Rattle.cards.{specs.Counts.count_after, specs.Edits.{edited, edited_by, fault_of, first_fault}, specs.declared.edits.Edit.Edit, specs.declared.edits.EditFault.EditFault, proofs.FaultLaws.applies-in}
-use Rattle.edit_core.specs.{Edited.{front_of, count_behind}, Sums.{DueForEach, fronts_sum, ends_sum, rebound_sum, apart, between_from, cards_between, RisesWithinSum, RisesWithinSumCode}}
+use Rattle.cards.{specs.Edits.{edited, edited_by, fault_of, first_fault}, specs.declared.edits.Edit.Edit, specs.declared.edits.EditFault.EditFault, proofs.FaultLaws.applies-in}
+use Rattle.edit_core.specs.{Sums.{DueForEach, fronts_sum, ends_sum, rebound_sum, between_from, cards_between, RisesWithinSum, RisesWithinSumCode}}
 
 -- an edit and so many others have so many cards between them; whatever edits follow are known by what these touch
 pub record AreTouched (first : Edit) (others : List Edit) (k count between before behind left : ℕ) : Type 0 where
   pub all : (later : List Edit) → cards_between (first ∷ (take k others ++ later)) count ≡ between + between_from before behind later left
-
-pub touched-first : (first : Edit) (others : List Edit) (count : ℕ) → AreTouched first others 0 count 0 (front_of first) (count_behind first count) (count_after first count)
-touched-first first others count = record { all = λ later. omega arith }
-
--- one more
-pub touched-more : (first : Edit) (others : List Edit) (k count between before behind left : ℕ) (edit : Edit) → k < length others → edit ≡ get_or others k edit → AreTouched first others k count between before behind left →
-    AreTouched first others (k + 1) count (between + apart left before behind (front_of edit) (count_behind edit left)) (min before (front_of edit)) (min behind (count_behind edit left)) (count_after edit left)
-touched-more first others k count between before behind left edit within is so_far = record {
-  all = λ later.
-      let one : k + 1 ≡ suc k = omega arith in
-      let step : take (k + 1) others ≡ take k others ++ edit ∷ [] = ap (λ (n : ℕ). take n others) one ∙ take-suc others k edit within ∙ ap (λ e. take k others ++ e ∷ []) (sym is) in
-      let split = ap (λ (l : List Edit). cards_between (first ∷ l) count) (ap (λ (l : List Edit). l ++ later) step ∙ append_assoc (take k others) (edit ∷ []) later) in
-      let whole = so_far.all (edit ∷ later) in
-      omega (arith, split, whole);
-}
-
--- stated of other numbers that are the same
-pub touched-begin : (first : Edit) (others : List Edit) (count before behind left : ℕ) → before ≡ front_of first → behind ≡ count_behind first count → left ≡ count_after first count → AreTouched first others 0 count 0 before behind left
-touched-begin first others count before behind left b h l = record {
-  all = λ later.
-      let one = ap (λ (n : ℕ). between_from n behind later left) b in
-      let two = ap (λ (n : ℕ). between_from (front_of first) n later left) h in
-      let three = ap (λ (n : ℕ). between_from (front_of first) (count_behind first count) later n) l in
-      omega (arith, one, two, three);
-}
-
-pub touched-on : (first : Edit) (others : List Edit) (k count between before behind left : ℕ) (edit : Edit) (more front end after : ℕ) → k < length others → edit ≡ get_or others k edit →
-    more ≡ between + apart left before behind (front_of edit) (count_behind edit left) → front ≡ min before (front_of edit) → end ≡ min behind (count_behind edit left) → after ≡ count_after edit left →
-    AreTouched first others k count between before behind left → AreTouched first others (k + 1) count more front end after
-touched-on first others k count between before behind left edit more front end after within is m b h l so_far =
-    let next = touched-more first others k count between before behind left edit within is so_far in
-    record {
-      all = λ later.
-          let whole = next.all later in
-          let one = ap (λ (n : ℕ). between_from n end later after) b in
-          let two = ap (λ (n : ℕ). between_from (min before (front_of edit)) n later after) h in
-          let three = ap (λ (n : ℕ). between_from (min before (front_of edit)) (min behind (count_behind edit left)) later n) l in
-          omega (arith, whole, one, two, three, m);
-    }
 
 -- what stands between all of them
 pub touched-all : (first : Edit) (others : List Edit) (k count between before behind left : ℕ) → length others ≤ k → AreTouched first others k count between before behind left → cards_between (first ∷ others) count ≡ between

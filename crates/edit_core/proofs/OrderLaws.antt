@@ -1,9 +1,9 @@
 -- What edits count that are made in groups, one behind the other.
-use Rattle.std.{proofs.Common.{◌≡◌, ◌+◌, ◌-◌, ◌*◌, ◌≤◌, ◌<◌, ℕ, suc, Bool, true, false, List, [], ◌∷◌, ◌++◌, take, drop, length, None, refl, sym, ap, ap₂, ◌∙◌, subst, arith, append_assoc, length-append, take-append-drop}, proofs.lemmas.List.{append-nil, length-take-le}, specs.Prelude.option_map}
+use Rattle.std.{proofs.Common.{◌≡◌, ◌+◌, ◌-◌, ◌*◌, ◌≤◌, ◌<◌, ℕ, Bool, true, false, List, [], ◌∷◌, ◌++◌, take, drop, length, None, refl, sym, ap, ap₂, ◌∙◌, subst, arith, append_assoc, length-append, take-append-drop}, proofs.lemmas.List.{append-nil, length-take-le}, specs.Prelude.option_map}
 use Rattle.definitions.specs.Cards.{Card}
 use Rattle.cards.{specs.Edits.{edited, edited_by, first_fault}, specs.declared.edits.Edit.Edit, specs.declared.edits.EditFault.EditFault, proofs.FaultLaws.applies-in}
 use Rattle.statement_coder.specs.Meters.{Counts}
-use Rattle.edit_core.{specs.Edited.{edits_bound, IsRecordOf, RisesToAnew, RisesToRebound}, specs.Faults.{against_all, record_fault}, specs.Joins.Groups.IsFirstMade, specs.Records.Record, specs.Sums.{DueForEach, fronts_sum, ends_sum, cards_between, edits_in, statements_sum, CountsInOrder, RisesByGroups, RisesInGroups, RisesWithinSum, RisesWithinSumCode, CountsAnewInGroups}, proofs.NearLaws.{sum-append, sum-append-code, apply-split}, proofs.SumLaws.{single, applies-all}}
+use Rattle.edit_core.{specs.Edited.{edits_bound, IsRecordOf, RisesToAnew, RisesToRebound}, specs.Faults.{against_all, record_fault}, specs.Joins.Groups.IsFirstMade, specs.Records.Record, specs.Sums.{DueForEach, fronts_sum, ends_sum, cards_between, edits_in, statements_sum, CountsInOrder, RisesByGroups, RisesInGroups, RisesWithinSum, RisesWithinSumCode}, proofs.NearLaws.{sum-append, sum-append-code, apply-split}, proofs.SumLaws.{single, applies-all}}
 
 pub edited-append : (some others : List Edit) (cards : List Card) → edited_by (some ++ others) cards ≡ edited_by others (edited_by some cards)
 edited-append [] others cards = refl
@@ -166,9 +166,6 @@ pub record IsOnWay (edits left : List Edit) (old now : Record) (before behind : 
   pub anew : RisesInGroups RisesToAnew done old.cards before.sized behind.sized
   pub rebound : RisesInGroups RisesToRebound done old.cards before.coded behind.coded
 
-pub on-way-begin : (edits : List Edit) (old : Record) (meter : Counts) → against_all edits old.is_spent old.cards ≡ None → IsRecordOf old.name old.cards old → IsOnWay edits edits old old meter meter
-on-way-begin edits old meter none whole = record { done = []; all = refl; made = whole; apply = none; counts = in-order-none [] old.cards meter refl; anew = record { groups = []; all = refl; rises = refl }; rebound = record { groups = []; all = refl; rises = refl } }
-
 pub on-way-more : (edits left others : List Edit) (count : ℕ) (old now new : Record) (before mid behind : Counts) → IsOnWay edits left old now before mid → IsFirstMade count left others now new mid behind →
     IsOnWay edits others old new before behind
 on-way-more edits left others count old now new before mid behind so_far first =
@@ -186,31 +183,11 @@ on-way-more edits left others count old now new before mid behind so_far first =
       rebound = in-groups-more RisesToRebound done more old.cards before.coded mid.coded behind.coded so_far.rebound first.counts.coded_rises (subst (λ (l : List Card). RisesToRebound more l mid.coded behind.coded) so_far.made.cards_are first.rebound);
     }
 
--- none is left
-pub on-way-made : (edits : List Edit) (old now : Record) (before behind : Counts) → IsOnWay edits [] old now before behind → IsRecordOf old.name (edited_by edits old.cards) now
-on-way-made edits old now before behind so_far =
-    subst (λ (l : List Edit). IsRecordOf old.name (edited_by l old.cards) now) (sym (so_far.all ∙ append-nil so_far.done)) so_far.made
-
-pub on-way-counts : (edits : List Edit) (old now : Record) (before behind : Counts) → IsOnWay edits [] old now before behind → CountsInOrder edits old.cards before behind
-on-way-counts edits old now before behind so_far =
-    subst (λ (l : List Edit). CountsInOrder l old.cards before behind) (sym (so_far.all ∙ append-nil so_far.done)) so_far.counts
-
-pub on-way-anew : (edits : List Edit) (old now : Record) (before behind : Counts) → IsOnWay edits [] old now before behind → CountsAnewInGroups edits old.cards before behind
-on-way-anew edits old now before behind so_far =
-    subst (λ (l : List Edit). CountsAnewInGroups l old.cards before behind) (sym (so_far.all ∙ append-nil so_far.done)) (record { sized = so_far.anew; coded = so_far.rebound })
-
 -- memory ran out
 pub on-way-lost : (edits left : List Edit) (old now : Record) (before mid behind : Counts) → IsOnWay edits left old now before mid → CountsInOrder left now.cards mid behind → CountsInOrder edits old.cards before behind
 on-way-lost edits left old now before mid behind so_far last =
     subst (λ (l : List Edit). CountsInOrder l old.cards before behind) (sym so_far.all)
     (in-order-append so_far.done left old.cards before mid behind so_far.counts (subst (λ (l : List Card). CountsInOrder left l mid behind) so_far.made.cards_are last))
-
--- the first edits of a list
-pub near-first : (first : Edit) (others : List Edit) (near count : ℕ) → cards_between (first ∷ take near others) count ≤ 128 * near → cards_between (take (near + 1) (first ∷ others)) count ≤ 128 * (near + 1 - 1)
-near-first first others near count few =
-    let one : near + 1 ≡ suc near = omega arith in
-    let same = ap (λ (n : ℕ). cards_between (take n (first ∷ others)) count) one in
-    omega (arith, few, same)
 
 -- what the first of some edits count, stated of the list that they are cut off as
 pub cut-counts : (edits first : List Edit) (count : ℕ) (is_spent : Bool) (cards : List Card) (old new : Counts) → first ≡ take count edits → against_all edits is_spent cards ≡ None →

@@ -51,14 +51,6 @@ parcel_added kind old new parcels place at_place bits instruction low at here ot
       | inr e ↦ rw e.0 (h.bits filling k below ∙ ap (λ c. unwrap_or c filling) (sym (others k (λ same. e.1 (at ∙ sym same)))))
     ]
 
--- in a word in which nothing lies, each place is the filling
-pub nothing_there : (kind : DeckKind) (new : OpenWord) → ((k : ℕ) → get_or new.parcels k None ≡ None) → new.has_instruction ≡ false → new.is_empty ≡ true → IsOpenWord kind new []
-nothing_there kind new cells any none = record {
-  bits = λ filling k below. ap (λ c. unwrap_or c filling) (sym (cells k));
-  instruction = sym any;
-  empty = none;
-}
-
 pub filling_is : (kind : DeckKind) (next : OpenWord) (parcels : List Parcel) (filling : ℕ) → IsOpenWord kind next parcels →
     filling ≡ filling_of kind parcels → (k : ℕ) → k < 4 → bits_at kind (filling_of kind parcels) k parcels ≡ unwrap_or (get_or next.parcels k None) filling
 filling_is kind next parcels filling h e k below = rw e (h.bits (filling_of kind parcels) k below)
@@ -154,11 +146,6 @@ gathered_all kind parcels old new next h e = record {
 pub gathered_none : (kind : DeckKind) (next : OpenWord) → next.word ≡ 0 → IsOpenWord kind next [] → IsGathered kind [] [] next
 gathered_none kind next first h = record { small = omega arith; rise = omega arith; has = λ offset below. refl; holds = h; behind = λ offset above. refl }
 
-pub word_made-some : (kind : DeckKind) (word : ℕ) (parcels : List Parcel) → is_none_there parcels ≡ false →
-    word_made kind word parcels ≡ (let w : WordSpan = record { offset = word; count = 1; value = word_of_parcels kind parcels } in w) ∷ []
-word_made-some kind word [] e = cc
-word_made-some kind word (parcel ∷ parcels) e = refl
-
 -- a central word is its four parcels one behind the other
 pub word_central : (kind : DeckKind) (next : OpenWord) (parcels : List Parcel) (filling : ℕ) → units kind ≢ 1 → IsOpenWord kind next parcels → filling ≡ filling_of kind parcels →
     ((unwrap_or (get_or next.parcels 0 None) filling * 32768 + unwrap_or (get_or next.parcels 1 None) filling) * 32768 + unwrap_or (get_or next.parcels 2 None) filling) * 32768 + unwrap_or (get_or next.parcels 3 None) filling
@@ -168,18 +155,3 @@ word_central Rel next parcels filling four h e =
 word_central Abs next parcels filling four h e =
     omega (arith, filling_is Abs next parcels filling h e 0 (omega arith), filling_is Abs next parcels filling h e 1 (omega arith), filling_is Abs next parcels filling h e 2 (omega arith), filling_is Abs next parcels filling h e 3 (omega arith))
 word_central Periph next parcels filling four h e = absurd (four refl)
-
-pub word_peripheral : (kind : DeckKind) (next : OpenWord) (parcels : List Parcel) (filling : ℕ) → units kind ≡ 1 → IsOpenWord kind next parcels → filling ≡ filling_of kind parcels →
-    unwrap_or (get_or next.parcels 0 None) filling ≡ word_of_parcels kind parcels
-word_peripheral Rel next parcels filling one h e = absurd (omega arith)
-word_peripheral Abs next parcels filling one h e = absurd (omega arith)
-word_peripheral Periph next parcels filling one h e = omega (arith, filling_is Periph next parcels filling h e 0 (omega arith))
-
--- nothing is made of no parcels
-pub made_none : (kind : DeckKind) (next : OpenWord) (parcels : List Parcel) (words : List WordSpan) → next.is_empty ≡ true → IsOpenWord kind next parcels → words ≡ words ++ word_made kind next.word parcels
-made_none kind next parcels words none h = let e = no_parcels parcels (sym h.empty ∙ none) in rw e (sym (append-nil words))
-
-pub made_one : (kind : DeckKind) (next : OpenWord) (parcels : List Parcel) (old new : List WordSpan) (value : ℕ) → next.is_empty ≡ false → IsOpenWord kind next parcels → value ≡ word_of_parcels kind parcels →
-    new ≡ old ++ (let w : WordSpan = record { offset = next.word; count = 1; value = value } in w) ∷ [] → new ≡ old ++ word_made kind next.word parcels
-made_one kind next parcels old new value some h e pushed =
-    pushed ∙ ap (λ v. old ++ (let w : WordSpan = record { offset = next.word; count = 1; value = v } in w) ∷ []) e ∙ ap (λ ws. old ++ ws) (sym (word_made-some kind next.word parcels (sym h.empty ∙ some)))

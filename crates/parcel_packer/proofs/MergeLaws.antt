@@ -134,20 +134,6 @@ taking_beyond older from to old taken left span rest order e beyond h =
     let from_span : DoSpansRise to (span ∷ rest) (2 ^ 20) = (beyond, left_rise.1, left_rise.2) in
     taking_all older from to old taken left order (λ offset b. ap (found offset) e ∙ found-under offset to (span ∷ rest) (2 ^ 20) from_span b) h
 
-pub taking_none_left : (older : List WordSpan) (from to : ℕ) (old taken left : List WordSpan) → from ≤ to → left ≡ [] → IsTaking older from to old taken left → IsBetween older from to old taken left
-taking_none_left older from to old taken left order e h = taking_all older from to old taken left order (λ offset b. ap (found offset) e) h
-
--- before anything is merged
-pub merging_none : (newer older : List WordSpan) → DoSpansRise 0 newer (2 ^ 20) → DoSpansRise 0 older (2 ^ 20) → IsMerging newer older [] newer older 0
-merging_none newer older h k = record {
-  rise = omega arith;
-  newer_rise = h;
-  older_rise = k;
-  has = λ offset below. absurd (omega arith);
-  newer_has = λ offset a. refl;
-  older_has = λ offset a. refl;
-}
-
 -- what stands below an offset stays, with spans behind it
 still : (offset from to : ℕ) (taken more : List WordSpan) → offset < from → DoSpansRise from more to → found offset (taken ++ more) ≡ found offset taken
 still offset from to taken more below rise = found-append offset taken more ∙ option_or-none (found offset taken) (found offset more) (found-under offset from more to rise below)
@@ -228,9 +214,6 @@ filled_both kind early late older newer words h k both = record {
   where
     pair : (offset : ℕ) → option_or (found offset newer) (found offset older) ≡ option_or (latest_value kind late offset) (latest_value kind early offset)
     pair offset = rw (h.has offset, k.has offset) refl
-
-pub filled_none : (kind : DeckKind) → IsFilled (latest_value kind []) []
-filled_none kind = record { rise = omega arith; has = λ offset. refl }
 
 pub runs_rise-append : (early late : List (List Parcel)) → DoRunsRise (early ++ late) → DoRunsRise early × DoRunsRise late
 runs_rise-append [] late h = (tt, h)

@@ -1,5 +1,5 @@
 -- Where nothing lies in the runs of a block there is no word, and where something lies there is one.
-use Rattle.std.{proofs.Common.{arith, ◌≡◌, ℕ, zero, suc, ◌/◌, List, [], ◌∷◌, ◌++◌, refl, ap, sym, subst, reverse, ◌∙◌, replicate}, specs.Prelude.{Bool, true, false, not, ◌||◌, ◌≢◌, nat_eq, nat_lt, if◌then◌else◌, Vec, Result, Ok, Err, OnErr}, specs.List.list_any, proofs.lemmas.Bool.{true≢false, not-true, not-false, lt-ltb}, proofs.lemmas.List.Sorted.{list_any-IsPermutation, IsPermutation-reverse}}
+use Rattle.std.{proofs.Common.{arith, ◌≡◌, ℕ, zero, suc, ◌/◌, List, [], ◌∷◌, ◌++◌, refl, ap, sym, subst, reverse, ◌∙◌, replicate}, specs.Prelude.{Bool, true, false, not, ◌||◌, ◌≢◌, nat_eq, nat_lt, if◌then◌else◌, Vec}, specs.List.list_any, proofs.lemmas.Bool.{true≢false, not-true, not-false, lt-ltb}, proofs.lemmas.List.Sorted.{list_any-IsPermutation, IsPermutation-reverse}}
 use Rattle.definitions.{specs.Kinds.units, specs.Words.{Parcel, parcels_from, with_number, words_in}, specs.declared.deck_kind.DeckKind.DeckKind, proofs.WordLaws.{with_words_of, words_in-run}}
 use Rattle.parcel_packer.{specs.Joins.Filling.is_none_there, specs.Joins.Packing.{Packed, runs_in}, specs.Joins.Spans.{has_parcel, lies_in, parcels_in, parcels_in_runs, run_of}, specs.declared.spans.Span.Span, specs.declared.spans.OpenParcel.OpenParcel, proofs.PackedLaws.block}
 
@@ -102,8 +102,3 @@ latest_lies packed kind spans seen next runs view s latest =
     let late : list_any has_parcel spans ≡ true = sym (latest ∙ ap (list_any has_parcel) s) in
     some_there (words_in packed.kind (runs_in packed))
     (block_some packed kind spans next runs view ∙ or_first (list_any has_parcel spans) (list_any lies_in runs) late)
-
--- what holds anyhow holds after a fault
-pub on_err : {T E : Type 0} (result : Result T E) (P : Type 0) → P → OnErr result P
-on_err (Ok value) P h = tt
-on_err (Err fault) P h = h

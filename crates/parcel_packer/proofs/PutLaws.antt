@@ -152,12 +152,6 @@ moved_open size spans old new at_bit some e may = elim (eqb_tells old.filled 0) 
     not_zero zero h = absurd (h refl)
     not_zero (suc n) h = omega arith
 
-pub moved_is_open : (size : ℕ) (old new : OpenParcel) (at_bit : ℕ) → IsOpen size old → IsMoved size old new at_bit → IsOpen size new
-moved_is_open size old new at_bit h m =
-    let room = h.has_room in
-    let filled = m.filled in
-    record { has_room = omega arith; bits_fit = rw (m.filled, m.bits) h.bits_fit }
-
 most_parcels : (kind : DeckKind) → most_bits kind ≤ unit_bits kind * 524288
 most_parcels Rel = omega arith
 most_parcels Abs = omega arith

@@ -1,5 +1,5 @@
 -- Whole words of zeros, gathered at once.
-use Rattle.std.{proofs.Common.{◌≡◌, ◌≢◌, ℕ, zero, suc, ◌+◌, ◌*◌, ◌/◌, ◌%◌, ◌^◌, ◌<◌, ◌≤◌, true, false, nat_eq, List, [], ◌∷◌, ◌++◌, Some, None, replicate, refl, sym, ap, subst, ◌∙◌, arith, inl, inr}, specs.List.list_any, proofs.lemmas.Bool.Decides.{eqb_tells, leb_tells}, proofs.lemmas.List.Elements.filter-append}
+use Rattle.std.{proofs.Common.{◌≡◌, ◌≢◌, ℕ, zero, suc, ◌+◌, ◌*◌, ◌/◌, ◌%◌, ◌^◌, ◌<◌, ◌≤◌, true, false, nat_eq, List, [], ◌∷◌, ◌++◌, Some, replicate, refl, sym, ap, subst, ◌∙◌, arith, inl, inr}, specs.List.list_any, proofs.lemmas.Bool.Decides.{eqb_tells, leb_tells}, proofs.lemmas.List.Elements.filter-append}
 use Rattle.definitions.{specs.Kinds.units, specs.Words.{Parcel, bits_at, filling_of, in_word, parcels_from, word_of_parcels}, specs.declared.deck_kind.DeckKind.DeckKind, specs.declared.deck_kind.DeckKind.TheVariants.{Rel, Abs, Periph}, proofs.TestLaws.option_or-none}
 use Rattle.parcel_packer.proofs.RiseLaws.{none-option_or}
 use Rattle.parcel_packer.{specs.Joins.Spans.span_parcels, specs.Joins.Filling.{AreZeroWords, IsGathered, IsOpenWord, found, is_none_there, value_of_parcels, zero_parcels}, specs.declared.gathering.OpenWord.OpenWord, specs.declared.spans.Span.Span, specs.declared.word_spans.WordSpan.WordSpan, proofs.GatherLaws.no_parcels, proofs.RiseLaws.{spans-push, found-append, found-above, found-here, found-before, order_of}}
@@ -96,9 +96,6 @@ none-behind kind parcels spans next offset h empty from = elim (order_of next.wo
   | inl behind ↦ h.behind offset behind
   | inr same ↦ let e : offset ≡ next.word = omega arith in rw e (no_parcels (in_word kind next.word parcels) (sym h.holds.empty ∙ empty))
 ]
-
-value-none : (kind : DeckKind) (parcels : List Parcel) → parcels ≡ [] → value_of_parcels kind parcels ≡ None
-value-none kind parcels e = rw e refl
 
 -- so many zero words from the open word on, in which nothing lies
 pub zeros_gathered : (kind : DeckKind) (parcels : List Parcel) (old new : List WordSpan) (next later : OpenWord) (count : ℕ) → next.is_empty ≡ true → 0 < count → later.word ≡ next.word + count → next.word + count < 2 ^ 20 →

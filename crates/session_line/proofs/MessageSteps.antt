@@ -1,5 +1,5 @@
 -- Lines of messages, letter by letter and statement by statement.
-use Rattle.std.{proofs.Common.{ℕ, ◌≡◌, ◌+◌, ◌<◌, ◌≤◌, Bool, true, false, List, [], ◌∷◌, ◌++◌, length, take, drop, get_or, refl, sym, ap, ap₂, subst, ◌∙◌, arith, append-nil, append_assoc, if◌then◌else◌}, specs.Prelude.{◌&&◌, flat_map, is_none}, proofs.lemmas.Grind.flat_map-append, proofs.lemmas.List.{drop_all, drop_more}}
+use Rattle.std.{proofs.Common.{ℕ, ◌≡◌, ◌+◌, ◌<◌, ◌≤◌, Bool, true, false, List, [], ◌∷◌, ◌++◌, length, take, drop, get_or, refl, sym, ap, ap₂, subst, ◌∙◌, append-nil, append_assoc, if◌then◌else◌}, specs.Prelude.{◌&&◌, flat_map, is_none}, proofs.lemmas.Grind.flat_map-append, proofs.lemmas.List.{drop_all, drop_more}}
 use Rattle.definitions.specs.Cards.{Card}
 use Rattle.deck_objects.specs.declared.lines.Line.{Line}
 use Rattle.deck_cuts.specs.Cuts.{begins_deck}
@@ -54,15 +54,6 @@ letters-next number letters i other within = ap (lettered number) (drop_more let
 -- and none behind the last
 pub letters-end : (number : ℕ) (letters : List ℕ) (i : ℕ) → length letters ≤ i → lettered number (drop i letters) ≡ []
 letters-end number letters i past = ap (lettered number) (drop_all i letters past)
-
--- a statement without cards or without letters has none
-pub none-told : (before : ℕ) (cards : List Card) (letters : List ℕ) → letters ≡ [] → told_letters before cards letters ≡ []
-none-told before [] letters none = refl
-none-told before (card ∷ cards) letters none = ap (lettered (before + 1)) none
-
-pub some-told : (before : ℕ) (cards : List Card) (letters : List ℕ) → 0 < length cards → told_letters before cards letters ≡ lettered (before + 1) letters
-some-told before [] letters some = absurd (omega (arith, some))
-some-told before (card ∷ cards) letters some = refl
 
 -- the letters of a statement are those of its flag
 begun-letters : (told : Bool) (number : ℕ) (card : Card) → flat_map letters_of (if told then Begins number card ∷ [] else []) ≡ []

@@ -1,21 +1,13 @@
 -- The words of a subfield of DATA or CON.
 use Rattle.std.proofs.Common.{◌≡◌, ◌∙◌, ℕ, ◌*◌, ◌/◌, ◌^◌, ◌≤◌, ◌<◌, List, [], ◌∷◌, ◌++◌, length, map, flat_map, ap, sym, arith, append_assoc, append-nil}
-use Rattle.definitions.{specs.CountedItems.CountedItem, specs.Symbols.Number, specs.Expressions.{Sign, Expression}, specs.Forms.characters_number, specs.Coding.{counted_item_bits, words_needed}, specs.Kinds.word_bits, specs.Operands.Datum, specs.Settled.Settled, specs.StatementItems.{Item, Context, known, number_item, expression_item, datum_item}, specs.Words.cut, specs.declared.deck_kind.DeckKind.DeckKind, specs.declared.deck_kind.DeckKind.TheVariants.{Rel, Abs, Periph}, proofs.LiteralLaws.characters_number-below}
+use Rattle.definitions.{specs.CountedItems.CountedItem, specs.Expressions.{Expression}, specs.Forms.characters_number, specs.Coding.{counted_item_bits, words_needed}, specs.Kinds.word_bits, specs.Operands.Datum, specs.Settled.Settled, specs.StatementItems.{Item, Context, known, expression_item, datum_item}, specs.Words.cut, specs.declared.deck_kind.DeckKind.DeckKind, specs.declared.deck_kind.DeckKind.TheVariants.{Rel, Abs, Periph}, proofs.LiteralLaws.characters_number-below}
 use Rattle.expr_forms.{specs.Joins.CodedItems.in_places, proofs.CodedLaws.{counted_item_bits-whole, length-in_places, word_bits-characters, words_needed-room}}
-use Rattle.statement_coder.{specs.Joins.WordItems.{known_words, in_words}, proofs.WidthLaws.{width-number_item, width-expression_item}, proofs.WordItemLaws.{in_words-narrow, in_words-known}}
+use Rattle.statement_coder.{specs.Joins.WordItems.{known_words, in_words}, proofs.WidthLaws.{width-expression_item}, proofs.WordItemLaws.{in_words-narrow, in_words-known}}
 
 pub word_bits-some : (kind : DeckKind) → 0 < word_bits kind
 word_bits-some Rel = omega arith
 word_bits-some Abs = omega arith
 word_bits-some Periph = omega arith
-
--- a word of known bits
-pub known-word : (word bits : ℕ) → in_words word (known word bits) ≡ known word bits ∷ []
-known-word word bits = in_words-narrow word (known word bits) (omega arith)
-
--- a number of DATA is one word
-pub number-word : (word : ℕ) (sign : Sign) (number : Number) → in_words word (number_item word sign number) ≡ number_item word sign number ∷ []
-number-word word sign number = in_words-narrow word (number_item word sign number) (let e = width-number_item word sign number in omega arith)
 
 -- an expression of CON is one word
 pub expression-word : (context : Context) (settled : Settled) (word : ℕ) (e : Expression) → in_words word (expression_item context settled word e) ≡ expression_item context settled word e ∷ []

@@ -1,5 +1,5 @@
 -- Letters that are gathered one after the other.
-use Rattle.std.proofs.Common.{◌≡◌, ◌∙◌, ℕ, List, [], ◌++◌, refl, ap, sym, append_assoc, append-nil}
+use Rattle.std.proofs.Common.{◌≡◌, ◌∙◌, ℕ, List, [], ◌++◌, ap, sym, append_assoc, append-nil}
 use Rattle.definitions.specs.{Letters.in_order, declared.letter.Letter.Letter}
 
 -- the text of those so far; with those that are left they are all
@@ -7,10 +7,6 @@ pub record Gathered (text : List ℕ) (left all : List Letter) : Type 0 where
   pub done : List Letter
   pub is : text ≡ in_order done
   pub whole : done ++ left ≡ all
-
--- before the first
-pub none_gathered : (text : List ℕ) (all : List Letter) → text ≡ in_order [] → Gathered text all all
-none_gathered text all e = record { done = []; is = e; whole = refl }
 
 -- one more
 pub one_gathered : (text after : List ℕ) (one left rest all : List Letter) → left ≡ one ++ rest →

@@ -1,6 +1,6 @@
 -- How wide fields are.
 use Rattle.std.{proofs.Common.{◌≡◌, ℕ, Bool, true, false, [], Option, Some, None, Result, Ok, Err, refl, if◌then◌else◌}, specs.Prelude.nat_le}
-use Rattle.definitions.specs.{CountedItems.CountedItem, Symbols.{Number, Value, TooGreat}, Expressions.{Sign, Expression}, Forms.{Form, is_absolute, value_of}, Coding.{coded_in, counted_item_in}, Kinds.address_bits, Literals.signed_number, Settled.Settled, StatementItems.{Item, Linked, Context, faulty, known_if, linked_item, form_item, value_item, whole_counted_item, counted_item_or_value, expression_item, number_item, final_names, number_in, vfd_value}, declared.deck_kind.DeckKind.DeckKind, declared.deck_kind.DeckKind.TheVariants.{Rel, Abs, Periph}, declared.letter.Letter.Letter}
+use Rattle.definitions.specs.{CountedItems.CountedItem, Expressions.{Expression}, Forms.{Form, is_absolute, value_of}, Coding.{coded_in, counted_item_in}, Kinds.address_bits, Settled.Settled, StatementItems.{Item, Linked, Context, faulty, known_if, linked_item, form_item, value_item, whole_counted_item, counted_item_or_value, expression_item, final_names, number_in}, declared.deck_kind.DeckKind.DeckKind, declared.deck_kind.DeckKind.TheVariants.{Rel, Abs, Periph}, declared.letter.Letter.Letter}
 use Rattle.definitions.specs.declared.letter.Letter.TheVariants as letter
 
 -- both fields of a choice have this width
@@ -33,11 +33,3 @@ width-either context settled width e (Some item) = width-known_if width (counted
 -- an expression has the width of its field
 pub width-expression_item : (context : Context) (settled : Settled) (width : ℕ) (e : Expression) → (expression_item context settled width e).width ≡ width
 width-expression_item context settled width e = width-either context settled width e (whole_counted_item e.sign e.terms)
-
-pub width-number_item : (width : ℕ) (sign : Sign) (number : Number) → (number_item width sign number).width ≡ width
-width-number_item width sign (Value n) = width-known_if width (coded_in width (signed_number sign n))
-width-number_item width sign TooGreat = refl
-
-pub width-vfd_value : (context : Context) (settled : Settled) (width : ℕ) (value : Option Expression) → (vfd_value context settled width value).width ≡ width
-width-vfd_value context settled width None = refl
-width-vfd_value context settled width (Some e) = width-expression_item context settled width e

@@ -1,18 +1,7 @@
 -- How the code keeps a deck (ours).
-use Rattle.std.specs.{Prelude.{◌≡◌, ◌≤◌, ℕ, Bool, true, false, List, [], ◌∷◌, ◌++◌, length, map, is_some, Option, None, Some}, Option.ForSome}
+use Rattle.std.specs.{Prelude.{◌≡◌, ◌≤◌, ℕ, List, [], ◌∷◌, ◌++◌, length, map, is_some, Option}, Option.ForSome}
 use Rattle.cards.specs.declared.carrying.MadeEdit.{MadeEdit}
 use Rattle.desk_core.specs.{Joins.Language.{Card, Deck}, Joins.Edits.{Edit, most_cards, edited}, Past.{Past, KeptEdit, undo_of}, declared.past.Back.Back, Led.IsPastOf, Desks.{DeskDeck, Kept, Lease}}
-
--- cards of one's own; or those that are held in common, where there are such
-abbrev pub cards_lying : List Card → Option (List Card) → List Card
-cards_lying own None = own
-cards_lying own (Some common) = common
-
--- the cards of a deck: those that it holds; else those of its object, where it has one
-abbrev pub cards_held : Bool → List Card → Option Deck → List Card
-cards_held true own object = own
-cards_held false own None = own
-cards_held false own (Some object) = object.cards
 
 -- a deck with its object, if it has one of its version
 abbrev pub stored_deck : List ℕ → List Card → ℕ → ℕ → Option Deck → Option Kept → List Edit → Option Lease → Past → DeskDeck
