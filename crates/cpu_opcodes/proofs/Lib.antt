@@ -7,5 +7,4 @@ pub mod CodeLaws
 pub mod RowLaws
 pub mod SumLaws
 pub mod SearchLaws
-pub mod FirstLetterLaws
 pub mod UnreadLaws

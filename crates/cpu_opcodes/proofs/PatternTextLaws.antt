@@ -1,12 +1,13 @@
 -- A pattern of registers fits the text of pieces where it fits the text that they are the pieces of.
 use Rattle.std.{proofs.Common.{◌≡◌, ◌≤◌, ◌<◌, ℕ, ◌+◌, ◌-◌, Bool, true, false, not, cond, ◌&&◌, List, [], ◌∷◌, Option, Some, None, eqb, leb, refl, sym, ap, ◌∙◌, inl, inr, arith}, specs.Prelude.{suc, zero}, proofs.lemmas.Bool.{and_parts, eqb-true, leb-true}, proofs.lemmas.Bool.Decides.eqb_tells}
 use Rattle.definitions.specs.{CountedItems.{CountedSpan, counted_item_at}, Pieces.{Mark, Comma, Plus, Minus, Star, Slash, Equals, Spot, AtStart, AtEquals, Inside, Begun, ByMark, Piece, IsMark, IsCountedItem, Plain, mark_of, begun_by, begun_by_counted_item, spot_behind, left_of, onto_plain, onto_pieces, pieces_at, pieces_of}, Matching.{RegisterDigits, is_ijk, with_ijk, is_octal_digit, matched, plain_text}}
-use Rattle.cpu_opcodes.{specs.Joins.PatternTexts.{all_digits, holds, shows_all, is_text_pattern}, proofs.OperationLaws.matched-letter}
+use Rattle.cpu_opcodes.specs.Joins.PatternTexts.{all_digits, holds, shows_all, is_text_pattern}
 
 both_ways : true ≡ false → ⊥
 both_ways e = cc
 
-digit_holds : (test : ℕ → Bool) (n c : ℕ) → all_digits test n ≡ true → 48 ≤ c → c < 48 + n → test c ≡ true
+-- what holds with each digit
+pub digit_holds : (test : ℕ → Bool) (n c : ℕ) → all_digits test n ≡ true → 48 ≤ c → c < 48 + n → test c ≡ true
 digit_holds test zero c all from below = absurd (omega (arith, from, below))
 digit_holds test (suc n) c all from below =
     let parts = and_parts (test (48 + n)) (all_digits test n) all in
@@ -18,6 +19,9 @@ digit_holds test (suc n) c all from below =
 matched-digit : (p : ℕ) (ps : List ℕ) (c : ℕ) (cs : List ℕ) (ijk : RegisterDigits) → is_ijk p ≡ true →
     matched (p ∷ ps) (c ∷ cs) ijk ≡ cond (is_octal_digit c) (matched ps cs (with_ijk p (c - 48) ijk)) None
 matched-digit p ps c cs ijk place = rw place refl
+
+matched-letter : (p : ℕ) (ps : List ℕ) (c : ℕ) (cs : List ℕ) (ijk : RegisterDigits) → is_ijk p ≡ false → matched (p ∷ ps) (c ∷ cs) ijk ≡ cond (eqb p c) (matched ps cs ijk) None
+matched-letter p ps c cs ijk letter = rw letter refl
 
 cond_none : (b : Bool) (o : Option RegisterDigits) → (b ≡ true → o ≡ None) → cond b o None ≡ None
 cond_none true o none = none refl

@@ -1,71 +1,45 @@
 -- The rows of an operation give what the definitions' rows give.
-use Rattle.std.{proofs.Common.{◌≡◌, ℕ, Bool, true, false, not, cond, ◌&&◌, List, [], ◌∷◌, ◌++◌, Option, Some, None, map, filter, eqb, refl, sym, ap, ◌∙◌}, specs.Prelude.{nat_lt, option_map, option_and_then}, specs.List.{list_all, slice_split}, proofs.lemmas.Bool.{and_parts, eqb-true}}
-use Rattle.definitions.specs.{Pieces.Piece, CentralTable.SumRow, Matching.{RegisterDigits, no_ijk, is_ijk, is_octal_digit, matched, is_operation, NoField, Instruction, instruction_of, Sum, subfields_matched, with_field, sum_code, sum_instruction, row_fit, sum_fit, rows_for, sum_rows_for, first_fit}, declared.number_base.NumberBase.NumberBase}
+use Rattle.std.{proofs.Common.{◌≡◌, ℕ, Bool, true, false, cond, ◌&&◌, List, [], ◌∷◌, ◌++◌, Option, Some, None, map, filter, eqb, refl, sym, ap, ◌∙◌}, specs.Prelude.{option_map, option_and_then}, specs.List.{list_all, slice_split}, proofs.lemmas.Bool.{and_parts, eqb-true}}
+use Rattle.definitions.specs.{Pieces.Piece, CentralTable.SumRow, Matching.{RegisterDigits, no_ijk, matched, is_operation, NoField, Instruction, instruction_of, Sum, subfields_matched, with_field, sum_code, sum_instruction, row_fit, sum_fit, rows_for, sum_rows_for, first_fit}, declared.number_base.NumberBase.NumberBase}
 use Rattle.definitions.specs.CentralTable as table
 use Rattle.operations.specs.declared.row.Row.{Row}
-use Rattle.cpu_opcodes.{specs.declared.code.OperandForm.OperandForm, specs.declared.code.SumForm.SumForm, specs.Joins.CentralTables.{operand_row, sum_row, padded_row, padded_sum_row, operand_rows_of, sum_rows_of}, specs.Joins.Fits.{named_digits, row_fit_with, sum_fit_with}, proofs.OperationLaws.{is_shaped, is_found, is_operation-found, no_more, matched-letter, is_not, operation-none, operation-short}}
+use Rattle.cpu_opcodes.{specs.declared.code.OperandForm.OperandForm, specs.declared.code.SumForm.SumForm, specs.Joins.CentralTables.{operand_row, sum_row, padded_row, padded_sum_row, operand_rows_of, sum_rows_of}, specs.Joins.Fits.{named_digits, row_fit_with, sum_fit_with}, specs.Joins.PatternTexts.holds, proofs.OperationLaws.no_operation}
 
 both_ways : true ≡ false → ⊥
 both_ways e = cc
 
-found_behind : (x y : Bool) (o : Option RegisterDigits) → is_found (cond x (cond y o None) None) ≡ true → cond x (cond y o None) None ≡ o
-found_behind true true o found = refl
-found_behind true false o found = absurd (both_ways (sym found))
-found_behind false y o found = absurd (both_ways (sym found))
+-- whether digits are these, if there are any
+abbrev has_digits : RegisterDigits → Option RegisterDigits → Bool
+has_digits ijk None = false
+has_digits ijk (Some found) = eqb found.i ijk.i && (eqb found.j ijk.j && eqb found.k ijk.k)
 
--- behind the two letters of a name
-behind_letters : (p q a b : ℕ) (ps cs : List ℕ) → is_ijk p ≡ false → is_ijk q ≡ false → is_operation (p ∷ q ∷ ps) (a ∷ b ∷ cs) ≡ true →
-    matched (p ∷ q ∷ ps) (a ∷ b ∷ cs) no_ijk ≡ matched ps cs no_ijk
-behind_letters p q a b ps cs first second same =
-    let letters = matched-letter p (q ∷ ps) a (b ∷ cs) no_ijk first ∙ ap (λ o. cond (eqb p a) o None) (matched-letter q ps b cs no_ijk second) in
-    let found = sym (is_operation-found (p ∷ q ∷ ps) (a ∷ b ∷ cs) ∙ ap is_found letters) ∙ same in
-    letters ∙ found_behind (eqb p a) (eqb q b) (matched ps cs no_ijk) found
+-- whether a text has the digit of its own name by a pattern
+abbrev is_named : List ℕ → List ℕ → Bool
+is_named pattern text = has_digits (named_digits text) (matched pattern text no_ijk)
 
-digit_by : (a b c : ℕ) (octal : Bool) → is_octal_digit c ≡ octal → is_found (matched (105 ∷ []) (c ∷ []) no_ijk) ≡ true → matched (105 ∷ []) (c ∷ []) no_ijk ≡ Some (named_digits (a ∷ b ∷ c ∷ []))
-digit_by a b c true octal found = rw octal refl
-digit_by a b c false other found = absurd (both_ways (sym found ∙ rw other refl))
+digits-same : (ijk : RegisterDigits) (o : Option RegisterDigits) → has_digits ijk o ≡ true → o ≡ Some ijk
+digits-same ijk None same = absurd (cc)
+digits-same ijk (Some found) same =
+    let first = and_parts (eqb found.i ijk.i) (eqb found.j ijk.j && eqb found.k ijk.k) same in
+    let second = and_parts (eqb found.j ijk.j) (eqb found.k ijk.k) first.1 in
+    ap (λ n. Some (record found { i = n })) (eqb-true found.i ijk.i first.0)
+    ∙ ap (λ n. Some (record found { i = ijk.i; j = n })) (eqb-true found.j ijk.j second.0)
+    ∙ ap (λ n. Some (record ijk { k = n })) (eqb-true found.k ijk.k second.1)
 
--- behind the two letters: nothing, or i and its digit
-behind_name : (a b : ℕ) (cs : List ℕ) → is_found (matched [] cs no_ijk) ≡ true → matched [] cs no_ijk ≡ Some (named_digits (a ∷ b ∷ cs))
-behind_name a b [] found = refl
-behind_name a b (c ∷ cs) found = absurd (both_ways (sym found))
-
-behind_i : (a b : ℕ) (cs : List ℕ) → is_found (matched (105 ∷ []) cs no_ijk) ≡ true → matched (105 ∷ []) cs no_ijk ≡ Some (named_digits (a ∷ b ∷ cs))
-behind_i a b [] found = absurd (both_ways (sym found))
-behind_i a b (c ∷ []) found = digit_by a b c (is_octal_digit c) refl found
-behind_i a b (c ∷ d ∷ ds) found = absurd (both_ways (sym found ∙ no_more c d ds no_ijk (is_octal_digit c) refl))
-
--- an operation of a pattern has the digit of its own name
-pub matched-named : (pattern operation : List ℕ) → is_shaped pattern ≡ true → is_operation pattern operation ≡ true → matched pattern operation no_ijk ≡ Some (named_digits operation)
-matched-named pattern [] shaped same = absurd (both_ways (sym same ∙ operation-none pattern shaped))
-matched-named pattern (a ∷ []) shaped same = absurd (both_ways (sym same ∙ operation-short pattern a shaped))
-matched-named [] (a ∷ b ∷ cs) shaped same = absurd (cc)
-matched-named (p ∷ []) (a ∷ b ∷ cs) shaped same = absurd (cc)
-matched-named (p ∷ q ∷ []) (a ∷ b ∷ cs) shaped same =
-    let one = and_parts (not (is_ijk p)) (not (is_ijk q) && nat_lt q 256) shaped in
-    let two = and_parts (not (is_ijk q)) (nat_lt q 256) one.1 in
-    let behind = behind_letters p q a b [] cs (is_not (is_ijk p) one.0) (is_not (is_ijk q) two.0) same in
-    let found = sym (is_operation-found (p ∷ q ∷ []) (a ∷ b ∷ cs) ∙ ap is_found behind) ∙ same in
-    behind ∙ behind_name a b cs found
-matched-named (p ∷ q ∷ r ∷ []) (a ∷ b ∷ cs) shaped same =
-    let zero = and_parts (eqb r 105) (not (is_ijk p) && (not (is_ijk q) && nat_lt q 256)) shaped in
-    let one = and_parts (not (is_ijk p)) (not (is_ijk q) && nat_lt q 256) zero.1 in
-    let two = and_parts (not (is_ijk q)) (nat_lt q 256) one.1 in
-    let third : r ≡ 105 = eqb-true r 105 zero.0 in
-    let behind =
-    behind_letters p q a b (r ∷ []) cs (is_not (is_ijk p) one.0) (is_not (is_ijk q) two.0) same
-    ∙ ap (λ n. matched (n ∷ []) cs no_ijk) third
-    in
-    let found = sym (is_operation-found (p ∷ q ∷ r ∷ []) (a ∷ b ∷ cs) ∙ ap is_found behind) ∙ same in
-    behind ∙ behind_i a b cs found
-matched-named (p ∷ q ∷ r ∷ s ∷ ss) (a ∷ b ∷ cs) shaped same = absurd (cc)
+-- an operation of a pattern has the digit of its own name: one test of the pattern's texts
+matched-named : (pattern operation : List ℕ) → holds (is_named pattern) pattern ≡ true → is_operation pattern operation ≡ true → matched pattern operation no_ijk ≡ Some (named_digits operation)
+matched-named pattern operation shaped same =
+    elim (is_named pattern operation) as (λ b. is_named pattern operation ≡ b → matched pattern operation no_ijk ≡ Some (named_digits operation)) [
+      | true ↦ digits-same (named_digits operation) (matched pattern operation no_ijk)
+      | false ↦ λ other. absurd (both_ways (sym same ∙ no_operation (is_named pattern) pattern operation shaped other))
+    ] refl
 
 kept_agree : {X Z : Type 0} (b : Bool) (f g : X → Z) (x : X) (rest : List X) → (b ≡ true → f x ≡ g x) → map f rest ≡ map g rest → map f (cond b (x ∷ rest) rest) ≡ map g (cond b (x ∷ rest) rest)
 kept_agree true f g x rest same more = ap (λ z. z ∷ map f rest) (same refl) ∙ ap (λ l. g x ∷ l) more
 kept_agree false f g x rest same more = more
 
 -- maps that agree on what is kept
-agree_on_kept : {X Z : Type 0} (s p : X → Bool) (f g : X → Z) (xs : List X) → ((x : X) → s x ≡ true → p x ≡ true → f x ≡ g x) → list_all s xs ≡ true →
+pub agree_on_kept : {X Z : Type 0} (s p : X → Bool) (f g : X → Z) (xs : List X) → ((x : X) → s x ≡ true → p x ≡ true → f x ≡ g x) → list_all s xs ≡ true →
     map f (filter p xs) ≡ map g (filter p xs)
 agree_on_kept s p f g [] agree all = refl
 agree_on_kept s p f g (x ∷ xs) agree all =
@@ -79,13 +53,13 @@ map_twice f g (x ∷ xs) = ap (λ l. f (g x) ∷ l) (map_twice f g xs)
 -- the rows of the code against the definitions' rows, which fit alike with and without the name's blank
 rows_agree : {X C Z : Type 0} (op_of : X → List ℕ) (padded : X → X) (f g : X → Z) (as_row : C → X) (xs : List X) (rows : List C) (operation : List ℕ) →
     map as_row rows ≡ map padded (filter (λ x. is_operation (op_of x) operation) xs) → ((x : X) → f (padded x) ≡ f x) →
-    ((x : X) → is_shaped (op_of x) ≡ true → is_operation (op_of x) operation ≡ true → f x ≡ g x) → list_all (λ x. is_shaped (op_of x)) xs ≡ true →
+    ((x : X) → holds (is_named (op_of x)) (op_of x) ≡ true → is_operation (op_of x) operation ≡ true → f x ≡ g x) → list_all (λ x. holds (is_named (op_of x)) (op_of x)) xs ≡ true →
     map (λ c. f (as_row c)) rows ≡ map g (filter (λ x. is_operation (op_of x) operation) xs)
 rows_agree op_of padded f g as_row xs rows operation same alike agree shaped =
     sym (map_twice f as_row rows)
     ∙ ap (map f) same
     ∙ map_twice f padded (filter (λ x. is_operation (op_of x) operation) xs)
-    ∙ agree_on_kept (λ x. is_shaped (op_of x)) (λ x. is_operation (op_of x) operation) (λ x. f (padded x)) g xs (λ x s o. alike x ∙ agree x s o) shaped
+    ∙ agree_on_kept (λ x. holds (is_named (op_of x)) (op_of x)) (λ x. is_operation (op_of x) operation) (λ x. f (padded x)) g xs (λ x s o. alike x ∙ agree x s o) shaped
 
 abbrev pub no_fit : Option Instruction
 no_fit = None

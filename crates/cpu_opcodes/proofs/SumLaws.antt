@@ -1,10 +1,10 @@
 -- Sums against rows.
 use Rattle.std.{proofs.Common.{◌≡◌, ℕ, ◌-◌, ◌<◌, ◌≤◌, Bool, true, false, cond, ◌&&◌, List, [], ◌∷◌, Option, Some, None, length, map, eqb, refl, sym, ap, ◌∙◌, arith}, specs.Prelude.nat_le}
-use Rattle.definitions.specs.{Expressions.{Sign, Term, Expression, is_plain}, CentralTable.SumRow, Matching.{RegisterDigits, is_ijk, is_octal_digit, with_ijk, matched, OfK, Sum, instruction_of, sum_field, sum_code, sum_instruction, sum_fit, single, sum_rows_for, first_fit}, Pieces.Piece, declared.number_base.NumberBase.NumberBase}
+use Rattle.definitions.specs.{Expressions.{Sign, Term, Expression, is_plain}, CentralTable.SumRow, Matching.{RegisterDigits, is_ijk, is_octal_digit, with_ijk, matched, OfK, Sum, instruction_of, sum_field, sum_code, sum_instruction, sum_fit, single, sum_rows_for, sum_read, Instruction, first_fit}, Pieces.Piece, declared.number_base.NumberBase.NumberBase}
 use Rattle.definitions.specs.CentralTable as table
 use Rattle.operations.specs.declared.row.Row.{Row}
 use Rattle.cpu_opcodes.{specs.declared.code.SumForm.SumForm, specs.Joins.CentralTables.{sum_row, sum_rows_of, is_some_of}, specs.Joins.Fits.{named_digits, form_fit}, proofs.RowLaws.sum-fits, specs.declared.patterns.SumPattern.SumPattern, specs.Joins.CodeTexts.registers_text}
-use Rattle.expr_forms.specs.{Joins.Operands.IsOperand, declared.operands.Subfield.Subfield}
+use Rattle.expr_forms.specs.{Joins.Operands.IsOperand, declared.operands.Operand.Operand}
 use Rattle.expr_forms.specs.declared.operands.Operand.TheVariants as operand
 use Rattle.cpu_opcodes.specs.declared.patterns.SumPattern.TheVariants as registers
 
@@ -59,26 +59,22 @@ pub sum-form : (row : SumRow) (sum : Sum) (ijk : RegisterDigits) → form_fit ro
 sum-form row sum ijk = sum-form_by row sum.sign sum.registers sum.others ijk
 
 -- the expression that is the one subfield of an operand; more subfields are none
-pub one_single : (base : NumberBase) (subfields : List (List Piece)) (x : Subfield) → IsOperand base subfields (operand.One x) → single base subfields ≡ Some x.expression
-one_single base [] x h = absurd h
-one_single base (a ∷ []) x h = h.1
-one_single base (a ∷ b ∷ []) x h = absurd h
-one_single base (a ∷ b ∷ c ∷ []) x h = absurd h
-one_single base (a ∷ b ∷ c ∷ d ∷ e) x h = absurd h
+abbrev pub single_of : Operand → Option Expression
+single_of (operand.One x) = Some x.expression
+single_of other = None
 
-pub two_single : (base : NumberBase) (subfields : List (List Piece)) (x y : Subfield) (known : NumberBase) → IsOperand base subfields (operand.Two x y known) → single base subfields ≡ None
-two_single base [] x y known h = absurd h
-two_single base (a ∷ []) x y known h = absurd h
-two_single base (a ∷ b ∷ []) x y known h = refl
-two_single base (a ∷ b ∷ c ∷ []) x y known h = absurd h
-two_single base (a ∷ b ∷ c ∷ d ∷ e) x y known h = absurd h
+single-operand : (base : NumberBase) (subfields : List (List Piece)) (o : Operand) → IsOperand base subfields o → single base subfields ≡ single_of o
+single-operand base (a ∷ []) (operand.One x) h = h.1
+single-operand base (a ∷ b ∷ []) (operand.Two x y known) h = refl
+single-operand base (a ∷ b ∷ c ∷ []) (operand.Three x y z) h = refl
+single-operand base subfields o h = absurd h
 
-pub three_single : (base : NumberBase) (subfields : List (List Piece)) (x y z : Subfield) → IsOperand base subfields (operand.Three x y z) → single base subfields ≡ None
-three_single base [] x y z h = absurd h
-three_single base (a ∷ []) x y z h = absurd h
-three_single base (a ∷ b ∷ []) x y z h = absurd h
-three_single base (a ∷ b ∷ c ∷ []) x y z h = refl
-three_single base (a ∷ b ∷ c ∷ d ∷ e) x y z h = absurd h
+-- what the rows of sums make of an operand
+abbrev pub sums_of : List ℕ → Option Expression → Option Instruction
+sums_of operation e = first_fit (map (sum_fit operation (sum_read e)) (sum_rows_for operation table.sum_rows))
+
+pub sums-operand : (base : NumberBase) (operation : List ℕ) (subfields : List (List Piece)) (given o : Operand) → given ≡ o → IsOperand base subfields given → sums_of operation (single_of o) ≡ sums_of operation (single base subfields)
+sums-operand base operation subfields given o is h = ap (sums_of operation) (ap single_of (sym is) ∙ sym (single-operand base subfields given h))
 
 -- where the code has no rows of sums, none fits
 pub no_rows-fit : (operation : List ℕ) (sum : Option Sum) (rows : List (Row SumForm)) → is_some_of rows ≡ false → map sum_row rows ≡ sum_rows_of operation →

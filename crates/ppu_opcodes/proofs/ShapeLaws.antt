@@ -10,17 +10,7 @@ is_found-operand : (shape : Shape) (row : PeripheralRow) (found : operand.Operan
     IsFieldOf (Some shape.field) row found → IsFound shape found
 is_found-operand shape row (operand.PeripheralOperand other values) digits count (is, form) =
     (digits ∙ ap (λ (r : PeripheralRow). r.code) (sym is), count, subst (λ (r : PeripheralRow). HasForm shape.field r.form values) (sym is) form)
-is_found-operand shape row operand.Unread digits count is = is
-is_found-operand shape row operand.BadOperand digits count is = is
-is_found-operand shape row (operand.CentralOperand instruction) digits count is = is
-is_found-operand shape row (operand.WordsOperand data') digits count is = is
-is_found-operand shape row (operand.BitsOperand fields) digits count is = is
-is_found-operand shape row (operand.TextOperand n text) digits count is = is
-is_found-operand shape row (operand.ValueOperand e) digits count is = is
-is_found-operand shape row (operand.NamesOperand names) digits count is = is
-is_found-operand shape row (operand.UseName name) digits count is = is
-is_found-operand shape row operand.UseBefore digits count is = is
-is_found-operand shape row operand.UseRefused digits count is = is
+is_found-operand shape row other digits count is = is
 
 -- the row that was found, and a field of its form
 pub is_found : (operation : List ℕ) (code : Code) (shape : Shape) (base : NumberBase) (subfields : List (List Piece)) (row : Option PeripheralRow) →

@@ -10,9 +10,7 @@
 mod code;
 mod shapes;
 mod table;
-mod table_law;
 
 pub use code::{Code, Form};
 pub use shapes::{find, ignoring};
 pub use table::{is_peripheral, row_of};
-pub use table_law::the_table_is_the_definitions;

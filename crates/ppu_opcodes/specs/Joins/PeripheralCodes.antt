@@ -1,5 +1,5 @@
 -- The forms and codes of peripheral instructions as the definitions have them (6600 reference 60100000, peripheral instructions).
-use Rattle.std.specs.Prelude.{ℕ, List, [], Option, option_map}
+use Rattle.std.specs.Prelude.{ℕ, List, Option, option_map}
 use Rattle.definitions.specs.PeripheralTable as table
 use Rattle.definitions.specs.PeripheralTable.{PeripheralForm, PeripheralRow}
 use Rattle.ppu_opcodes.specs.{declared.code.Code.Code, declared.code.Form.Form, declared.code.Form.TheVariants.{Ignored, Short, ShortJump, Shift, Wide, Long}}
@@ -20,8 +20,3 @@ row_as operation code = record { operation = operation; code = code.digits; form
 -- the row of an operation with the code that was found, if one was
 abbrev pub found_row : List ℕ → Option Code → Option PeripheralRow
 found_row operation code = option_map (row_as operation) code
-
--- which of the values are read
-abbrev pub values_read : {A : Type 0} → PeripheralForm → List A → List A
-values_read table.Ignored values = []
-values_read form values = values

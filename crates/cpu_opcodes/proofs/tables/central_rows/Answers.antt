@@ -1,5 +1,5 @@
 use Rattle.std.{proofs.Common.{map, ap, refl, sym, ◌∙◌}, specs.List.list_all}
-use Rattle.cpu_opcodes.{specs.Joins.CentralTables.operand_row, specs.Joins.LawfulCodes.has_lawful_code, specs.declared.operand_table.TheConstants.OPERAND_ROWS, proofs.CentralLaws.{operand_rows-named, all-named}, proofs.FirstLetterLaws.no_other}
+use Rattle.cpu_opcodes.{specs.Joins.CentralTables.operand_row, specs.Joins.LawfulCodes.has_lawful_code, specs.declared.operand_table.TheConstants.OPERAND_ROWS, proofs.CentralLaws.{operand_rows-named, all-named, no_other}}
 use Rattle.cpu_opcodes.proofs.tables.central_rows.Goals as goal
 
 pub returns-else-begins_sum-clause-rows : goal.returns-else-begins_sum-clause-rows

@@ -1,5 +1,5 @@
 use Rattle.std.{proofs.Common.{map, ap, refl, sym, ◌∙◌}, specs.List.list_all}
-use Rattle.cpu_opcodes.{specs.Joins.CentralTables.sum_row, specs.Joins.LawfulCodes.has_lawful_codes, specs.declared.sum_table.TheConstants.SUM_ROWS, proofs.CentralLaws.{sum_rows-named, all-named}, proofs.FirstLetterLaws.no_sum}
+use Rattle.cpu_opcodes.{specs.Joins.CentralTables.sum_row, specs.Joins.LawfulCodes.has_lawful_codes, specs.declared.sum_table.TheConstants.SUM_ROWS, proofs.CentralLaws.{sum_rows-named, all-named, no_sum}}
 use Rattle.cpu_opcodes.proofs.tables.sum_rows.Goals as goal
 
 pub returns-then-begins_sum-clause-rows : goal.returns-then-begins_sum-clause-rows
