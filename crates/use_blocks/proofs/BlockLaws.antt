@@ -1,20 +1,7 @@
 -- Blocks known by their names and by their indexes.
-use Rattle.std.{proofs.Common.{◌≡◌, ◌∙◌, ℕ, zero, suc, ◌+◌, ◌<◌, Bool, true, false, not, ◌||◌, List, [], ◌∷◌, ◌++◌, length, refl, ap, ap₂, arith, inl, inr, set}, specs.Prelude.{map, unwrap_or, if◌then◌else◌}, specs.List.prefix_len, proofs.Math.ListN.get_or-map, proofs.lemmas.List.length-map, proofs.lemmas.List.Folds.list_any-append, proofs.lemmas.List.Sums.prefix_len_stops}
+use Rattle.std.{proofs.Common.{◌≡◌, ◌∙◌, ℕ, zero, suc, ◌+◌, ◌<◌, Bool, true, false, not, ◌||◌, List, [], ◌∷◌, ◌++◌, length, refl, ap, ap₂, arith, inl, inr, set}, specs.Prelude.{map, unwrap_or, if◌then◌else◌}, specs.List.prefix_len, proofs.lemmas.Bool.{or_parts, or_right}, proofs.Math.ListN.get_or-map, proofs.lemmas.List.length-map, proofs.lemmas.List.Folds.list_any-append, proofs.lemmas.List.Sums.prefix_len_stops}
 use Rattle.definitions.{specs.Characters.same_text, specs.Blocks.{nominal, is_named}, specs.Laws.States.{UsedBlock, Effect, fresh_block, block_named, counting_behind, block_behind, names_of_blocks}, proofs.TextLaws.{same_text-refl, same_text-true, same_text_tells}}
-use Rattle.use_blocks.specs.Joins.StateInside.{block_at, name_at, AreDistinct, is_other}
-
--- one of two tests that is not true
-front_false : (b c : Bool) → (b || c) ≡ false → b ≡ false
-front_false true c e = cc
-front_false false c e = refl
-
-behind_false : (b c : Bool) → (b || c) ≡ false → c ≡ false
-behind_false true c e = cc
-behind_false false c e = e
-
-either_true : (b c : Bool) → c ≡ true → (b || c) ≡ true
-either_true true c e = refl
-either_true false c e = e
+use Rattle.use_blocks.specs.Joins.{NameKeys.same_text_equivalence, StateInside.{block_at, name_at, AreDistinct, is_other}}
 
 -- the name at an index is that of the block there
 pub name_at-block : (blocks : List UsedBlock) (at : ℕ) → name_at (names_of_blocks blocks) at ≡ (block_at blocks at).name
@@ -24,7 +11,7 @@ name_at-block blocks at = get_or-map (λ (block : UsedBlock). block.name) blocks
 pub is_named-at : (names : List (List ℕ)) (at : ℕ) → at < length names → is_named (name_at names at) names ≡ true
 is_named-at [] at h = absurd (omega arith)
 is_named-at (name ∷ names) zero h = ap (λ (b : Bool). b || is_named name names) (same_text-refl name)
-is_named-at (name ∷ names) (suc at) h = either_true (same_text (name_at names at) name) (is_named (name_at names at) names) (is_named-at names at (omega arith))
+is_named-at (name ∷ names) (suc at) h = or_right (same_text (name_at names at) name) (is_named (name_at names at) names) (is_named-at names at (omega arith))
 
 -- a name that is not among others is none of them
 pub is_named-other : (name : List ℕ) (names : List (List ℕ)) (at : ℕ) → at < length names → is_named name names ≡ false → same_text (name_at names at) name ≡ false
@@ -65,9 +52,8 @@ block_named-at (block ∷ blocks) (suc at) d h =
 behind-others : (name : List ℕ) (effect : Effect) (blocks : List UsedBlock) → is_named name (names_of_blocks blocks) ≡ false → map (block_behind name effect) blocks ≡ blocks
 behind-others name effect [] e = refl
 behind-others name effect (block ∷ blocks) e =
-    let here = front_false (same_text name block.name) (is_named name (names_of_blocks blocks)) e in
-    let there = behind-others name effect blocks (behind_false (same_text name block.name) (is_named name (names_of_blocks blocks)) e) in
-    rw here (ap (λ (l : List UsedBlock). block ∷ l) there)
+    let parts = or_parts (same_text name block.name) (is_named name (names_of_blocks blocks)) e in
+    rw parts.0 (ap (λ (l : List UsedBlock). block ∷ l) (behind-others name effect blocks parts.1))
 
 -- an effect on a block changes the block at its index alone
 pub behind-at : (effect : Effect) (blocks : List UsedBlock) (at : ℕ) → AreDistinct (names_of_blocks blocks) → at < length blocks →
@@ -108,21 +94,12 @@ found-none name (block ∷ blocks) e = front (found-none name blocks) (same_text
     front rest true k = absurd (omega arith)
     front rest false k = rest (omega arith)
 
--- names that differ do so both ways
-same_text-apart : (a b : List ℕ) → same_text a b ≡ false → same_text b a ≡ false
-same_text-apart a b e =
-    elim (same_text_tells b a) [
-      | inl same ↦ let here : same_text a b ≡ true = rw same.1 (same_text-refl a) in absurd (cc (here, e))
-      | inr other ↦ other.0
-    ]
-
 -- a new name behind distinct ones
 pub distinct-pushed : (names : List (List ℕ)) (name : List ℕ) → AreDistinct names → is_named name names ≡ false → AreDistinct (names ++ name ∷ [])
 distinct-pushed [] name d e = (refl, tt)
-distinct-pushed (first ∷ names) name d e = (
-  list_any-append (λ (other : List ℕ). same_text first other) names (name ∷ []) ∙ ap₂ (λ (a b : Bool). a || (b || false)) d.0 (same_text-apart name first (front_false (same_text name first) (is_named name names) e)),
-  distinct-pushed names name d.1 (behind_false (same_text name first) (is_named name names) e),
-)
+distinct-pushed (first ∷ names) name d e =
+    let parts = or_parts (same_text name first) (is_named name names) e in
+    (list_any-append (λ (other : List ℕ). same_text first other) names (name ∷ []) ∙ ap₂ (λ (a b : Bool). a || (b || false)) d.0 (same_text_equivalence.symm first name ∙ parts.0), distinct-pushed names name d.1 parts.1)
 
 -- a name that is among others is not one that is not
 pub is_named-apart : (name new : List ℕ) (names : List (List ℕ)) → is_named name names ≡ true → is_named new names ≡ false → same_text name new ≡ false

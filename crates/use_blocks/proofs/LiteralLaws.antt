@@ -1,16 +1,13 @@
 -- Where a word stands in the set of literals.
-use Rattle.std.{proofs.Common.{ℕ, suc, ◌≡◌, ◌+◌, ◌≤◌, Bool, true, false, cond, List, [], ◌∷◌, length, position, nat_lt, Some, None, refl, sym, ◌∙◌, ap, arith, ◌⊎◌, inl, inr}, specs.Prelude.{◌==◌, nat_eq, if◌then◌else◌}, specs.List.position_or_len, proofs.lemmas.Bool.lt-ltb, proofs.lemmas.Bool.Decides.{eqb_tells, leb_tells}, proofs.lemmas.List.Recursion.is_position_or_len}
+use Rattle.std.{proofs.Common.{ℕ, suc, ◌≡◌, ◌+◌, ◌≤◌, Bool, true, false, cond, List, [], ◌∷◌, length, position, nat_lt, Some, None, refl, sym, ◌∙◌, ap, arith, inl, inr}, specs.Prelude.{◌==◌, nat_eq, if◌then◌else◌}, specs.List.position_or_len, proofs.lemmas.Bool.{lt-ltb, eq-eqb, ne_eqb}, proofs.lemmas.Bool.Decides.{eqb_tells, leb_tells}, proofs.lemmas.List.Recursion.is_position_or_len}
 use Rattle.definitions.specs.Literals.{offset_of}
 
 -- which of two numbers stands first makes no difference
 swapped : (a b : ℕ) → nat_eq a b ≡ (b == a)
-swapped a b = by (eqb_tells a b) (eqb_tells b a)
-  where
-    by : ((nat_eq a b ≡ true) × (a ≡ b)) ⊎ ((nat_eq a b ≡ false) × ((a ≡ b) → ⊥)) → (((b == a) ≡ true) × (b ≡ a)) ⊎ (((b == a) ≡ false) × ((b ≡ a) → ⊥)) → nat_eq a b ≡ (b == a)
-    by (inl h) (inl k) = h.0 ∙ sym k.0
-    by (inl h) (inr k) = absurd (k.1 (sym h.1))
-    by (inr h) (inl k) = absurd (h.1 (sym k.1))
-    by (inr h) (inr k) = h.0 ∙ sym k.0
+swapped a b = elim (eqb_tells b a) [
+  | inl h ↦ eq-eqb a b (sym h.1) ∙ sym h.0
+  | inr h ↦ ne_eqb a b (λ e. h.1 (sym e)) ∙ sym h.0
+]
 
 -- the offset is the first place of the word
 offset-first : (word : ℕ) (words : List ℕ) → offset_of word words ≡ position_or_len (nat_eq word) words
@@ -34,17 +31,12 @@ offset-Some word k words e = by (nat_lt (position_or_len (nat_eq word) words) (l
 
 -- a word that is not there
 pub offset-None : (word : ℕ) (words : List ℕ) → position (nat_eq word) words ≡ None → length words ≡ offset_of word words
-offset-None word words e = by (nat_lt (position_or_len (nat_eq word) words) (length words)) refl e
-  where
-    by : (b : Bool) → nat_lt (position_or_len (nat_eq word) words) (length words) ≡ b → cond b (Some (position_or_len (nat_eq word) words)) None ≡ None → length words ≡ offset_of word words
-    by true h none = cc
-    by false h none =
-        let first = offset-first word words in
-        let within = offset-within word words in
-        elim (leb_tells (length words) (position_or_len (nat_eq word) words)) [
-          | inl k ↦ let behind : length words ≤ position_or_len (nat_eq word) words = k.1 in omega (arith, first, within, behind)
-          | inr k ↦ absurd (absurd_test (sym (lt-ltb (position_or_len (nat_eq word) words) (length words) k.1) ∙ h))
-        ]
-      where
-        absurd_test : true ≡ false → ⊥
-        absurd_test e = cc
+offset-None word words e =
+    let place = position_or_len (nat_eq word) words in
+    let none : cond (nat_lt place (length words)) (Some place) None ≡ None = e in
+    let first = offset-first word words in
+    let within = offset-within word words in
+    elim (leb_tells (length words) place) [
+      | inl k ↦ let behind : length words ≤ place = k.1 in omega (arith, first, within, behind)
+      | inr k ↦ absurd (let some : Some place ≡ None = rw (lt-ltb place (length words) k.1) at none in cc)
+    ]

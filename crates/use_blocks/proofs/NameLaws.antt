@@ -1,7 +1,7 @@
 -- Blocks and lengths that have the same names, in the same order.
 use Rattle.std.{proofs.Common.{◌≡◌, ◌∙◌, ℕ, zero, suc, ◌<◌, Bool, true, false, List, [], ◌∷◌, ◌++◌, Some, length, refl, sym, ap, arith}, specs.Prelude.{slice_get, map, if◌then◌else◌}, proofs.lemmas.List.{length-map, map-append}, proofs.lemmas.Option.slice_get-get_or}
 use Rattle.definitions.specs.{Blocks.{nominal, block_in_use, is_named}, Lengths.BlockLength, Settled.{BlockChange, NoChange, Opens, Closes}, Laws.States.{UsedBlock, Effect, fresh_block, block_behind, blocks_behind, names_of_blocks, length_behind, lengths_behind, lengths_advanced}}
-use Rattle.use_blocks.{specs.Joins.BlockLengths.block_names, specs.Joins.StateInside.{opened_names, latest, IsState}, proofs.BlockLaws.names-behind, proofs.StackLaws.{below-latest, in_use-latest}}
+use Rattle.use_blocks.{specs.Joins.BlockLengths.block_names, specs.Joins.StateInside.{opened_names, latest, IsState}, proofs.BlockLaws.names-behind, proofs.StackLaws.{below-latest, in_use-latest}, proofs.ReachLaws.names-reaching}
 
 -- the name in use stands at the latest index
 pub in_use-at : (blocks : List UsedBlock) (stack : List ℕ) → IsState blocks stack →
@@ -17,11 +17,6 @@ pub length-at : (blocks : List BlockLength) (i : ℕ) (name : List ℕ) → slic
 length-at [] i name e = absurd (cc)
 length-at (c ∷ cs) zero name e = (c, refl, cc)
 length-at (c ∷ cs) (suc i) name e = length-at cs i name e
-
--- an effect on lengths keeps the names
-names-length_behind : (name : List ℕ) (effect : Effect) (blocks : List BlockLength) → block_names (map (length_behind name effect) blocks) ≡ block_names blocks
-names-length_behind name effect [] = refl
-names-length_behind name effect (c ∷ cs) = ap (λ (names : List (List ℕ)). c.name ∷ names) (names-length_behind name effect cs)
 
 -- a change makes the same of the names of lengths and of blocks
 names-changed : (change : BlockChange) (lengths : List BlockLength) (blocks : List UsedBlock) → block_names lengths ≡ names_of_blocks blocks →
@@ -44,4 +39,4 @@ pub names-advanced : (name : List ℕ) (effect : Effect) (lengths : List BlockLe
     block_names (lengths_advanced name effect lengths) ≡ names_of_blocks (blocks_behind effect.change (map (block_behind name effect) blocks))
 names-advanced name effect lengths blocks e =
     names-changed effect.change (map (length_behind name effect) lengths) (map (block_behind name effect) blocks)
-    (names-length_behind name effect lengths ∙ e ∙ sym (names-behind name effect blocks))
+    (names-reaching name effect.reached lengths ∙ e ∙ sym (names-behind name effect blocks))

@@ -1,29 +1,19 @@
 -- The lengths of blocks of different names: one block is changed, or one more comes behind them.
-use Rattle.std.{proofs.Common.{ℕ, ◌≡◌, ◌<◌, ◌≤◌, Bool, true, false, cond, ◌||◌, List, [], ◌∷◌, ◌++◌, length, zero, suc, max, Some, None, refl, sym, ◌∙◌, ap, ap₂, subst, inl, inr, arith}, proofs.lemmas.List.length-map, specs.Prelude.{slice_get, map, nat_lt, is_some, if◌then◌else◌}, specs.List.{AllByRecursion, IsDistinct}, specs.Map.{keys_of, lookup}, proofs.lemmas.Bool.leb-true, proofs.lemmas.Map.Keys.{IsDistinct-head, IsDistinct-tail}}
+use Rattle.std.{proofs.Common.{ℕ, ◌≡◌, ◌<◌, ◌≤◌, Bool, true, false, ◌||◌, List, [], ◌∷◌, ◌++◌, length, zero, suc, max, Some, None, refl, sym, ◌∙◌, ap, ap₂, subst, arith}, proofs.lemmas.List.{length-map, map-append}, specs.Prelude.{slice_get, map, nat_lt, is_some, if◌then◌else◌}, specs.List.{AllByRecursion, IsDistinct, list_any}, specs.Map.{keys_of, lookup}, proofs.lemmas.Bool.{leb-true, or_parts}, proofs.lemmas.Map.Keys.{IsDistinct-head, IsDistinct-tail}, proofs.lemmas.Map.Made.is_some-lookup}
 use Rattle.indexmap.specs.IndexMap.{insert_entry, set_value_at}
-use Rattle.definitions.{specs.Characters.same_text, specs.Blocks.{is_named, is_accepted}, specs.Settled.{BlockChange, NoChange, Opens, Closes}, specs.Lengths.BlockLength, specs.Laws.States.{Effect, lengths_behind, lengths_advanced}, proofs.TextLaws.same_text_tells}
-use Rattle.use_blocks.specs.Joins.BlockLengths.{block_names, has_name, lengths_shown, opened_by, reaching}
+use Rattle.definitions.{specs.Characters.same_text, specs.Blocks.{is_named, is_accepted}, specs.Settled.{BlockChange, NoChange, Opens, Closes}, specs.Lengths.BlockLength, specs.Laws.States.{Effect, lengths_behind, lengths_advanced}, proofs.TextLaws.same_text-refl}
+use Rattle.use_blocks.specs.Joins.{BlockLengths.{block_names, has_name, lengths_shown, opened_by, reaching}, NameKeys.same_text_equivalence}
 
 -- a block of this name, and so many words
 abbrev block_of : List ℕ → ℕ → BlockLength
 block_of name words = record { name = name; words = words }
 
-same_text-turned : (a b : List ℕ) → same_text a b ≡ same_text b a
-same_text-turned a b = elim (same_text_tells a b) [
-  | inl h ↦ elim (same_text_tells b a) [ inl k ↦ h.0 ∙ sym k.0 | inr k ↦ absurd (k.1 (sym h.1)) ]
-  | inr h ↦ elim (same_text_tells b a) [ inl k ↦ absurd (h.1 (sym k.1)) | inr k ↦ h.0 ∙ sym k.0 ]
-]
-
 -- a block among blocks that have not this name has another
 other_name : (name : List ℕ) (blocks : List BlockLength) (i : ℕ) (b : BlockLength) → is_named name (block_names blocks) ≡ false → slice_get blocks i ≡ Some b → same_text name b.name ≡ false
 other_name name [] i b h e = cc
-other_name name (c ∷ cs) i b h e = step (λ j k f. other_name name cs j b k f) (same_text name c.name) refl i h e
-  where
-    step : ((j : ℕ) → is_named name (block_names cs) ≡ false → slice_get cs j ≡ Some b → same_text name b.name ≡ false) →
-        (t : Bool) → same_text name c.name ≡ t → (i : ℕ) → (t || is_named name (block_names cs)) ≡ false → slice_get (c ∷ cs) i ≡ Some b → same_text name b.name ≡ false
-    step behind true is i h e = cc
-    step behind false is zero h e = cc
-    step behind false is (suc i) h e = behind i h e
+other_name name (c ∷ cs) zero b h e =
+    let is : c ≡ b = cc in subst (λ (d : BlockLength). same_text name d.name ≡ false) is (or_parts (same_text name c.name) (is_named name (block_names cs)) h).0
+other_name name (c ∷ cs) (suc i) b h e = other_name name cs i b (or_parts (same_text name c.name) (is_named name (block_names cs)) h).1 e
 
 -- a block of another name reaches nothing
 reaching-other : (name : List ℕ) (words : ℕ) (c : BlockLength) → same_text name c.name ≡ false → c ≡ reaching name words c
@@ -33,9 +23,6 @@ reaching-none : (name : List ℕ) (words : ℕ) (es : List (List ℕ × ℕ)) �
     lengths_shown es ≡ map (reaching name words) (lengths_shown es)
 reaching-none name words [] h = refl
 reaching-none name words (e ∷ es) h = ap₂ (λ (x : BlockLength) (xs : List BlockLength). x ∷ xs) (reaching-other name words (block_of e.0 e.1) h.0) (reaching-none name words es h.1)
-
-same-refl : (a : List ℕ) → same_text a a ≡ true
-same-refl a = elim (same_text_tells a a) [ inl k ↦ k.0 | inr k ↦ absurd (k.1 refl) ]
 
 -- a block among others whose keys are not this name has another
 other_key : (name : List ℕ) (es : List (List ℕ × ℕ)) (i : ℕ) (b : BlockLength) → AllByRecursion (λ (other : List ℕ). same_text name other ≡ false) (keys_of es) → slice_get (lengths_shown es) i ≡ Some b →
@@ -63,29 +50,25 @@ reached-at (c ∷ es) zero b words h e =
     (ap₂ (λ (x : BlockLength) (xs : List BlockLength). x ∷ xs) (here (block_of c.0 c.1)) (reaching-none c.0 words es (IsDistinct-head same_text c.0 (keys_of es) h)))
   where
     here : (d : BlockLength) → block_of d.name (max words d.words) ≡ reaching d.name words d
-    here d = rw (same-refl d.name) refl
+    here d = rw (same_text-refl d.name) refl
 reached-at (c ∷ es) (suc i) b words h e =
-    let other : same_text b.name c.0 ≡ false = same_text-turned b.name c.0 ∙ other_key c.0 es i b (IsDistinct-head same_text c.0 (keys_of es) h) e in
+    let other : same_text b.name c.0 ≡ false = same_text_equivalence.symm b.name c.0 ∙ other_key c.0 es i b (IsDistinct-head same_text c.0 (keys_of es) h) e in
     ap₂ (λ (x : BlockLength) (xs : List BlockLength). x ∷ xs) (reaching-other b.name words (block_of c.0 c.1) other) (reached-at es i b words (IsDistinct-tail same_text c.0 (keys_of es) h) e)
 
 -- a map has a name where a block has it
 pub has_name-shown : (name : List ℕ) (es : List (List ℕ × ℕ)) → is_some (lookup (same_text name) es) ≡ has_name name (lengths_shown es)
-has_name-shown name [] = refl
-has_name-shown name (e ∷ es) = step (same_text name e.0) (has_name-shown name es)
+has_name-shown name es = is_some-lookup (same_text name) es ∙ named es
   where
-    step : (t : Bool) → is_some (lookup (same_text name) es) ≡ has_name name (lengths_shown es) → is_some (cond t (Some e.1) (lookup (same_text name) es)) ≡ (t || has_name name (lengths_shown es))
-    step true h = refl
-    step false h = h
+    named : (es : List (List ℕ × ℕ)) → list_any (same_text name) (keys_of es) ≡ has_name name (lengths_shown es)
+    named [] = refl
+    named (e ∷ es) = ap (λ t. same_text name e.0 || t) (named es)
 
 -- a block of a new name comes behind the others
 pub shown-new : (name : List ℕ) (es : List (List ℕ × ℕ)) → has_name name (lengths_shown es) ≡ false → lengths_shown (insert_entry same_text es name 0) ≡ lengths_shown es ++ block_of name 0 ∷ []
 shown-new name [] h = refl
-shown-new name (e ∷ es) h = step (same_text name e.0) h (shown-new name es)
-  where
-    step : (t : Bool) → (t || has_name name (lengths_shown es)) ≡ false → (has_name name (lengths_shown es) ≡ false → lengths_shown (insert_entry same_text es name 0) ≡ lengths_shown es ++ block_of name 0 ∷ []) →
-        lengths_shown (if t then (e.0, 0) ∷ es else e ∷ insert_entry same_text es name 0) ≡ block_of e.0 e.1 ∷ (lengths_shown es ++ block_of name 0 ∷ [])
-    step true h rest = cc
-    step false h rest = ap (λ (bs : List BlockLength). block_of e.0 e.1 ∷ bs) (rest h)
+shown-new name (e ∷ es) h =
+    let parts = or_parts (same_text name e.0) (has_name name (lengths_shown es)) h in
+    rw parts.0 (ap (λ (bs : List BlockLength). block_of e.0 e.1 ∷ bs) (shown-new name es parts.1))
 
 -- the names that blocks have, asked block by block
 pub is_named_blocks : (name : List ℕ) (blocks : List BlockLength) → has_name name blocks ≡ is_named name (block_names blocks)
@@ -101,29 +84,26 @@ accepted-few name blocks a u =
     let same : few ≡ length blocks = length-map blocks (λ (block : BlockLength). block.name) in
     omega arith
 
+-- blocks that reach words keep their names
+pub names-reaching : (name : List ℕ) (words : ℕ) (blocks : List BlockLength) → block_names (map (reaching name words) blocks) ≡ block_names blocks
+names-reaching name words [] = refl
+names-reaching name words (c ∷ cs) = ap (λ names. c.name ∷ names) (names-reaching name words cs)
+
 -- where a block is opened before another reaches words
 pub opened-reached : (blocks : List BlockLength) (i : ℕ) (b : BlockLength) (name : List ℕ) (words : ℕ) → slice_get blocks i ≡ Some b →
     map (reaching b.name words) (lengths_behind (Opens name) blocks) ≡ lengths_behind (Opens name) (map (reaching b.name words) blocks)
 opened-reached blocks i b name words e =
     step (is_named name (block_names blocks)) refl
-    ∙ ap (λ names. if is_named name names then map (reaching b.name words) blocks else map (reaching b.name words) blocks ++ block_of name 0 ∷ []) (sym (names-reaching blocks))
+    ∙ ap (λ names. if is_named name names then map (reaching b.name words) blocks else map (reaching b.name words) blocks ++ block_of name 0 ∷ []) (sym (names-reaching b.name words blocks))
   where
-    names-reaching : (bs : List BlockLength) → block_names (map (reaching b.name words) bs) ≡ block_names bs
-    names-reaching [] = refl
-    names-reaching (c ∷ cs) = ap (λ names. c.name ∷ names) (names-reaching cs)
-
-    map-push : (xs : List BlockLength) (x : BlockLength) → map (reaching b.name words) (xs ++ x ∷ []) ≡ map (reaching b.name words) xs ++ reaching b.name words x ∷ []
-    map-push [] x = refl
-    map-push (y ∷ xs) x = ap (λ ys. reaching b.name words y ∷ ys) (map-push xs x)
-
     step : (t : Bool) → is_named name (block_names blocks) ≡ t →
         map (reaching b.name words) (if t then blocks else blocks ++ block_of name 0 ∷ [])
         ≡ (if t then map (reaching b.name words) blocks else map (reaching b.name words) blocks ++ block_of name 0 ∷ [])
     step true is = refl
     step false is =
-        map-push blocks (block_of name 0)
+        map-append (reaching b.name words) blocks (block_of name 0 ∷ [])
         ∙ ap (λ (block : BlockLength). map (reaching b.name words) blocks ++ block ∷ [])
-        (sym (reaching-other b.name words (block_of name 0) (same_text-turned b.name name ∙ other_name name blocks i b is e)))
+        (sym (reaching-other b.name words (block_of name 0) (same_text_equivalence.symm b.name name ∙ other_name name blocks i b is e)))
 
 -- a block stands where it stood when one more is opened
 pub opened-at : (blocks : List BlockLength) (i : ℕ) (b : BlockLength) (name : List ℕ) → slice_get blocks i ≡ Some b → slice_get (lengths_behind (Opens name) blocks) i ≡ Some b
@@ -161,8 +141,7 @@ advanced-unopened blocks name words effect r o = step effect.change refl o
   where
     step : (change : BlockChange) → effect.change ≡ change → opened_by change ≡ None → map (reaching name words) blocks ≡ lengths_advanced name effect blocks
     step (Opens other) is o = cc
-    step NoChange is o = ap (λ w. map (reaching name w) blocks) (sym r) ∙ ap (λ change. lengths_behind change (map (reaching name effect.reached) blocks)) (sym is)
-    step Closes is o = ap (λ w. map (reaching name w) blocks) (sym r) ∙ ap (λ change. lengths_behind change (map (reaching name effect.reached) blocks)) (sym is)
+    step change is o = ap (λ w. map (reaching name w) blocks) (sym r) ∙ ap (λ change. lengths_behind change (map (reaching name effect.reached) blocks)) (sym is)
 
 -- the blocks with one of a name that none of them has
 pub opened-new : (name : List ℕ) (blocks shown : List BlockLength) → blocks ≡ shown → has_name name blocks ≡ false → blocks ++ block_of name 0 ∷ [] ≡ lengths_behind (Opens name) shown

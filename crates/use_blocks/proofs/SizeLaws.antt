@@ -1,6 +1,6 @@
 -- How many blocks, literals and words a deck has at most.
-use Rattle.std.{proofs.Common.{ℕ, ◌≡◌, ◌+◌, ◌-◌, ◌*◌, ◌/◌, ◌<◌, ◌≤◌, ◌==◌, Bool, true, false, not, ◌&&◌, ◌||◌, List, [], ◌∷◌, ◌++◌, length, suc, max, Option, Some, None, Ok, Err, Result, refl, ap, subst, arith, length-append}, proofs.lemmas.List.length-map, proofs.lemmas.Bool.{leb-true, leb-false}, proofs.lemmas.List.Elements.All-from_recursion, specs.Prelude.{map, All, if◌then◌else◌, nat_lt, nat_le}, specs.List.{AllByRecursion, list_any}}
-use Rattle.definitions.specs.{Characters.same_text, Kinds.{units, most_words}, Forms.{Form, is_absolute}, Operations.{Operation, has_place}, Operands.{Operand, UseName, UseBefore}, Statements.Statement, Sizes.size_of, Settled.{ReadStatement, read_of, Settled, NoChange, Opens, Unchanged}, Blocks.{blocks_used, changes, with_opened, is_named, is_accepted, change_of}, EarlyValues.{Outcome, outcome_of, outcome_of_value, outcome_of_size, origin_outcome, origin_word, location_outcome, location_value, reserved_outcome, reserved, that_ends, in_words, stays_with, letter_of}, Settling.{Seen, seen_of, settle, settled_all, settled_with, is_run, Standing, standing_of}, Lengths.{BlockLength, block_rows, lengths_of, length_of, literals_row, reached, rows_from, local_words, placed_row, total_length}, Literals.{literal_words, with_literals, with_word, operand_literals, literal_word}, Expressions.Literal, declared.deck_kind.DeckKind.DeckKind, declared.deck_kind.DeckKind.TheVariants.{Rel, Abs, Periph}, declared.letter.Letter.Letter}
+use Rattle.std.{proofs.Common.{ℕ, ◌≡◌, ◌+◌, ◌-◌, ◌*◌, ◌/◌, ◌<◌, ◌≤◌, ◌==◌, Bool, true, false, not, ◌&&◌, ◌||◌, List, [], ◌∷◌, ◌++◌, length, suc, max, Option, Some, None, Ok, Err, Result, refl, ap, subst, arith, inl, inr, length-append}, proofs.lemmas.List.length-map, proofs.lemmas.Bool.{leb-true, leb-false}, proofs.lemmas.Bool.Decides.leb_tells, proofs.lemmas.List.Elements.All-from_recursion, specs.Prelude.{map, All, if◌then◌else◌, nat_lt, nat_le}, specs.List.{AllByRecursion, list_any}}
+use Rattle.definitions.specs.{Characters.same_text, Kinds.{units, most_words}, Forms.{Form, is_absolute}, Operations.{Operation, has_place}, Operands.{Operand, UseName}, Statements.Statement, Sizes.size_of, Settled.{ReadStatement, read_of, Settled, NoChange, Opens, Unchanged}, Blocks.{blocks_used, changes, with_opened, is_named, is_accepted, change_of}, EarlyValues.{Outcome, outcome_of, outcome_of_value, outcome_of_size, origin_outcome, origin_word, location_outcome, location_value, reserved_outcome, reserved, that_ends, in_words, letter_of}, Settling.{Seen, seen_of, settle, settled_all, settled_with, is_run, Standing, standing_of}, Lengths.{BlockLength, block_rows, lengths_of, length_of, literals_row, reached, rows_from, local_words, placed_row, total_length}, Literals.{literal_words, with_literals, with_word, operand_literals, literal_word}, Expressions.Literal, declared.deck_kind.DeckKind.DeckKind, declared.deck_kind.DeckKind.TheVariants.{Rel, Abs, Periph}, declared.letter.Letter.Letter}
 use Rattle.definitions.specs.Operations as op
 use Rattle.definitions.specs.declared.letter.Letter.TheVariants as letter
 
@@ -18,7 +18,6 @@ changed-few (UseName name) names few = step (is_accepted name names) refl
     step : (t : Bool) → is_accepted name names ≡ t → length (with_opened (if t then Opens name else NoChange) names) ≤ 64
     step true e = opened-few name names few e
     step false e = few
-changed-few UseBefore names few = few
 changed-few operand names few = few
 
 used-few : (kind : DeckKind) (statements : List Statement) → length (blocks_used (changes (settled_all kind statements))) ≤ 64
@@ -74,12 +73,10 @@ abbrev IsWithin : DeckKind → ℕ → Outcome → Type 0
 IsWithin kind place outcome = place < outcome.end → is_run outcome.setting ≡ false → outcome.end ≤ most_words kind * units kind
 
 size-within : (kind : DeckKind) (place size : ℕ) → IsWithin kind place (outcome_of_size kind place size)
-size-within kind place size = step (nat_le (place + size) (most_words kind * units kind)) refl
-  where
-    step : (t : Bool) → nat_le (place + size) (most_words kind * units kind) ≡ t →
-        IsWithin kind place (if t then record { end = place + size; setting = Unchanged; letters = [] } else stays_with place letter.A)
-    step true e = λ h r. leb-true (place + size) (most_words kind * units kind) e
-    step false e = λ h r. absurd (omega (arith, h))
+size-within kind place size = elim (leb_tells (place + size) (most_words kind * units kind)) [
+  | inl h ↦ rw h.0 (λ begins run. h.1)
+  | inr h ↦ rw h.0 (λ begins run. absurd (omega (arith, begins)))
+]
 
 origin-within : (kind : DeckKind) (place : ℕ) (word : Result ℕ Letter) → IsWithin kind place (origin_outcome kind place word)
 origin-within kind place (Err fault) = λ h r. absurd (omega (arith, h))

@@ -1,5 +1,5 @@
 -- The stack of open blocks, and what makes blocks and a stack those of a state.
-use Rattle.std.{proofs.Common.{ne_eqb, ◌==◌, ◌≡◌, ◌∙◌, ℕ, zero, suc, ◌+◌, ◌-◌, ◌<◌, ◌≤◌, Bool, true, false, ◌&&◌, List, [], ◌∷◌, ◌++◌, length, refl, sym, ap, ap₂, subst, arith, inl, inr, get_or, set, take, drop, length-append}, specs.Prelude.{map, nat_lt, unwrap_or, if◌then◌else◌}, specs.Bool.Decides, specs.List.prefix_len, proofs.Math.Seq.get_or-append_seam, proofs.lemmas.List.{get_or_append_left, length-map, map-append, take_more, take_all, get_or_default}, proofs.lemmas.List.Sums.prefix_len-le-length, proofs.lemmas.Bool.lt-ltb, proofs.lemmas.Bool.Decides.{leb_tells, Decides-eqb}}
+use Rattle.std.{proofs.Common.{ne_eqb, ◌==◌, ◌≡◌, ◌∙◌, ℕ, zero, suc, ◌+◌, ◌-◌, ◌<◌, ◌≤◌, Bool, true, false, ◌&&◌, List, [], ◌∷◌, ◌++◌, length, refl, sym, ap, ap₂, subst, arith, inl, inr, get_or, set, take, drop, length-append}, specs.Prelude.{map, nat_lt, unwrap_or, if◌then◌else◌}, specs.Bool.Decides, specs.List.prefix_len, proofs.Math.Seq.get_or-append_seam, proofs.lemmas.List.{same_from_push, append-nil, get_or_append_left, length-map, map-append, take_more, take_all, get_or_default}, proofs.lemmas.List.Sums.prefix_len-le-length, proofs.lemmas.Bool.lt-ltb, proofs.lemmas.Bool.Decides.{leb_tells, Decides-eqb}}
 use Rattle.definitions.specs.{Settled.{BlockChange, NoChange, Opens, Closes}, Blocks.{nominal, block_in_use, is_named, is_accepted}, Laws.States.{UsedBlock, BlockState, Effect, fresh_block, block_named, block_behind, blocks_behind, names_behind, names_of_blocks, advanced}, declared.number_base.NumberBase.NumberBase}
 use Rattle.use_blocks.{specs.Joins.Changes.{changed, written}, specs.Joins.StateInside.{block_at, name_at, opened_names, latest, AreDistinct, AreBelow, is_other, IsState}, proofs.BlockLaws.{is_named-at, found-name, found-none, name_at-block, name_at-once, block_named-at, is_named-apart, block_behind-apart, names-behind, behind-at, distinct-pushed}}
 
@@ -31,12 +31,6 @@ pub below-pushed : (count at : ℕ) (stack : List ℕ) → at < count → AreBel
 below-pushed count at [] h b = (h, tt)
 below-pushed count at (first ∷ stack) h b = (b.0, below-pushed count at stack h b.1)
 
-pub below-taken : (count n : ℕ) (stack : List ℕ) → AreBelow count stack → AreBelow count (take n stack)
-below-taken count zero [] b = tt
-below-taken count (suc n) [] b = tt
-below-taken count zero (first ∷ stack) b = tt
-below-taken count (suc n) (first ∷ stack) b = (b.0, below-taken count n stack b.1)
-
 below-at : (count k : ℕ) (stack : List ℕ) → k < length stack → AreBelow count stack → get_or stack k 0 < count
 below-at count k [] h b = absurd (omega arith)
 below-at count zero (at ∷ stack) h b = b.0
@@ -59,19 +53,6 @@ in_use-latest names (first ∷ stack) e =
     let front = take (length (first ∷ stack) - 1) (first ∷ stack) in
     ap (λ (l : List ℕ). block_in_use (opened_names names l)) (stack-latest (first ∷ stack) (omega arith)) ∙ ap block_in_use (opened-pushed names front (latest (first ∷ stack)))
 
--- lists with one more behind are the same where both parts are
-last-same : (names other : List (List ℕ)) (name last : List ℕ) → names ++ name ∷ [] ≡ other ++ last ∷ [] → (names ≡ other) × (name ≡ last)
-last-same [] [] name last e = (refl, cc)
-last-same [] (a ∷ []) name last e = absurd (cc)
-last-same [] (a ∷ (b ∷ other)) name last e = absurd (cc)
-last-same (a ∷ []) [] name last e = absurd (cc)
-last-same (a ∷ (b ∷ names)) [] name last e = absurd (cc)
-last-same (a ∷ names) (b ∷ other) name last e =
-    let rest : names ++ name ∷ [] ≡ other ++ last ∷ [] = cc in
-    let here : a ≡ b = cc in
-    let both = last-same names other name last rest in
-    (ap₂ (λ (x : List ℕ) (l : List (List ℕ)). x ∷ l) here both.0, both.1)
-
 -- a list with one more behind is not empty
 last-some : (names : List (List ℕ)) (name : List ℕ) → names ++ name ∷ [] ≡ [] → ⊥
 last-some [] name e = cc
@@ -83,7 +64,7 @@ opened-once names [] [] d b k e = refl
 opened-once names [] (at ∷ other) d b k e = absurd (last-some (opened_names names other) (name_at names at) (sym e))
 opened-once names (at ∷ stack) [] d b k e = absurd (last-some (opened_names names stack) (name_at names at) e)
 opened-once names (at ∷ stack) (last ∷ other) d b k e =
-    let both = last-same (opened_names names stack) (opened_names names other) (name_at names at) (name_at names last) e in
+    let both = same_from_push (opened_names names stack) (opened_names names other) (name_at names at) (name_at names last) e in
     let here : at ≡ last = name_at-once names at last d b.0 k.0 both.1 in
     let rest : stack ≡ other = opened-once names stack other d b.1 k.1 both.0 in
     cc
@@ -101,23 +82,13 @@ state-renamed blocks other stack e is =
     }
 
 -- a block that is used is opened
-pub state-pushed : (blocks : List UsedBlock) (stack : List ℕ) (at : ℕ) → IsState blocks stack → at < length blocks → IsState blocks (stack ++ at ∷ [])
+state-pushed : (blocks : List UsedBlock) (stack : List ℕ) (at : ℕ) → IsState blocks stack → at < length blocks → IsState blocks (stack ++ at ∷ [])
 state-pushed blocks stack at is h = record {
   nominal_first = is.nominal_first;
   some = is.some;
   few = is.few;
   distinct = is.distinct;
   indexes = below-pushed (length blocks) at stack h is.indexes;
-}
-
--- the latest one is closed
-pub state-popped : (blocks : List UsedBlock) (stack : List ℕ) (n : ℕ) → IsState blocks stack → IsState blocks (take n stack)
-state-popped blocks stack n is = record {
-  nominal_first = is.nominal_first;
-  some = is.some;
-  few = is.few;
-  distinct = is.distinct;
-  indexes = below-taken (length blocks) n stack is.indexes;
 }
 
 -- a block that is new comes behind the others
@@ -167,6 +138,11 @@ same-states result blocks first stack other base last neutral least is are b n t
       (subst (λ (k : ℕ). AreBelow k stack) (sym count) is.indexes) (subst (λ (k : ℕ). AreBelow k other) (sym count) here.indexes) names),
 )
 
+-- the name that is found at an index
+name-found : (name : List ℕ) (blocks : List UsedBlock) (at : ℕ) → at ≡ prefix_len (is_other name) blocks → at < length blocks → name ≡ name_at (names_of_blocks blocks) at
+name-found name blocks at e below =
+    found-name name blocks (omega arith) ∙ (sym (name_at-block blocks (prefix_len (is_other name) blocks)) ∙ ap (λ (n : ℕ). name_at (names_of_blocks blocks) n) (sym e))
+
 -- a name is accepted where its index is one of 64
 pub accepted-index : (name : List ℕ) (blocks : List UsedBlock) → length blocks ≤ 64 → is_accepted name (names_of_blocks blocks) ≡ nat_lt (prefix_len (is_other name) blocks) 64
 accepted-index name blocks few =
@@ -179,17 +155,10 @@ accepted-index name blocks few =
           rw (found-none name blocks all) (ap (λ (n : ℕ). nat_lt n 64) (count ∙ sym all))
       | inr h ↦
           let below : at < length blocks = omega (arith, h.1) in
-          let here : name ≡ name_at (names_of_blocks blocks) at = found-name name blocks below ∙ sym (name_at-block blocks at) in
+          let here = name-found name blocks at refl below in
           let there : is_named name (names_of_blocks blocks) ≡ true = rw here (is_named-at (names_of_blocks blocks) at (omega arith)) in
           rw there (sym (lt-ltb at 64 (omega arith)))
     ]
-
--- an index that a name has, or that of a new block
-pub opened-same : (name : List ℕ) (blocks : List UsedBlock) (stack : List ℕ) (at : ℕ) → IsState blocks stack → at ≡ prefix_len (is_other name) blocks → at < length blocks →
-    name ∷ opened_names (names_of_blocks blocks) stack ≡ opened_names (names_of_blocks blocks) (stack ++ at ∷ [])
-opened-same name blocks stack at is e below =
-    let here : name ≡ name_at (names_of_blocks blocks) at = found-name name blocks (omega arith) ∙ (sym (name_at-block blocks (prefix_len (is_other name) blocks)) ∙ ap (λ (n : ℕ). name_at (names_of_blocks blocks) n) (sym e)) in
-    ap (λ (n : List ℕ). n ∷ opened_names (names_of_blocks blocks) stack) here ∙ sym (opened-pushed (names_of_blocks blocks) stack at)
 
 -- what is behind a block that is opened
 abbrev pub blocks_opened : List ℕ → List UsedBlock → ℕ → List UsedBlock
@@ -229,9 +198,9 @@ opened-as name blocks stack at base neutral is e =
           rw ((Decides-eqb at (length blocks)).1 all, found-none name blocks (sym e ∙ all)) (ap (state_with (blocks ++ fresh_block name ∷ []) base neutral) names_open)
       | inr h ↦
           let below : at < length blocks = omega (arith, h.1) in
-          let here : name ≡ name_at names at = found-name name blocks (omega arith) ∙ (sym (name_at-block blocks (prefix_len (is_other name) blocks)) ∙ ap (λ (n : ℕ). name_at names n) (sym e)) in
+          let here = name-found name blocks at e below in
           let there : is_named name names ≡ true = ap (λ (n : List ℕ). is_named n names) here ∙ is_named-at names at (omega arith) in
-          rw (ne_eqb at (length blocks) (λ same. absurd (omega arith)), there) (ap (state_with blocks base neutral) (sym (opened-same name blocks stack at is e below)))
+          rw (ne_eqb at (length blocks) (λ same. absurd (omega arith)), there) (ap (state_with blocks base neutral) (opened-pushed names stack at ∙ ap (λ (n : List ℕ). n ∷ opened_names names stack) (sym here)))
     ]
   where
     state_with : List UsedBlock → NumberBase → Bool → List (List ℕ) → BlockState
@@ -242,25 +211,20 @@ pub closed-as : (blocks : List UsedBlock) (stack : List ℕ) (base : NumberBase)
     state_of blocks (take (length stack - 1) stack) base neutral ≡ changed Closes (state_of blocks stack base neutral)
 closed-as blocks stack base neutral = ap (λ (names : List (List ℕ)). let s : BlockState = record { open_names = names; blocks = blocks; number_base = base; neutral = neutral } in s) (opened-popped (names_of_blocks blocks) stack)
 
--- a block stays at its index
-pub block_at-kept : (change : BlockChange) (blocks : List UsedBlock) (at : ℕ) → at < length blocks → block_at (blocks_behind change blocks) at ≡ block_at blocks at
-block_at-kept NoChange blocks at h = refl
-block_at-kept Closes blocks at h = refl
-block_at-kept (Opens name) blocks at h = kept (is_named name (names_of_blocks blocks))
+-- a change adds blocks behind the others, or none
+blocks_more : (change : BlockChange) (blocks : List UsedBlock) → (more : List UsedBlock) × (blocks_behind change blocks ≡ blocks ++ more)
+blocks_more (Opens name) blocks = by (is_named name (names_of_blocks blocks))
   where
-    kept : (b : Bool) → block_at (if b then blocks else blocks ++ fresh_block name ∷ []) at ≡ block_at blocks at
-    kept true = refl
-    kept false = get_or_append_left blocks (fresh_block name ∷ []) (fresh_block nominal) at h
+    by : (b : Bool) → (more : List UsedBlock) × ((if b then blocks else blocks ++ fresh_block name ∷ []) ≡ blocks ++ more)
+    by true = ([], sym (append-nil blocks))
+    by false = (fresh_block name ∷ [], refl)
+blocks_more change blocks = ([], sym (append-nil blocks))
 
--- and the index stays one of theirs
-pub index-kept : (change : BlockChange) (blocks : List UsedBlock) (at : ℕ) → at < length blocks → at < length (blocks_behind change blocks)
-index-kept NoChange blocks at h = h
-index-kept Closes blocks at h = h
-index-kept (Opens name) blocks at h = kept (is_named name (names_of_blocks blocks))
-  where
-    kept : (b : Bool) → at < length (if b then blocks else blocks ++ fresh_block name ∷ [])
-    kept true = h
-    kept false = let e = length-append blocks (fresh_block name ∷ []) in omega arith
+-- so a block stays at its index
+pub block_at-kept : (change : BlockChange) (blocks : List UsedBlock) (at : ℕ) → at < length blocks → block_at (blocks_behind change blocks) at ≡ block_at blocks at
+block_at-kept change blocks at h =
+    let more = blocks_more change blocks in
+    ap (λ (l : List UsedBlock). block_at l at) more.1 ∙ get_or_append_left blocks more.0 (fresh_block nominal) at h
 
 -- an effect on a block that is used, before a change of the stack or behind it
 pub behind-changed : (change : BlockChange) (name : List ℕ) (effect : Effect) (blocks : List UsedBlock) → is_named name (names_of_blocks blocks) ≡ true →

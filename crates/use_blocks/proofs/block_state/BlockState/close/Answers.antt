@@ -1,9 +1,6 @@
 use Rattle.std.proofs.Common.{◌≡◌, ◌∙◌, ◌-◌, ℕ, List, length, take, ap}
-use Rattle.use_blocks.proofs.StackLaws.{state_of, closed-as, state-popped}
+use Rattle.use_blocks.proofs.StackLaws.{state_of, closed-as}
 use Rattle.use_blocks.proofs.block_state.BlockState.close.Goals as goal
-
-pub invariant_of-self : goal.invariant_of-self
-invariant_of-self c = rw c.pop.ensures.rest (state-popped c.self.inside.blocks.items c.self.inside.stack.items (c.self.inside.stack.len - 1) c.self.invariant)
 
 pub returns : goal.returns
 returns c =
