@@ -1,6 +1,6 @@
 -- The kind that is found statement by statement is the kind of the deck.
 use Rattle.std.{proofs.Common.{◌≡◌, List, [], ◌∷◌, ◌++◌, Bool, true, false, Option, Some, None, reverse, refl, sym, ap, ◌∙◌, append_assoc, append-nil}, specs.Prelude.if◌then◌else◌, proofs.lemmas.Grind.reverse_onto}
-use Rattle.definitions.specs.{Fields.Fields, Operations.{pseudo_instructions, pseudo_among, is_neutral}, DeckKinds.{kind_made, kind_of}, declared.deck_kind.DeckKind.DeckKind, declared.deck_kind.DeckKind.TheVariants.Rel}
+use Rattle.definitions.specs.{Fields.Fields, Operations.{pseudo_instructions, pseudo_among, is_neutral}, DeckKinds.{kind_made, kind_of}, declared.deck_kind.DeckKind.DeckKind}
 use Rattle.operations.specs.Joins.KindsFound.{or_kind, kind_found}
 
 -- the kind that is found, or else that of later statements
@@ -30,10 +30,6 @@ behind-found (fields ∷ earlier) later =
     ∙ behind-found earlier (fields ∷ later)
     ∙ behind-step (kind_found earlier) fields later
 
--- the kind is found
-pub kind_of-found : (earlier : List Fields) (kind : DeckKind) → Some kind ≡ kind_found earlier → kind ≡ kind_of (reverse earlier)
-kind_of-found earlier kind is = ap (λ f. behind f []) is ∙ sym (behind-found earlier []) ∙ ap kind_of (append-nil (reverse earlier))
-
--- no statement makes it
-pub kind_of-none : (earlier : List Fields) → None ≡ kind_found earlier → Rel ≡ kind_of (reverse earlier)
-kind_of-none earlier is = ap (λ f. behind f []) is ∙ sym (behind-found earlier []) ∙ ap kind_of (append-nil (reverse earlier))
+-- the kind of all statements
+pub kind_of-behind : (earlier : List Fields) (found : Option DeckKind) → found ≡ kind_found earlier → behind found [] ≡ kind_of (reverse earlier)
+kind_of-behind earlier found is = ap (λ f. behind f []) is ∙ sym (behind-found earlier []) ∙ ap kind_of (append-nil (reverse earlier))

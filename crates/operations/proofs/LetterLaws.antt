@@ -1,34 +1,23 @@
 -- The letters of two sets, and of one letter.
-use Rattle.std.{proofs.Common.{◌≡◌, ℕ, zero, suc, ◌<◌, ◌/◌, ◌%◌, ◌^◌, List, [], ◌∷◌, ◌++◌, Bool, true, false, ◌&&◌, ◌||◌, cond, eqb, filter, refl, sym, ap, ap₂, ◌∙◌, inl, inr, bit_or, arith}, specs.Prelude.codes, proofs.lemmas.Bool.Decides.eqb_tells, proofs.lemmas.List.Folds.list_any-append, proofs.lemmas.Map.Views.any-filter_same, proofs.lemmas.Nat.{or_shr, or_mod, mod_below}, proofs.lemmas.Grind.flat_map-append}
+use Rattle.std.{proofs.Common.{◌≡◌, ℕ, zero, suc, ◌<◌, ◌/◌, ◌%◌, ◌^◌, List, [], ◌∷◌, ◌++◌, Bool, true, ◌&&◌, ◌||◌, cond, eqb, filter, refl, sym, ap, ap₂, ◌∙◌, bit_or, arith}, specs.Prelude.codes, proofs.lemmas.Bool.{eqb-true, eq-eqb, or_left, or_right}, proofs.Math.Bool.and-true, proofs.lemmas.List.Folds.list_any-append, proofs.lemmas.Map.Views.any-filter_same, proofs.lemmas.Nat.{or_shr, or_mod, mod_below}, proofs.lemmas.Grind.flat_map-append}
 use Rattle.definitions.specs.{Characters.is_among, Letters.{letter_text, texts, in_order}, declared.letter.Letter.Letter}
 use Rattle.operations.specs.Joins.LetterBits.{is_flagged, flagged}
 
-or_true : (b : Bool) → (b || true) ≡ true
-or_true true = refl
-or_true false = refl
-
-and_true : (b : Bool) → (b && true) ≡ b
-and_true true = refl
-and_true false = refl
-
-is_same : (a b : ℕ) → eqb a b ≡ true → a ≡ b
-is_same a b h = elim (eqb_tells a b) [ inl k ↦ k.1 | inr k ↦ cc ]
-
 -- the first of a list is among it
 first_among : (c : ℕ) (cs : List ℕ) → is_among c (c ∷ cs) ≡ true
-first_among c cs = elim (eqb_tells c c) [ inl h ↦ ap (λ (t : Bool). t || is_among c cs) h.0 | inr h ↦ absurd (h.1 refl) ]
+first_among c cs = or_left (eqb c c) (is_among c cs) (eq-eqb c c refl)
 
 -- tests that agree on a list keep the same
 filter_same : (p q : ℕ → Bool) (cs : List ℕ) → ((c : ℕ) → is_among c cs ≡ true → p c ≡ q c) → filter p cs ≡ filter q cs
 filter_same p q [] same = refl
 filter_same p q (c ∷ cs) same =
     ap₂ (λ (t : Bool) (l : List ℕ). cond t (c ∷ l) l) (same c (first_among c cs))
-    (filter_same p q cs (λ d h. same d (ap (λ (t : Bool). eqb c d || t) h ∙ or_true (eqb c d))))
+    (filter_same p q cs (λ d h. same d (ap (λ (t : Bool). eqb c d || t) h ∙ or_right (eqb c d) true refl)))
 
 -- what is among a list is kept as its test says
 kept : (p : ℕ → Bool) (cs : List ℕ) (c : ℕ) → is_among c cs ≡ true → is_among c (filter p cs) ≡ p c
 kept p cs c there =
-    any-filter_same (λ k. eqb k c) p (p c) (λ k h. ap p (is_same k c h)) cs ∙ ap (λ (t : Bool). p c && t) there ∙ and_true (p c)
+    any-filter_same (λ k. eqb k c) p (p c) (λ k h. ap p (eqb-true k c h)) cs ∙ ap (λ (t : Bool). p c && t) there ∙ and-true (p c)
 
 -- tests that keep the same agree on the list
 kept_same : (p q : ℕ → Bool) (cs : List ℕ) → filter p cs ≡ filter q cs → (c : ℕ) → is_among c cs ≡ true → p c ≡ q c
@@ -40,9 +29,7 @@ or_bits zero zero small small' = refl
 or_bits zero (suc zero) small small' = refl
 or_bits (suc zero) zero small small' = refl
 or_bits (suc zero) (suc zero) small small' = refl
-or_bits (suc (suc a)) b small small' = absurd (omega arith)
-or_bits zero (suc (suc b)) small small' = absurd (omega arith)
-or_bits (suc zero) (suc (suc b)) small small' = absurd (omega arith)
+or_bits a b small small' = absurd (omega arith)
 
 is_flagged-or : (a b c : ℕ) → is_flagged (bit_or a b) c ≡ (is_flagged a c || is_flagged b c)
 is_flagged-or a b c =

@@ -1,16 +1,9 @@
 -- What a sorted table has of one name stands together, behind all that is less.
-use Rattle.std.{proofs.Common.{◌≡◌, ℕ, zero, suc, ◌+◌, ◌<◌, ◌≤◌, ◌⊎◌, Bool, true, false, List, [], ◌∷◌, length, take, drop, get_or, filter, ltb, leb, cond, refl, sym, ap, ◌∙◌, inl, inr, arith}, specs.List.{prefix_len, list_all}, proofs.lemmas.Bool.{leb-true, le-leb, ltb-true, ltb-false, lt-ltb, le-ltb, ne_eqb, both_ways, and_parts}, proofs.lemmas.Bool.Decides.eqb_tells, proofs.lemmas.List.take-take, proofs.lemmas.List.Folds.length-prefix_len, proofs.lemmas.List.Sums.prefix_len_passes}
+use Rattle.std.{proofs.Common.{◌≡◌, ℕ, zero, suc, ◌+◌, ◌<◌, ◌≤◌, ◌⊎◌, Bool, true, false, List, [], ◌∷◌, length, take, drop, get_or, filter, leb, cond, refl, sym, ap, ◌∙◌, inl, inr, arith}, specs.List.{prefix_len, list_all}, proofs.lemmas.Bool.{leb-true, le-leb, ltb-true, lt-ltb, le-ltb, ne_eqb, both_ways, and_parts}, proofs.lemmas.Bool.Decides.{eqb_tells, leb_tells}, proofs.lemmas.List.take-take, proofs.lemmas.List.Folds.length-prefix_len, proofs.lemmas.List.Sums.prefix_len_passes}
 use Rattle.operations.specs.{declared.row.Row.Row, Joins.SortedNames.{name_number, has_number, is_below, is_sorted_from, has_at_most}}
 
 abbrev pub number_in : {F : Type 0} → Row F → ℕ
 number_in row = name_number row.name
-
-ltb_by : (a b : ℕ) (less : Bool) → ltb a b ≡ less → ((ltb a b ≡ true) × (a < b)) ⊎ ((ltb a b ≡ false) × (b ≤ a))
-ltb_by a b true e = inl (e, ltb-true a b e)
-ltb_by a b false e = inr (e, ltb-false a b e)
-
-ltb_tells : (a b : ℕ) → ((ltb a b ≡ true) × (a < b)) ⊎ ((ltb a b ≡ false) × (b ≤ a))
-ltb_tells a b = ltb_by a b (ltb a b) refl
 
 -- the first row of a sorted table, and the others
 parts_of : {F : Type 0} (low : ℕ) (row : Row F) (rows : List (Row F)) → is_sorted_from low (row ∷ rows) ≡ true → (low ≤ number_in row) × (is_sorted_from (number_in row) rows ≡ true)
@@ -42,9 +35,9 @@ below_to x low (row ∷ rows) sorted (suc k) d within below =
 -- one that is not stands behind all that are
 pub above_from : {F : Type 0} (x : ℕ) (rows : List (Row F)) (k : ℕ) (d : Row F) → is_below x (get_or rows k d) ≡ false → prefix_len (is_below x) rows ≤ k
 above_from x rows k d above =
-    elim (ltb_tells k (prefix_len (is_below x) rows)) [
-      | inl h ↦ absurd (both_ways (is_below x (get_or rows k d)) above (prefix_len_passes (is_below x) rows k d h.1))
-      | inr h ↦ h.1
+    elim (leb_tells (prefix_len (is_below x) rows) k) [
+      | inl h ↦ h.1
+      | inr h ↦ absurd (both_ways (is_below x (get_or rows k d)) above (prefix_len_passes (is_below x) rows k d h.1))
     ]
 
 -- a part of a sorted table is sorted
@@ -102,12 +95,12 @@ filter-between x low [] sorted = refl
 filter-between x low (row ∷ rows) sorted =
     let parts = parts_of low row rows sorted in
     let rest = prefix_len (is_below x) rows in
-    elim (ltb_tells (number_in row) x) [
-      | inl h ↦
+    elim (leb_tells x (number_in row)) [
+      | inl h ↦ rw (le-ltb (number_in row) x h.1) (filter-from x (number_in row) (row ∷ rows) (rw (le-leb (number_in row) (number_in row) (omega arith)) parts.1) h.1)
+      | inr h ↦
           let less = h.1 in
           let more : 1 + rest ≡ suc rest = omega arith in
-          rw (h.0, more, ne_eqb (number_in row) x (λ same. omega arith)) (filter-between x (number_in row) rows parts.1)
-      | inr h ↦ rw h.0 (filter-from x (number_in row) (row ∷ rows) (rw (le-leb (number_in row) (number_in row) (omega arith)) parts.1) h.1)
+          rw (lt-ltb (number_in row) x h.1, more, ne_eqb (number_in row) x (λ same. omega arith)) (filter-between x (number_in row) rows parts.1)
     ]
 
 -- so many rows behind so many are those with a number, where these are all that are below it, and those all that are not above
