@@ -1,10 +1,7 @@
 -- A pattern of registers fits the text of pieces where it fits the text that they are the pieces of.
-use Rattle.std.{proofs.Common.{◌≡◌, ◌≤◌, ◌<◌, ℕ, ◌+◌, ◌-◌, Bool, true, false, not, cond, ◌&&◌, List, [], ◌∷◌, Option, Some, None, eqb, leb, refl, sym, ap, ◌∙◌, inl, inr, arith}, specs.Prelude.{suc, zero}, proofs.lemmas.Bool.{and_parts, eqb-true, leb-true}, proofs.lemmas.Bool.Decides.eqb_tells}
-use Rattle.definitions.specs.{CountedItems.{CountedSpan, counted_item_at}, Pieces.{Mark, Comma, Plus, Minus, Star, Slash, Equals, Spot, AtStart, AtEquals, Inside, Begun, ByMark, Piece, IsMark, IsCountedItem, Plain, mark_of, begun_by, begun_by_counted_item, spot_behind, left_of, onto_plain, onto_pieces, pieces_at, pieces_of}, Matching.{RegisterDigits, is_ijk, with_ijk, is_octal_digit, matched, plain_text}}
+use Rattle.std.{proofs.Common.{◌≡◌, ◌≤◌, ◌<◌, ℕ, ◌+◌, ◌-◌, Bool, true, false, not, cond, ◌&&◌, List, [], ◌∷◌, ◌++◌, Option, Some, None, eqb, leb, refl, sym, ap, ◌∙◌, inl, inr, arith}, specs.Prelude.{suc, zero}, proofs.lemmas.Bool.{and_parts, eqb-true, leb-true, true≢false}, proofs.lemmas.Bool.Decides.eqb_tells}
+use Rattle.definitions.specs.{CountedItems.{CountedSpan, counted_item_at}, Pieces.{Mark, Comma, Plus, Minus, Star, Slash, Equals, Spot, AtStart, AtEquals, Inside, Begun, ByMark, Piece, Plain, mark_of, begun_by, begun_by_counted_item, spot_behind, left_of, onto_plain, onto_pieces, pieces_at, pieces_of}, Matching.{RegisterDigits, is_ijk, with_ijk, is_octal_digit, matched, mark_text, plain_text}}
 use Rattle.cpu_opcodes.specs.Joins.PatternTexts.{all_digits, holds, shows_all, is_text_pattern}
-
-both_ways : true ≡ false → ⊥
-both_ways e = cc
 
 -- what holds with each digit
 pub digit_holds : (test : ℕ → Bool) (n c : ℕ) → all_digits test n ≡ true → 48 ≤ c → c < 48 + n → test c ≡ true
@@ -43,63 +40,37 @@ one_fits_none test p ps c cs ijk rest false letter all fails =
 
 -- so the pattern does not fit a text of which it does not hold
 pub fits_none : (test : List ℕ → Bool) (ps cs : List ℕ) (ijk : RegisterDigits) → holds test ps ≡ true → test cs ≡ false → matched ps cs ijk ≡ None
-fits_none test [] [] ijk all fails = absurd (both_ways (sym all ∙ fails))
+fits_none test [] [] ijk all fails = absurd (true≢false (sym all ∙ fails))
 fits_none test [] (c ∷ cs) ijk all fails = refl
 fits_none test (p ∷ ps) [] ijk all fails = refl
 fits_none test (p ∷ ps) (c ∷ cs) ijk all fails = one_fits_none test p ps c cs ijk (λ behind next. fits_none behind ps cs next) (is_ijk p) refl all fails
 
--- the character of a mark
-abbrev mark_character : Mark → ℕ
-mark_character Comma = 44
-mark_character Plus = 43
-mark_character Minus = 45
-mark_character Star = 42
-mark_character Slash = 47
-mark_character Equals = 61
-
--- the text of a mark and what is behind it
-plain_text-mark : (mark : Mark) (pieces : List Piece) → plain_text (IsMark mark ∷ pieces) ≡ mark_character mark ∷ plain_text pieces
-plain_text-mark Comma pieces = refl
-plain_text-mark Plus pieces = refl
-plain_text-mark Minus pieces = refl
-plain_text-mark Star pieces = refl
-plain_text-mark Slash pieces = refl
-plain_text-mark Equals pieces = refl
-
 -- the text of a character in front of pieces
-pub plain_text-onto_plain : (c : ℕ) (pieces : List Piece) → plain_text (onto_plain c pieces) ≡ c ∷ plain_text pieces
+plain_text-onto_plain : (c : ℕ) (pieces : List Piece) → plain_text (onto_plain c pieces) ≡ c ∷ plain_text pieces
 plain_text-onto_plain c [] = refl
 plain_text-onto_plain c (Plain text ∷ pieces) = refl
-plain_text-onto_plain c (IsMark mark ∷ pieces) = refl
-plain_text-onto_plain c (IsCountedItem item ∷ pieces) = refl
+plain_text-onto_plain c (piece ∷ pieces) = refl
 
-some_same : (a b : Mark) → Some a ≡ Some b → a ≡ b
-some_same a b e = cc
+same_character : (c n : ℕ) → eqb c n ≡ true → n ∷ [] ≡ c ∷ []
+same_character c n same = ap (λ k. k ∷ []) (sym (eqb-true c n same))
 
-by_mark : (m : Mark) (c : ℕ) (mark : Mark) → mark_of (mark_character m) ≡ Some m → c ≡ mark_character m → mark_of c ≡ Some mark → mark_character mark ≡ c
-by_mark m c mark is same e = ap mark_character (some_same mark m (sym e ∙ (ap mark_of same ∙ is))) ∙ sym same
+one_mark : (b : Bool) (m : Mark) (c : ℕ) (rest : Option Mark) (mark : Mark) → (b ≡ true → mark_text m ≡ c ∷ []) → (rest ≡ Some mark → mark_text mark ≡ c ∷ []) →
+    cond b (Some m) rest ≡ Some mark → mark_text mark ≡ c ∷ []
+one_mark true m c rest mark is behind e = let same : m ≡ mark = cc in ap mark_text (sym same) ∙ is refl
+one_mark false m c rest mark is behind e = behind e
 
 -- a mark is the one that its character is
-character_of_mark : (c : ℕ) (mark : Mark) → mark_of c ≡ Some mark → mark_character mark ≡ c
-character_of_mark c mark e =
-    elim (eqb_tells c 44) [
-      | inl h ↦ by_mark Comma c mark refl h.1 e
-      | inr comma ↦ elim (eqb_tells c 43) [
-        | inl h ↦ by_mark Plus c mark refl h.1 e
-        | inr plus ↦ elim (eqb_tells c 45) [
-          | inl h ↦ by_mark Minus c mark refl h.1 e
-          | inr minus ↦ elim (eqb_tells c 42) [
-            | inl h ↦ by_mark Star c mark refl h.1 e
-            | inr star ↦ elim (eqb_tells c 47) [
-              | inl h ↦ by_mark Slash c mark refl h.1 e
-              | inr slash ↦
-                  let none : mark_of c ≡ None = rw comma.0 (rw plus.0 (rw minus.0 (rw star.0 (rw slash.0 refl)))) in
-                  absurd (cc)
-            ]
-          ]
-        ]
-      ]
-    ]
+text_of_mark : (c : ℕ) (mark : Mark) → mark_of c ≡ Some mark → mark_text mark ≡ c ∷ []
+text_of_mark c mark e =
+    let slash = cond (eqb c 47) (Some Slash) None in
+    let star = cond (eqb c 42) (Some Star) slash in
+    let minus = cond (eqb c 45) (Some Minus) star in
+    let plus = cond (eqb c 43) (Some Plus) minus in
+    one_mark (eqb c 44) Comma c plus mark (same_character c 44)
+    (one_mark (eqb c 43) Plus c minus mark (same_character c 43)
+    (one_mark (eqb c 45) Minus c star mark (same_character c 45)
+    (one_mark (eqb c 42) Star c slash mark (same_character c 42)
+    (one_mark (eqb c 47) Slash c None mark (same_character c 47) (λ none. cc))))) e
 
 abbrev pieces_begun : Begun → List ℕ → List Piece
 pieces_begun begun cs = onto_pieces begun (pieces_at (spot_behind begun) (left_of begun) cs)
@@ -108,9 +79,7 @@ pieces_begun begun cs = onto_pieces begun (pieces_at (spot_behind begun) (left_o
 plain_text-begun : (c : ℕ) (cs : List ℕ) (o : Option Mark) → mark_of c ≡ o →
     plain_text (pieces_begun (begun_by c o) cs) ≡ c ∷ plain_text (pieces_at (spot_behind (begun_by c o)) 0 cs)
 plain_text-begun c cs None e = plain_text-onto_plain c (pieces_at Inside 0 cs)
-plain_text-begun c cs (Some mark) e =
-    plain_text-mark mark (pieces_at (spot_behind (ByMark mark)) 0 cs)
-    ∙ ap (λ d. d ∷ plain_text (pieces_at (spot_behind (ByMark mark)) 0 cs)) (character_of_mark c mark e)
+plain_text-begun c cs (Some mark) e = ap (λ text. text ++ plain_text (pieces_at (spot_behind (ByMark mark)) 0 cs)) (text_of_mark c mark e)
 
 -- where its pieces show all of a text, their text is the text
 abbrev IsShown : Begun → ℕ → List ℕ → Type 0
@@ -129,10 +98,10 @@ IsShownBehind cs = (spot : Spot) → shows_all (plain_text (pieces_at spot 0 cs)
 
 item_shown : (c : ℕ) (cs : List ℕ) (o : Option CountedSpan) → IsShownBehind cs → IsShown (begun_by_counted_item c o) c cs
 item_shown c cs None rest = character_shown c cs (mark_of c) refl (rest (spot_behind (begun_by c (mark_of c))))
-item_shown c cs (Some counted) rest = λ all. absurd (both_ways (sym all))
+item_shown c cs (Some counted) rest = λ all. absurd (true≢false (sym all))
 
 equals_shown : (c : ℕ) (cs : List ℕ) (o : Option CountedSpan) (b : Bool) → IsShownBehind cs → IsShown (cond b (ByMark Equals) (begun_by_counted_item c o)) c cs
-equals_shown c cs o true rest = λ all. absurd (both_ways (sym all))
+equals_shown c cs o true rest = λ all. absurd (true≢false (sym all))
 equals_shown c cs o false rest = item_shown c cs o rest
 
 text_shown : (text : List ℕ) → IsShownBehind text

@@ -1,12 +1,9 @@
 -- The rows of an operation give what the definitions' rows give.
-use Rattle.std.{proofs.Common.{◌≡◌, ℕ, Bool, true, false, cond, ◌&&◌, List, [], ◌∷◌, ◌++◌, Option, Some, None, map, filter, eqb, refl, sym, ap, ◌∙◌}, specs.Prelude.{option_map, option_and_then}, specs.List.{list_all, slice_split}, proofs.lemmas.Bool.{and_parts, eqb-true}}
+use Rattle.std.{proofs.Common.{◌≡◌, ℕ, Bool, true, false, cond, ◌&&◌, List, [], ◌∷◌, ◌++◌, Option, Some, None, map, filter, eqb, refl, sym, ap, ◌∙◌}, specs.Prelude.{option_map, option_and_then}, specs.List.{list_all, slice_split}, proofs.lemmas.Bool.{and_parts, eqb-true, true≢false}, proofs.lemmas.Simd.map-map}
 use Rattle.definitions.specs.{Pieces.Piece, CentralTable.SumRow, Matching.{RegisterDigits, no_ijk, matched, is_operation, NoField, Instruction, instruction_of, Sum, subfields_matched, with_field, sum_code, sum_instruction, row_fit, sum_fit, rows_for, sum_rows_for, first_fit}, declared.number_base.NumberBase.NumberBase}
 use Rattle.definitions.specs.CentralTable as table
 use Rattle.operations.specs.declared.row.Row.{Row}
 use Rattle.cpu_opcodes.{specs.declared.code.OperandForm.OperandForm, specs.declared.code.SumForm.SumForm, specs.Joins.CentralTables.{operand_row, sum_row, padded_row, padded_sum_row, operand_rows_of, sum_rows_of}, specs.Joins.Fits.{named_digits, row_fit_with, sum_fit_with}, specs.Joins.PatternTexts.holds, proofs.OperationLaws.no_operation}
-
-both_ways : true ≡ false → ⊥
-both_ways e = cc
 
 -- whether digits are these, if there are any
 abbrev has_digits : RegisterDigits → Option RegisterDigits → Bool
@@ -31,7 +28,7 @@ matched-named : (pattern operation : List ℕ) → holds (is_named pattern) patt
 matched-named pattern operation shaped same =
     elim (is_named pattern operation) as (λ b. is_named pattern operation ≡ b → matched pattern operation no_ijk ≡ Some (named_digits operation)) [
       | true ↦ digits-same (named_digits operation) (matched pattern operation no_ijk)
-      | false ↦ λ other. absurd (both_ways (sym same ∙ no_operation (is_named pattern) pattern operation shaped other))
+      | false ↦ λ other. absurd (true≢false (sym same ∙ no_operation (is_named pattern) pattern operation shaped other))
     ] refl
 
 kept_agree : {X Z : Type 0} (b : Bool) (f g : X → Z) (x : X) (rest : List X) → (b ≡ true → f x ≡ g x) → map f rest ≡ map g rest → map f (cond b (x ∷ rest) rest) ≡ map g (cond b (x ∷ rest) rest)
@@ -46,19 +43,15 @@ agree_on_kept s p f g (x ∷ xs) agree all =
     let parts = and_parts (s x) (list_all s xs) all in
     kept_agree (p x) f g x (filter p xs) (agree x parts.0) (agree_on_kept s p f g xs agree parts.1)
 
-map_twice : {X Y Z : Type 0} (f : Y → Z) (g : X → Y) (xs : List X) → map f (map g xs) ≡ map (λ x. f (g x)) xs
-map_twice f g [] = refl
-map_twice f g (x ∷ xs) = ap (λ l. f (g x) ∷ l) (map_twice f g xs)
-
 -- the rows of the code against the definitions' rows, which fit alike with and without the name's blank
 rows_agree : {X C Z : Type 0} (op_of : X → List ℕ) (padded : X → X) (f g : X → Z) (as_row : C → X) (xs : List X) (rows : List C) (operation : List ℕ) →
     map as_row rows ≡ map padded (filter (λ x. is_operation (op_of x) operation) xs) → ((x : X) → f (padded x) ≡ f x) →
     ((x : X) → holds (is_named (op_of x)) (op_of x) ≡ true → is_operation (op_of x) operation ≡ true → f x ≡ g x) → list_all (λ x. holds (is_named (op_of x)) (op_of x)) xs ≡ true →
     map (λ c. f (as_row c)) rows ≡ map g (filter (λ x. is_operation (op_of x) operation) xs)
 rows_agree op_of padded f g as_row xs rows operation same alike agree shaped =
-    sym (map_twice f as_row rows)
+    sym (map-map f as_row rows)
     ∙ ap (map f) same
-    ∙ map_twice f padded (filter (λ x. is_operation (op_of x) operation) xs)
+    ∙ map-map f padded (filter (λ x. is_operation (op_of x) operation) xs)
     ∙ agree_on_kept (λ x. holds (is_named (op_of x)) (op_of x)) (λ x. is_operation (op_of x) operation) (λ x. f (padded x)) g xs (λ x s o. alike x ∙ agree x s o) shaped
 
 abbrev pub no_fit : Option Instruction

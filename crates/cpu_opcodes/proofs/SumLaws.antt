@@ -24,20 +24,7 @@ too_long (p ∷ ps) (c ∷ cs) ijk longer =
 
 short_text : (pattern : SumPattern) → length (registers_text pattern) ≤ 6
 short_text registers.NoRegister = omega arith
-short_text registers.Bi = omega arith
-short_text registers.Aj = omega arith
-short_text registers.Bj = omega arith
-short_text registers.Xj = omega arith
-short_text registers.MinusBk = omega arith
-short_text registers.XjPlusBk = omega arith
-short_text registers.BkPlusXj = omega arith
-short_text registers.AjPlusBk = omega arith
-short_text registers.BkPlusAj = omega arith
-short_text registers.AjMinusBk = omega arith
-short_text registers.MinusBkPlusAj = omega arith
-short_text registers.BjPlusBk = omega arith
-short_text registers.BjMinusBk = omega arith
-short_text registers.MinusBkPlusBj = omega arith
+short_text pattern = omega arith
 
 -- registers of more than 6 characters fit no row
 pub too_many-fit : (pattern : SumPattern) (text : List ℕ) (ijk : RegisterDigits) → 6 < length text → None ≡ matched (registers_text pattern) text ijk

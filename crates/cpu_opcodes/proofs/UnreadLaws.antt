@@ -1,11 +1,8 @@
 -- Where a subfield spells no expression, or there are none or more than three, no row fits: a pattern of registers fits only what spells one.
-use Rattle.std.{proofs.Common.{◌≡◌, ◌≤◌, ℕ, Bool, true, false, ◌&&◌, ◌||◌, List, [], ◌∷◌, Option, Some, None, length, map, take, drop, filter, eqb, codes, refl, sym, ap, ◌∙◌, arith, length-drop}, specs.Prelude.{suc, zero, is_some, option_map}, specs.List.{list_all, list_any, slice_split}, proofs.lemmas.Bool.and_parts}
+use Rattle.std.{proofs.Common.{◌≡◌, ◌≤◌, ℕ, Bool, true, false, ◌&&◌, ◌||◌, List, [], ◌∷◌, Option, Some, None, length, map, take, drop, filter, eqb, codes, refl, sym, ap, ◌∙◌, arith, length-drop}, specs.Prelude.{suc, zero, is_some, option_map}, specs.List.{list_all, list_any, slice_split}, proofs.lemmas.Bool.{and_parts, true≢false}}
 use Rattle.definitions.specs.{Characters.same_text, Pieces.{AtStart, Piece, pieces_of, subfields_of}, Expressions.expression_of, CentralTable.{Row, central_rows, ignoring_rows, sum_rows}, Matching.{no_ijk, matched, is_operation, NoField, Match, with_field, subfield_matched, subfields_matched, instruction_of, ignoring_fit, row_fit, sum_fit, sum_read, single, sum_rows_for, rows_for, first_fit, central_of}, declared.number_base.NumberBase.NumberBase}
 use Rattle.expr_forms.{specs.Joins.Operands.{is_subfield, is_operand}, specs.Joins.Subfields.{subfield_len, text_behind, subfields_left}, proofs.SubfieldLaws.field-cut}
 use Rattle.cpu_opcodes.{specs.Joins.PatternTexts.{holds, is_text_pattern}, proofs.PatternTextLaws.{fits_none, matched-text}, proofs.CentralLaws.none-kept, proofs.RowLaws.{no_fit, agree_on_kept, first_fit-none, no_sum-fits}, proofs.SearchLaws.by_central}
-
-both_ways : true ≡ false → ⊥
-both_ways e = cc
 
 -- whether the pieces of a text spell an expression
 abbrev spells : NumberBase → List ℕ → Bool
@@ -17,7 +14,7 @@ is_part base part = same_text part (codes "K") || same_text part (codes "n") || 
 
 is_nothing : {X : Type 0} (o : Option X) → is_some o ≡ false → o ≡ None
 is_nothing None none = refl
-is_nothing (Some x) none = absurd (both_ways none)
+is_nothing (Some x) none = absurd (true≢false none)
 
 -- no part fits a text that spells none
 part_unread : (base : NumberBase) (pattern text : List ℕ) (so_far : Match) (a b : Bool) → same_text pattern (codes "K") ≡ a → same_text pattern (codes "n") ≡ b → (a || b || is_text_pattern pattern && holds (spells base) pattern) ≡ true →
@@ -73,7 +70,7 @@ row_unread base operation texts row lawful unread =
     let patterns = slice_split (λ c. eqb c 44) row.operand in
     let parts = and_parts (are_few patterns) (list_all (is_part base) patterns) lawful in
     ap (option_map (instruction_of row.code))
-    (parts_unread base true patterns texts (with_field NoField (matched row.operation operation no_ijk)) parts.1 (λ e. absurd (both_ways e)) (few_spell base patterns texts parts.0 unread))
+    (parts_unread base true patterns texts (with_field NoField (matched row.operation operation no_ijk)) parts.1 (λ e. absurd (true≢false e)) (few_spell base patterns texts parts.0 unread))
 
 -- nor is their one subfield a sum
 single_unread : (base : NumberBase) (subfields : List (List Piece)) → is_operand base subfields ≡ false → single base subfields ≡ None
