@@ -1,5 +1,5 @@
 -- Instructions that were found are those of the definitions.
-use Rattle.std.{proofs.Common.{◌≡◌, ℕ, Bool, true, false, not, cond, List, [], ◌∷◌, Option, Some, map, codes, drop, refl, sym, ap, ◌∙◌, subst}, specs.List.list_all, proofs.lemmas.Bool.{and_parts, not-true}}
+use Rattle.std.{proofs.Common.{◌≡◌, ℕ, true, false, not, cond, List, [], ◌∷◌, Option, Some, map, codes, drop, refl, sym, ap, ◌∙◌, subst}, specs.List.list_all, proofs.lemmas.Bool.{and_parts, not-true}}
 use Rattle.definitions.specs.{Characters.same_text, Pieces.Piece, PeripheralTable.{PeripheralRow, peripheral_row, peripheral_rows, row_among}, Operands.{plain_of, by_form, peripheral_operand}, declared.number_base.NumberBase.NumberBase}
 use Rattle.definitions.specs.Operands as operand
 use Rattle.expr_forms.specs.{declared.shapes.Shape.Shape, Joins.Shapes.HasForm}
@@ -21,16 +21,15 @@ is_found operation code shape base subfields row found digits count field =
     subst (λ r. IsFound shape (peripheral_operand base r subfields)) found
     (is_found-operand shape (row_as operation code) (by_form (row_as operation code) (form_as code.form) (map (plain_of false base) subfields)) digits count field)
 
-none_of_two : (b : Bool) (row : PeripheralRow) (other : Option PeripheralRow) → not (is_ignored row.form) ≡ true → is_ignoring other ≡ false → is_ignoring (cond b (Some row) other) ≡ false
-none_of_two true row other here there = not-true (is_ignored row.form) here
-none_of_two false row other here there = there
-
 -- where each row reads something, none is found that does not
 none_ignored : (operation : List ℕ) (rows : List PeripheralRow) → list_all (λ (row : PeripheralRow). not (is_ignored row.form)) rows ≡ true → is_ignoring (row_among operation rows) ≡ false
 none_ignored operation [] all = refl
 none_ignored operation (row ∷ rows) all =
     let parts = and_parts (not (is_ignored row.form)) (list_all (λ (row : PeripheralRow). not (is_ignored row.form)) rows) all in
-    none_of_two (same_text row.operation operation) row (row_among operation rows) parts.0 (none_ignored operation rows parts.1)
+    elim (same_text row.operation operation) as (λ b. is_ignoring (cond b (Some row) (row_among operation rows)) ≡ false) [
+      | true ↦ not-true (is_ignored row.form) parts.0
+      | false ↦ none_ignored operation rows parts.1
+    ]
 
 -- every operation but PSN, which is the first of the table, reads its operand
 pub reads-other : (operation : List ℕ) → same_text (codes "PSN") operation ≡ false → is_ignoring (peripheral_row operation) ≡ false
