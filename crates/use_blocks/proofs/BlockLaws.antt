@@ -1,5 +1,5 @@
 -- Blocks known by their names and by their indexes.
-use Rattle.std.{proofs.Common.{◌≡◌, ◌∙◌, ℕ, zero, suc, ◌+◌, ◌<◌, Bool, true, false, not, ◌||◌, List, [], ◌∷◌, ◌++◌, length, refl, ap, ap₂, arith, inl, inr, set}, specs.Prelude.{map, unwrap_or, if◌then◌else◌}, specs.List.prefix_len, proofs.lemmas.Bool.{or_parts, or_right}, proofs.Math.ListN.get_or-map, proofs.lemmas.List.length-map, proofs.lemmas.List.Folds.list_any-append, proofs.lemmas.List.Sums.prefix_len_stops}
+use Rattle.std.{proofs.Common.{◌≡◌, ◌∙◌, ℕ, zero, suc, ◌+◌, ◌<◌, Bool, true, false, not, ◌||◌, List, [], ◌∷◌, ◌++◌, length, refl, ap, ap₂, arith, inl, inr, set}, specs.Prelude.{map, unwrap_or, if◌then◌else◌}, specs.List.prefix_len, proofs.lemmas.Bool.{or_parts, or_right, not-false}, proofs.Math.ListN.get_or-map, proofs.lemmas.List.length-map, proofs.lemmas.List.Folds.list_any-append, proofs.lemmas.List.Sums.prefix_len_stops}
 use Rattle.definitions.{specs.Characters.same_text, specs.Blocks.{nominal, is_named}, specs.Laws.States.{UsedBlock, Effect, fresh_block, block_named, counting_behind, block_behind, names_of_blocks}, proofs.TextLaws.{same_text-refl, same_text-true, same_text_tells}}
 use Rattle.use_blocks.specs.Joins.{NameKeys.same_text_equivalence, StateInside.{block_at, name_at, AreDistinct, is_other}}
 
@@ -13,13 +13,17 @@ is_named-at [] at h = absurd (omega arith)
 is_named-at (name ∷ names) zero h = ap (λ (b : Bool). b || is_named name names) (same_text-refl name)
 is_named-at (name ∷ names) (suc at) h = or_right (same_text (name_at names at) name) (is_named (name_at names at) names) (is_named-at names at (omega arith))
 
--- a name that is not among others is none of them
-pub is_named-other : (name : List ℕ) (names : List (List ℕ)) (at : ℕ) → at < length names → is_named name names ≡ false → same_text (name_at names at) name ≡ false
-is_named-other name names at h e =
-    elim (same_text_tells (name_at names at) name) [
-      | inl same ↦ let there : is_named (name_at names at) names ≡ true = is_named-at names at h in absurd (cc (there, e, same.1))
+-- a name that is among others is not one that is not
+pub is_named-apart : (name new : List ℕ) (names : List (List ℕ)) → is_named name names ≡ true → is_named new names ≡ false → same_text name new ≡ false
+is_named-apart name new names h e =
+    elim (same_text_tells name new) [
+      | inl same ↦ absurd (cc (h, e, same.1))
       | inr other ↦ other.0
     ]
+
+-- a name that is not among others is none of them
+is_named-other : (name : List ℕ) (names : List (List ℕ)) (at : ℕ) → at < length names → is_named name names ≡ false → same_text (name_at names at) name ≡ false
+is_named-other name names at h e = is_named-apart (name_at names at) name names (is_named-at names at h) e
 
 -- distinct names stand at one index each
 pub name_at-once : (names : List (List ℕ)) (at other : ℕ) → AreDistinct names → at < length names → other < length names → name_at names at ≡ name_at names other → at ≡ other
@@ -66,11 +70,8 @@ behind-at effect (block ∷ blocks) (suc at) d h =
 
 -- a block keeps its name
 pub block_behind-name : (name : List ℕ) (effect : Effect) (block : UsedBlock) → (block_behind name effect block).name ≡ block.name
-block_behind-name name effect block = kept (same_text name block.name)
-  where
-    kept : (b : Bool) → (if b then record { name = block.name; position = unwrap_or effect.position block.position; counting = counting_behind effect.setting block.counting } else block).name ≡ block.name
-    kept true = refl
-    kept false = refl
+block_behind-name name effect block =
+    elim (same_text name block.name) as (λ b. (if b then record { name = block.name; position = unwrap_or effect.position block.position; counting = counting_behind effect.setting block.counting } else block).name ≡ block.name) [ true ↦ refl | false ↦ refl ]
 
 -- blocks keep their names
 pub names-behind : (name : List ℕ) (effect : Effect) (blocks : List UsedBlock) → names_of_blocks (map (block_behind name effect) blocks) ≡ names_of_blocks blocks
@@ -79,10 +80,9 @@ names-behind name effect (block ∷ blocks) = ap₂ (λ (n : List ℕ) (l : List
 
 -- the blocks of other names up to one: that has the name
 pub found-name : (name : List ℕ) (blocks : List UsedBlock) → prefix_len (is_other name) blocks < length blocks → name ≡ (block_at blocks (prefix_len (is_other name) blocks)).name
-found-name name blocks h = same_text-true name (block_at blocks (prefix_len (is_other name) blocks)).name (not_false (prefix_len_stops (is_other name) blocks (fresh_block nominal) h))
-  where
-    not_false : {b : Bool} → not b ≡ false → b ≡ true
-    not_false {b} e = elim b as (λ (x : Bool). not x ≡ false → x ≡ true) [ true ↦ λ k. refl | false ↦ λ k. cc ] e
+found-name name blocks h =
+    let at = prefix_len (is_other name) blocks in
+    same_text-true name (block_at blocks at).name (not-false (same_text name (block_at blocks at).name) (prefix_len_stops (is_other name) blocks (fresh_block nominal) h))
 
 -- all blocks have other names: then none has it
 pub found-none : (name : List ℕ) (blocks : List UsedBlock) → prefix_len (is_other name) blocks ≡ length blocks → is_named name (names_of_blocks blocks) ≡ false
@@ -100,14 +100,6 @@ distinct-pushed [] name d e = (refl, tt)
 distinct-pushed (first ∷ names) name d e =
     let parts = or_parts (same_text name first) (is_named name names) e in
     (list_any-append (λ (other : List ℕ). same_text first other) names (name ∷ []) ∙ ap₂ (λ (a b : Bool). a || (b || false)) d.0 (same_text_equivalence.symm first name ∙ parts.0), distinct-pushed names name d.1 parts.1)
-
--- a name that is among others is not one that is not
-pub is_named-apart : (name new : List ℕ) (names : List (List ℕ)) → is_named name names ≡ true → is_named new names ≡ false → same_text name new ≡ false
-is_named-apart name new names h e =
-    elim (same_text_tells name new) [
-      | inl same ↦ absurd (cc (h, e, same.1))
-      | inr other ↦ other.0
-    ]
 
 -- a block of another name stays as it is
 pub block_behind-apart : (name : List ℕ) (effect : Effect) (block : UsedBlock) → same_text name block.name ≡ false → block_behind name effect block ≡ block

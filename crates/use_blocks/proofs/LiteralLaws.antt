@@ -15,11 +15,9 @@ offset-first word words = is_position_or_len (offset_of word) (nat_eq word) refl
 
 offset-within : (word : ℕ) (words : List ℕ) → offset_of word words ≤ length words
 offset-within word [] = omega arith
-offset-within word (w ∷ words) = by (w == word) (offset-within word words)
-  where
-    by : (b : Bool) → offset_of word words ≤ length words → (if b then 0 else 1 + offset_of word words) ≤ suc (length words)
-    by true h = omega arith
-    by false h = omega (arith, h)
+offset-within word (w ∷ words) =
+    let rest = offset-within word words in
+    elim (w == word) as (λ b. (if b then 0 else 1 + offset_of word words) ≤ suc (length words)) [ true ↦ omega arith | false ↦ omega (arith, rest) ]
 
 -- the place of a word that is there
 pub offset-Some : (word k : ℕ) (words : List ℕ) → position (nat_eq word) words ≡ Some k → k ≡ offset_of word words

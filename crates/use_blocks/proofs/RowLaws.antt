@@ -100,11 +100,7 @@ base_under name entries = option_map_or (λ (row : BlockRow). row.base) (lookup 
 
 -- is the base among the rows
 pub base-found : (name : List ℕ) (entries : List KeyedRow) → AreKeyed entries → base_under name entries ≡ base_in name (values_of entries)
-base-found name [] keyed = by_test (same_text name literals_block) 0
-  where
-    by_test : (t : Bool) (none : ℕ) → (if t then none else none) ≡ none
-    by_test true none = refl
-    by_test false none = refl
+base-found name [] keyed = let zero_base : ℕ = 0 in elim (same_text name literals_block) as (λ t. (if t then zero_base else zero_base) ≡ zero_base) [ true ↦ refl | false ↦ refl ]
 base-found name (e ∷ es) keyed = step e.0 e.1 es keyed.0 (base-found name es keyed.1)
   where
     step : (key : Option (List ℕ)) (row : BlockRow) (behind : List KeyedRow) → IsKeyed key row behind → base_under name behind ≡ base_in name (values_of behind) →

@@ -6,11 +6,11 @@ use Rattle.definitions.specs.declared.letter.Letter.TheVariants as letter
 
 -- blocks: a change opens one where it is accepted
 opened-few : (name : List ℕ) (names : List (List ℕ)) → length names ≤ 64 → is_accepted name names ≡ true → length (with_opened (Opens name) names) ≤ 64
-opened-few name names few accepted = step (is_named name names) accepted
-  where
-    step : (t : Bool) → (t || nat_lt (length names) 64) ≡ true → length (if t then names else names ++ name ∷ []) ≤ 64
-    step true a = few
-    step false a = let below : suc (length names) ≤ 64 = leb-true (suc (length names)) 64 a in rw (length-append names (name ∷ [])) (omega arith)
+opened-few name names few accepted =
+    elim (is_named name names) as (λ t. (t || nat_lt (length names) 64) ≡ true → length (if t then names else names ++ name ∷ []) ≤ 64) [
+      | true ↦ λ a. few
+      | false ↦ λ a. let below : suc (length names) ≤ 64 = leb-true (suc (length names)) 64 a in rw (length-append names (name ∷ [])) (omega arith)
+    ] accepted
 
 changed-few : (operand : Operand) (names : List (List ℕ)) → length names ≤ 64 → length (with_opened (change_of operand names) names) ≤ 64
 changed-few (UseName name) names few = step (is_accepted name names) refl
@@ -156,11 +156,9 @@ length-bounded kind [] name = omega arith
 length-bounded kind (statement ∷ statements) name =
     let earlier = settled_all kind statements in
     let settled = settle kind earlier statement in
-    step (same_text settled.block name) (reached kind settled) (reached-bounded kind earlier statement) (length_of kind name earlier) (length-bounded kind statements name)
-  where
-    step : (t : Bool) (words : ℕ) → words ≤ most_words kind → (before : ℕ) → before ≤ most_words kind → max (if t then words else 0) before ≤ most_words kind
-    step true words h before k = omega arith
-    step false words h before k = omega arith
+    let here = reached-bounded kind earlier statement in
+    let before = length-bounded kind statements name in
+    elim (same_text settled.block name) as (λ t. max (if t then reached kind settled else 0) (length_of kind name earlier) ≤ most_words kind) [ true ↦ omega (arith, here, before) | false ↦ omega (arith, before) ]
 
 pub lengths-bounded : (kind : DeckKind) (statements : List Statement) → All (λ (block : BlockLength). block.words ≤ most_words kind) (lengths_of kind (settled_all kind statements))
 lengths-bounded kind statements =
