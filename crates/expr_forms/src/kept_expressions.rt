@@ -5,7 +5,7 @@ ghost use Rattle.expr_forms.specs.Joins.Kept.{kept_element_as};
 
 use crate::elements::{Element, Literal, Sign};
 use crate::expressions::Expr;
-use crate::kept_texts::KeptText;
+use crate::kept_texts::{KeptNumber, KeptText};
 use crate::links::{LoneRegisters, Operator};
 use crate::magnitude::Magnitude;
 use crate::names::Name;
@@ -15,15 +15,15 @@ use definitions::NumberBase;
 use std::marker::Model;
 
 /// The element that an expression begins with, where it has few bytes.
-#[derive(Clone, Copy)]
+#[derive(Drop)]
 pub(crate) enum KeptElement {
-    Number(u32),
+    Number(KeptNumber),
     Symbol(Name),
     Register(Register),
     LocationCounter,
     OriginCounter,
     /// A number behind an equals sign.
-    Literal(Sign, u32),
+    Literal(Sign, KeptNumber),
 }
 
 /// The number, where it has 32 bits.
@@ -33,7 +33,7 @@ fn kept_number(number: Number) -> Option<KeptElement>
 {
     match number {
         Number::Value(size) => match u32::try_from(size.value) {
-            Ok(value) => Some(KeptElement::Number(value)),
+            Ok(value) => Some(KeptElement::Number(KeptNumber::new(value))),
             Err(_) => None,
         },
         Number::TooGreat => None,
@@ -59,7 +59,7 @@ fn kept_literal(literal: Literal<'_>) -> Option<KeptElement>
 {
     match literal {
         Literal::Number(sign, Number::Value(size)) => match u32::try_from(size.value) {
-            Ok(value) => Some(KeptElement::Literal(sign, value)),
+            Ok(value) => Some(KeptElement::Literal(sign, KeptNumber::new(value))),
             Err(_) => None,
         },
         _ => None,
@@ -90,7 +90,7 @@ impl KeptElement {
     {
         match self {
             KeptElement::Number(value) => Element::Number(Number::Value(Magnitude {
-                value: u64::from(*value),
+                value: u64::from(value.get()),
             })),
             KeptElement::Symbol(name) => Element::Symbol(name.as_slice()),
             KeptElement::Register(register) => Element::Register(*register),
@@ -98,7 +98,7 @@ impl KeptElement {
             KeptElement::OriginCounter => Element::OriginCounter,
             KeptElement::Literal(sign, value) => {
                 let size = Magnitude {
-                    value: u64::from(*value),
+                    value: u64::from(value.get()),
                 };
                 Element::Literal(Literal::Number(*sign, Number::Value(size)))
             }
@@ -114,7 +114,7 @@ pub struct KeptExpr {
     operator: Operator,
     registers: LoneRegisters,
     first: KeptElement,
-    rest: KeptText,
+    rest: KeptText<10>,
 }
 
 impl Model for KeptExpr {

@@ -12,7 +12,7 @@ use std::marker::Model;
 /// The subfields of a short text. Contracts see the list of the pieces of each.
 #[derive(Drop)]
 struct KeptSubfields {
-    text: KeptText,
+    text: KeptText<28>,
 }
 
 impl Model for KeptSubfields {

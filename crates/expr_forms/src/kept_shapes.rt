@@ -21,7 +21,7 @@ pub enum KeptField {
 /// An instruction: its octal digits as a number, how many they are, and the field behind them.
 #[derive(Drop)]
 pub struct KeptShape {
-    pub digits: u32,
+    pub digits: u16,
     pub digit_count: u8,
     pub field: KeptField,
 }
@@ -71,9 +71,12 @@ impl Shape<'_> {
     pub fn kept(&self) -> Option<KeptShape>
         ensures { IfSome result (λ kept. shape_of kept ≡ self.now) }
     {
+        let Ok(digits) = u16::try_from(self.digits) else {
+            return None;
+        };
         let field = self.field.kept()?;
         Some(KeptShape {
-            digits: self.digits,
+            digits,
             digit_count: self.digit_count,
             field,
         })
@@ -87,7 +90,7 @@ impl KeptShape {
         ensures { result ≡ shape_of self.now }
     {
         Shape {
-            digits: self.digits,
+            digits: u32::from(self.digits),
             digit_count: self.digit_count,
             field: self.field.field(),
         }
