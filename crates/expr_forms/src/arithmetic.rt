@@ -14,6 +14,7 @@ use definitions::Letter;
 pub(crate) const GREATEST: u64 = (1 << 60) - 1;
 
 /// A number that a checked operation gave, where it is in range, else A.
+#[inline(always)]
 pub(crate) fn ranged(number: Option<i64>) -> Result<i64, Letter>
     ensures { (n : ℤ) → SomeIff number (FitsSigned w64 n) n → result ≡ ranged n }
 {

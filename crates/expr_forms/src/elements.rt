@@ -6,11 +6,12 @@ ghost use Rattle.definitions.specs.Expressions.{Operator, element_of_text, count
 ghost use Rattle.definitions.specs.Symbols.{number_read};
 ghost use Rattle.definitions.specs.declared.number_base.NumberBase.{NumberBase};
 ghost use Rattle.definitions.proofs.GrammarLaws.{pairs_from};
+ghost use Rattle.expr_forms.specs.Joins.Numbers.{AreDigits};
 ghost use Rattle.expr_forms.specs.Joins.PiecesFound.{mark_as};
 ghost use Rattle.expr_forms.specs.Joins.Elements.{sign_as, element_as, elements_found, ends_element, signed_literal};
 
-use crate::numbers::{Number, number_read};
-use crate::pieces::{Mark, Piece, piece_at_start, piece_behind_equals};
+use crate::numbers::{Number, digits_read, number_read};
+use crate::pieces::{Mark, Piece, digits_at_start, ends_run, piece_at_start, piece_behind_equals};
 use crate::register::Register;
 use crate::symbols::{is_symbol, register_of};
 use definitions::{ItemText, NumberBase};
@@ -202,10 +203,47 @@ fn run_found<'a>(base: NumberBase, run: &'a [u8], rest: &'a [u8]) -> Option<Elem
     Some(ElementFound { element, rest })
 }
 
+/// The number that digits are.
+#[inline(always)]
+fn element_of_digits<'a>(base: NumberBase, digits: &[u8]) -> Option<Element<'a>>
+    requires { AreDigits digits.now }
+    ensures { option_map element_as result ≡ element_of_text base digits.now }
+{
+    match digits_read(base, digits) {
+        Some(number) => Some(Element::Number(number)),
+        None => None,
+    }
+}
+
+/// The number that digits are, with the text behind them.
+#[inline(always)]
+fn digits_found<'a>(base: NumberBase, digits: &'a [u8], rest: &'a [u8]) -> Option<ElementFound<'a>>
+    requires { AreDigits digits.now }
+    ensures elements { (o : Operator) → elements_found base o result ≡ onto_pairs o (element_of_text base digits.now) (pairs_of base 0 (pieces_at Inside 0 rest.now)) }
+    ensures rest { IfSome result (λ found. found.rest.now ≡ rest.now) }
+{
+    let element = element_of_digits(base, digits)?;
+    Some(ElementFound { element, rest })
+}
+
 /// The element that begins a text at the start of a field or behind one of the five marks, if one
-/// does.
+/// does. Most are runs, and many of these digits alone.
 #[inline(always)]
 pub(crate) fn next_element(base: NumberBase, text: &[u8]) -> Option<ElementFound<'_>>
+    ensures elements { (o : Operator) → pairs_from base o (pieces_of text.now) ≡ elements_found base o result }
+    ensures shorter { IfSome result (λ found. length found.rest.now < length text.now) }
+{
+    if let Some(found) = digits_at_start(text) {
+        if ends_run(found.rest) {
+            return digits_found(base, found.digits, found.rest);
+        }
+    }
+    next_of_any(base, text)
+}
+
+/// The same, whatever begins the text.
+#[inline(always)]
+fn next_of_any(base: NumberBase, text: &[u8]) -> Option<ElementFound<'_>>
     ensures elements { (o : Operator) → pairs_from base o (pieces_of text.now) ≡ elements_found base o result }
     ensures shorter { IfSome result (λ found. length found.rest.now < length text.now) }
 {

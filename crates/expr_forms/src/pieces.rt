@@ -1,12 +1,13 @@
 //! The pieces of a variable field, one at a time: marks, counted items and runs of other characters
 //! (COMPASS 60492600, subfields and data items).
-ghost use Rattle.std.specs.Prelude.{◌≡◌, ◌≤◌, ◌<◌, length, slice_index, None, Some, option_map, is_none, IfSome};
+ghost use Rattle.std.specs.Prelude.{◌≡◌, ◌≤◌, ◌<◌, ◌∷◌, true, length, slice_index, None, Some, option_map, is_none, IfSome};
 ghost use Rattle.std.specs.List.{prefix_len};
 ghost use Rattle.definitions.specs.CountedItems.{counted_item_at};
-ghost use Rattle.definitions.specs.Pieces.{AtStart, AtEquals, mark_of, pieces_at};
-ghost use Rattle.expr_forms.specs.Joins.PiecesFound.{mark_as, pieces_found};
+ghost use Rattle.definitions.specs.Pieces.{AtStart, AtEquals, Inside, Plain, mark_of, pieces_at, pieces_of};
+ghost use Rattle.expr_forms.specs.Joins.Numbers.{AreDigits};
+ghost use Rattle.expr_forms.specs.Joins.PiecesFound.{ends_run, mark_as, pieces_found};
 
-use definitions::{ItemText, item_at};
+use definitions::{ItemText, digit_count, item_at};
 
 /// The five marks that separate, and the equals sign of a literal.
 #[derive(Clone, Copy)]
@@ -61,6 +62,39 @@ pub(crate) fn run_len(text: &[u8]) -> usize
         }
     }
     text.len()
+}
+
+/// Digits, and the text behind them.
+#[derive(Clone, Copy)]
+pub(crate) struct DigitsFound<'a> {
+    pub(crate) digits: &'a [u8],
+    pub(crate) rest: &'a [u8],
+}
+
+/// The digits that begin a text, if some do: they are its first piece where a run ends behind them.
+#[inline(always)]
+pub(crate) fn digits_at_start(text: &[u8]) -> Option<DigitsFound<'_>>
+    ensures pieces { IfSome result (λ found. ends_run found.rest.now ≡ true → pieces_of text.now ≡ Plain found.digits.now ∷ pieces_at Inside 0 found.rest.now) }
+    ensures digits { IfSome result (λ found. AreDigits found.digits.now) }
+    ensures shorter { IfSome result (λ found. length found.rest.now < length text.now) }
+{
+    let count = digit_count(text);
+    if count == 0 {
+        return None;
+    }
+    let (digits, rest) = text.split_at(count);
+    Some(DigitsFound { digits, rest })
+}
+
+/// Whether a run ends where this text begins.
+#[inline(always)]
+pub(crate) fn ends_run(text: &[u8]) -> bool
+    ensures { result ≡ ends_run text.now }
+{
+    match text.split_first() {
+        None => true,
+        Some((c, _)) => mark_of(*c).is_some(),
+    }
 }
 
 /// The run that begins a text with a character that is no mark, and what is behind it.

@@ -49,6 +49,7 @@ fn other_count(bases: &[Base], relocation: &Relocation) -> usize
 
 /// The bases with this one once more, or once less: how many they are then, or nothing where the
 /// room is full.
+#[inline(never)]
 fn add_base(room: &mut [Base], len: usize, added: Base) -> Option<usize>
     requires within { len ≤ length room.old }
     requires small { AreSmall 1000 (bases_as len room.old) }
@@ -93,6 +94,7 @@ fn part_base(operator: Operator, part: Part) -> Base
     }
 }
 
+#[inline(always)]
 fn plus_part(room: &mut [Base], len: usize, operator: Operator, part: Option<Part>) -> Option<usize>
     requires within { len ≤ length room.old }
     requires small { AreSmall 1000 (bases_as len room.old) }
@@ -107,6 +109,7 @@ fn plus_part(room: &mut [Base], len: usize, operator: Operator, part: Option<Par
     }
 }
 
+#[inline(always)]
 fn signed_sum(operator: Operator, a: i64, b: i64) -> Result<i64, Letter>
     ensures { result ≡ ranged (a +ℤ signed (operator_as operator) b) }
 {
@@ -117,6 +120,7 @@ fn signed_sum(operator: Operator, a: i64, b: i64) -> Result<i64, Letter>
 }
 
 /// The sum with one form more, which is added or subtracted.
+#[inline(always)]
 pub(crate) fn plus_form(room: &mut [Base], sum: RunningSum, operator: Operator, form: Form) -> Added
     requires within { sum.bases ≤ length room.old }
     requires small { AreSmall 1000 (bases_as sum.bases room.old) }

@@ -3,11 +3,11 @@
 ghost use Rattle.std.specs.Prelude.{◌≡◌, ◌≤◌, ◌+◌, ◌∷◌, [], true, length, drop, option_copied, IfNone, IfSome};
 ghost use Rattle.definitions.specs.Pieces.{AtStart, AtEquals, Inside, Plain, pieces_at, pieces_of, subfields_of};
 ghost use Rattle.expr_forms.specs.Joins.Numbers.{AreDigits};
-ghost use Rattle.expr_forms.specs.Joins.PiecesFound.{pieces_in};
-ghost use Rattle.expr_forms.specs.Joins.Subfields.{subfield_len, len_to_mark, text_behind, is_ended, subfields_left};
+ghost use Rattle.expr_forms.specs.Joins.PiecesFound.{ends_run, pieces_in};
+ghost use Rattle.expr_forms.specs.Joins.Subfields.{subfield_len, len_to_mark, text_behind, subfields_left};
 
-use crate::pieces::{Mark, Piece, piece_at_start, run_len};
-use definitions::{digit_count, item_at};
+use crate::pieces::{Mark, Piece, digits_at_start, piece_at_start, run_len};
+use definitions::item_at;
 use std::marker::Model;
 
 /// The subfields of a variable field that are left, from left to right; a field without a comma is
@@ -109,38 +109,13 @@ struct ShortFound<'a> {
 #[inline(always)]
 fn behind_end(text: &[u8]) -> Option<Option<&[u8]>>
     ensures end { IfSome result (λ rest. subfields_of (pieces_at Inside 0 text.now) ≡ [] ∷ subfields_left (option_copied rest)) }
-    ensures ended { IfSome result (λ rest. is_ended text.now ≡ true) }
+    ensures ended { IfSome result (λ rest. ends_run text.now ≡ true) }
     ensures within { IfSome result (λ rest. IfSome rest (λ more. length more.now ≤ length text.now)) }
 {
     match text.split_first() {
         None => Some(None),
         Some((b',', rest)) => Some(Some(rest)),
         Some(_) => None,
-    }
-}
-
-/// A subfield of digits and nothing else, and the text behind the comma that ends it.
-#[derive(Clone, Copy)]
-struct DigitsFound<'a> {
-    digits: &'a [u8],
-    rest: Option<&'a [u8]>,
-}
-
-/// The first subfield of a text, where it is digits and nothing else.
-#[inline(always)]
-fn digits_at_start(text: &[u8]) -> Option<DigitsFound<'_>>
-    ensures subfields { IfSome result (λ found. subfields_of (pieces_of text.now) ≡ (Plain found.digits.now ∷ []) ∷ subfields_left (option_copied found.rest)) }
-    ensures digits { IfSome result (λ found. AreDigits found.digits.now) }
-    ensures within { IfSome result (λ found. IfSome found.rest (λ rest. length rest.now ≤ length text.now)) }
-{
-    let count = digit_count(text);
-    if count == 0 {
-        return None;
-    }
-    let (digits, behind) = text.split_at(count);
-    match behind_end(behind) {
-        None => None,
-        Some(rest) => Some(DigitsFound { digits, rest }),
     }
 }
 
@@ -197,16 +172,9 @@ impl<'a> Subfields<'a> {
         ensures some { IfSome result (λ digits. self.old ≡ (Plain digits.now ∷ []) ∷ self.new) }
         ensures digits { IfSome result (λ digits. AreDigits digits.now) }
     {
-        match self.rest {
-            None => None,
-            Some(text) => match digits_at_start(text) {
-                None => None,
-                Some(found) => {
-                    self.rest = found.rest;
-                    Some(found.digits)
-                }
-            },
-        }
+        let found = digits_at_start(self.rest?)?;
+        self.rest = behind_end(found.rest)?;
+        Some(found.digits)
     }
 
     /// The next subfield, where it is nothing before a comma, an item or a run: its piece, if it has

@@ -40,6 +40,7 @@ enum Walked {
     Full,
 }
 
+#[inline(always)]
 fn number_form(number: Number) -> Result<Form, Letter>
     ensures { result ≡ number_form (number_as number) }
 {
@@ -50,6 +51,7 @@ fn number_form(number: Number) -> Result<Form, Letter>
 }
 
 /// The form of an item: A where it has more than 10 characters.
+#[inline(never)]
 fn item_form(item: ItemText<'_>) -> Result<Form, Letter>
     ensures { result ≡ counted_item_form (item_as item.entry) }
 {
@@ -58,6 +60,7 @@ fn item_form(item: ItemText<'_>) -> Result<Form, Letter>
 }
 
 /// The form of an element, or its letter: V of a register, U of a symbol without a form.
+#[inline(always)]
 fn element_form<N: Names>(names: &N, element: Element<'_>) -> Result<Form, Letter>
     ensures { result ≡ element_form (N.names names.now) (element_as element.entry) }
 {
@@ -85,6 +88,7 @@ fn with_factor<N: Names>(
 }
 
 /// A walk with one factor more in its open term.
+#[inline(never)]
 fn walk_factor<N: Names>(names: &N, walk: Walk, link: Link<'_>) -> Walked
     ensures next { JoinsFactors (operator_as link.entry.operator) → (pairs : List OperatorElement) (room : List Base) →
         WalksOn (N.names names.now) (walk_value (N.names names.now) walk room (link_as link.entry ∷ pairs)) result room pairs }
@@ -103,6 +107,7 @@ fn walk_factor<N: Names>(names: &N, walk: Walk, link: Link<'_>) -> Walked
 }
 
 /// A walk whose open term joins the sum, and which opens the next one.
+#[inline(always)]
 fn walk_term<N: Names>(room: &mut [Base], names: &N, walk: Walk, link: Link<'_>) -> Walked
     requires within { walk.sum.bases ≤ length room.old }
     requires small { AreSmall 1000 (bases_as walk.sum.bases room.old) }
@@ -128,6 +133,7 @@ fn walk_term<N: Names>(room: &mut [Base], names: &N, walk: Walk, link: Link<'_>)
 }
 
 /// A walk with one link more.
+#[inline(always)]
 fn walk_link<N: Names>(room: &mut [Base], names: &N, walk: Walk, link: Link<'_>) -> Walked
     requires within { walk.sum.bases ≤ length room.old }
     requires small { AreSmall 1000 (bases_as walk.sum.bases room.old) }

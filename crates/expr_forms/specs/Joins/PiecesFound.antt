@@ -1,6 +1,6 @@
 -- The pieces that were found in a text, in the words of the definitions.
-use Rattle.std.specs.Prelude.{List, [], ◌∷◌, Option, Some, None}
-use Rattle.definitions.specs.{Laws.ItemTexts.item_as, Pieces.{Mark, Comma, Plus, Minus, Star, Slash, Equals, Piece, IsMark, IsCountedItem, Plain, Spot, Inside, ByMark, spot_behind, pieces_at}}
+use Rattle.std.specs.Prelude.{ℕ, List, [], ◌∷◌, Option, Some, None, Bool, true, is_some}
+use Rattle.definitions.specs.{Laws.ItemTexts.item_as, Pieces.{Mark, Comma, Plus, Minus, Star, Slash, Equals, Piece, IsMark, IsCountedItem, Plain, Spot, Inside, ByMark, mark_of, spot_behind, pieces_at}}
 use Rattle.expr_forms.specs.declared.pieces.Mark as marks
 use Rattle.expr_forms.specs.declared.pieces.Mark.TheVariants as mark
 use Rattle.expr_forms.specs.declared.pieces.Piece as pieces
@@ -36,3 +36,8 @@ pieces_found (Some found) = piece_as found.piece ∷ pieces_at (spot_behind_piec
 abbrev pub pieces_in : Option pieces.Piece → List Piece
 pieces_in None = []
 pieces_in (Some piece) = piece_as piece ∷ []
+
+-- whether a run ends where this text begins
+abbrev pub ends_run : List ℕ → Bool
+ends_run [] = true
+ends_run (c ∷ cs) = is_some (mark_of c)

@@ -21,11 +21,6 @@ abbrev pub len_to_mark : List ℕ → ℕ
 len_to_mark [] = 0
 len_to_mark (c ∷ cs) = if c == comma then 0 else suc (subfield_len AtStart 0 cs)
 
--- whether a subfield ends where a text begins
-abbrev pub is_ended : List ℕ → Bool
-is_ended [] = true
-is_ended (c ∷ cs) = c == comma
-
 -- the text behind the comma that ends a subfield, if one does
 abbrev pub text_behind : List ℕ → Option (List ℕ)
 text_behind [] = None
