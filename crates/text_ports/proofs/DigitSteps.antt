@@ -1,6 +1,6 @@
 -- The steps of writing digits from the last one on.
-use Rattle.std.proofs.{Common.{◌≡◌, ℕ, ◌+◌, ◌-◌, ◌*◌, ◌/◌, ◌%◌, ◌^◌, ◌<◌, ◌≤◌, zero, suc, List, [], ◌∷◌, ◌++◌, true, false, nat_lt, le-ltb, lt-ltb, length, drop, slice_set, sym, ap, ◌∙◌, arith, append_assoc, append-nil, length-set}, Math.Nat.pow-succ', lemmas.List.drop-set}
-use Rattle.definitions.specs.Numerals.{digits_of, decimal_in}
+use Rattle.std.proofs.{Common.{◌≡◌, ℕ, ◌+◌, ◌-◌, ◌*◌, ◌/◌, ◌%◌, ◌^◌, ◌<◌, ◌≤◌, zero, suc, List, [], ◌∷◌, ◌++◌, true, false, nat_lt, le-ltb, length, drop, take, slice_set, sym, ap, ap₂, ◌∙◌, arith, append_assoc}, Math.Nat.pow-succ', Math.Seq.{drop_at, drop-drop, length-take-le}, lemmas.List.drop-set}
+use Rattle.definitions.specs.Numerals.{digits_of, decimal_in, octal_of}
 
 -- one digit more is set
 pub digits_of-step : (base : ℕ) (text : List ℕ) (left begin rest : ℕ) → begin ≤ left → left < length text →
@@ -10,22 +10,24 @@ digits_of-step base text left begin rest behind room =
     ∙ sym (append_assoc (digits_of base (left - begin) (rest / base)) ((48 + rest % base) ∷ []) (drop (left + 1) text))
     ∙ ap (λ n. digits_of base n rest ++ drop (left + 1) text) (let e : suc (left - begin) ≡ left + 1 - begin = omega arith in e)
 
--- two octal digits more are set, the last one first
-pub octal_of-step : (text : List ℕ) (left begin rest first second : ℕ) → first ≡ 48 + rest % 64 / 8 → second ≡ 48 + rest % 64 % 8 → begin ≤ left → left + 1 < length text →
-    digits_of 8 (left - begin) (rest / 64) ++ drop left (slice_set (slice_set text (left + 1) second) left first) ≡ digits_of 8 (left + 2 - begin) rest ++ drop (left + 2) text
-octal_of-step text left begin rest first second f s behind room =
-    let set = slice_set text (left + 1) (48 + rest % 8) in
-    let upper : first ≡ 48 + rest / 8 % 8 = omega (arith, f) in
-    let lower : second ≡ 48 + rest % 8 = omega (arith, s) in
+-- two octal digits more are set
+pub octal_of-step : (text pair : List ℕ) (left begin rest : ℕ) → pair ≡ octal_of 2 (rest % 64) → begin ≤ left → left ≤ length text →
+    octal_of (left - begin) (rest / 64) ++ drop left (take left text ++ (pair ++ drop (left + 2 - left) (drop left text))) ≡ octal_of (left + 2 - begin) rest ++ drop (left + 2) text
+octal_of-step text pair left begin rest p behind room =
+    let front = octal_of (left - begin) (rest / 8 / 8) in
+    let first = 48 + rest / 8 % 8 in
+    let second = 48 + rest % 8 in
+    let last = drop (left + 2) text in
+    let two : left + (left + 2 - left) ≡ left + 2 = omega arith in
+    let upper : 48 + rest % 64 / 8 % 8 ≡ first = omega arith in
+    let lower : 48 + rest % 64 % 8 ≡ second = omega arith in
     let twice : rest / 64 ≡ rest / 8 / 8 = omega arith in
-    let long : length set ≡ length text = length-set text (left + 1) (48 + rest % 8) in
-    let next : left + 1 + 1 ≡ left + 2 = omega arith in
-    ap (λ n. digits_of 8 (left - begin) n ++ drop left (slice_set (slice_set text (left + 1) second) left first)) twice
-    ∙ ap (λ d. digits_of 8 (left - begin) (rest / 8 / 8) ++ drop left (slice_set (slice_set text (left + 1) d) left first)) lower
-    ∙ ap (λ d. digits_of 8 (left - begin) (rest / 8 / 8) ++ drop left (slice_set set left d)) upper
-    ∙ digits_of-step 8 set left begin (rest / 8) behind (omega (arith, long))
-    ∙ digits_of-step 8 text (left + 1) begin rest (omega arith) room
-    ∙ ap (λ n. digits_of 8 (n - begin) rest ++ drop n text) next
+    let count : suc (suc (left - begin)) ≡ left + 2 - begin = omega arith in
+    ap₂ (λ n l. octal_of (left - begin) n ++ l) twice
+    (drop_at (take left text) _ left (length-take-le left text room)
+    ∙ ap₂ (λ l r. l ++ r) (p ∙ ap₂ (λ x y. x ∷ y ∷ []) upper lower) (drop-drop (left + 2 - left) left text ∙ ap (λ m. drop m text) two))
+    ∙ sym (append_assoc (front ++ first ∷ []) (second ∷ []) last ∙ append_assoc front (first ∷ []) (second ∷ last))
+    ∙ ap (λ n. octal_of n rest ++ last) count
 
 -- a number of two digits or more is not below 10
 test-false : (rest : ℕ) → 10 ≤ rest → nat_lt rest 10 ≡ false

@@ -22,12 +22,11 @@ const PAIRS: [u8; 128] =
 
 /// The two octal digits of a number below 64.
 #[inline(always)]
-fn octal_pair(number: usize) -> (u8, u8)
+fn octal_pair(number: usize) -> &'static [u8]
     requires { number < 64 }
-    ensures first { result.0 ≡ 48 + number / 8 }
-    ensures second { result.1 ≡ 48 + number % 8 }
+    ensures { result.now ≡ octal_of 2 number }
 {
-    (PAIRS[2 * number], PAIRS[2 * number + 1])
+    &PAIRS[2 * number..2 * number + 2]
 }
 
 impl<const MOST: usize> Model for PrependedText<MOST> {
@@ -83,9 +82,8 @@ impl<const MOST: usize> PrependedText<MOST> {
         let mut left = self.begin;
         while left - begin >= 2 {
             left -= 2;
-            let (first, second) = octal_pair((rest % 64) as usize);
-            self.bytes[left + 1] = second;
-            self.bytes[left] = first;
+            let bytes = &mut self.bytes[..];
+            bytes[left..left + 2].copy_from_slice(octal_pair((rest % 64) as usize));
             rest /= 64;
         }
         self.begin = left;

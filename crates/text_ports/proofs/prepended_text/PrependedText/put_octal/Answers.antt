@@ -22,12 +22,11 @@ loop-left-preserved g c =
     let left = c.loop-left.left - 2 in
     let begin = c.self.inside.begin - c.args.digits in
     let back : left + 2 ≡ c.loop-left.left = omega arith in
-    let pair = c.octal_pair-first.ensures in
     record {
       behind = omega arith;
       within = omega arith;
       room = search rules;
-      split = octal_of-step c.loop-left.self-inside.bytes left begin c.loop-left.rest _ _ pair.first pair.second (omega arith) (omega arith)
+      split = octal_of-step c.loop-left.self-inside.bytes _ left begin c.loop-left.rest (c.copy_from_slice.ensures.after ∙ c.octal_pair.ensures) (omega arith) (omega arith)
           ∙ ap (λ n. digits_of 8 (n - begin) c.loop-left.rest ++ drop n c.loop-left.self-inside.bytes) back
           ∙ c.loop-left.invariant.split;
     }
