@@ -15,6 +15,7 @@
 mod sheet;
 
 // The listing.
+mod card_numbers;
 mod decks_behind;
 mod field_lines;
 mod lines;

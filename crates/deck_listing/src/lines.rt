@@ -2,8 +2,9 @@
 ghost use Rattle.std.specs.Prelude.{◌≡◌, ◌≤◌, ◌<◌, ◌+◌, ◌^◌, ◌++◌, ◌∷◌, [], codes, length, flat_map};
 ghost use Rattle.definitions.specs.Kinds.{kind_text};
 ghost use Rattle.definitions.specs.Listing.{block_line, card_lines, central_line, letters_line, line, peripheral_line};
-ghost use Rattle.definitions.specs.Numerals.{decimal_of, digits_of};
+ghost use Rattle.definitions.specs.Numerals.{decimal_of};
 
+use crate::card_numbers::CardNumber;
 use crate::sheet::Sheet;
 use cards::{Card, DeckName};
 use definitions::{DeckKind, InlineText};
@@ -25,37 +26,28 @@ pub(crate) fn push_deck_line(text: &mut Sheet, name: &DeckName, kind: DeckKind)
     text.put(b"\n");
 }
 
-/// A number with the five digits that a card's number shows, where so many cards stand before it. It is short,
-/// so its digits are found by short divisions.
-#[inline(always)]
-fn card_number(before: usize) -> u64
-    requires { before < 2 ^ 60 }
-    ensures { digits_of 10 5 result ≡ digits_of 10 5 (before + 1) }
+/// A card behind its number in the deck.
+fn push_card_line(text: &mut Sheet, number: &mut CardNumber, card: &Card)
+    requires { number.old < 2 ^ 60 }
+    ensures text { text.new ≡ text.old ++ card_lines number.old (card.now ∷ []) }
+    ensures number { number.new ≡ number.old + 1 }
 {
-    (before as u64 + 1) % 100_000
-}
-
-/// A card behind its number in the deck, where so many cards stand before it.
-fn push_card_line(text: &mut Sheet, before: usize, card: &Card)
-    requires { before < 2 ^ 60 }
-    ensures { text.new ≡ text.old ++ card_lines before (card.now ∷ []) }
-{
-    let mut front = ShortText::new();
-    front.put_byte(b' ');
-    front.put_padded(5, card_number(before));
-    let mut line = InlineText::<MOST_OF_CARD_LINE>::of(front.as_slice());
+    let mut line = InlineText::<MOST_OF_CARD_LINE>::of(number.digits());
+    line.push(b' ');
     line.append(card.as_slice());
     line.push(b'\n');
     text.put(line.as_slice());
+    number.count_up();
 }
 
-/// Cards behind their numbers in the deck, where so many stand before them.
-pub(crate) fn push_card_lines(text: &mut Sheet, before: usize, cards: &[Card])
-    requires { before + length cards.now < 2 ^ 60 }
-    ensures { text.new ≡ text.old ++ card_lines before cards.now }
+/// Cards behind their numbers in the deck.
+pub(crate) fn push_card_lines(text: &mut Sheet, number: &mut CardNumber, cards: &[Card])
+    requires { number.old + length cards.now < 2 ^ 60 }
+    ensures text { text.new ≡ text.old ++ card_lines number.old cards.now }
+    ensures number { number.new ≡ number.old + length cards.now }
 {
-    for (i, card) in cards.iter().enumerate() {
-        push_card_line(text, before + i, card);
+    for card in cards {
+        push_card_line(text, number, card);
     }
 }
 
@@ -63,13 +55,11 @@ pub(crate) fn push_card_lines(text: &mut Sheet, before: usize, cards: &[Card])
 pub(crate) fn push_letters_line(text: &mut Sheet, letters: &Letters)
     ensures { text.new ≡ text.old ++ letters_line letters.now }
 {
-    let letters = letters.text();
-    let letters = letters.as_slice();
-    if letters.is_empty() {
+    if letters.text().as_slice().is_empty() {
         return;
     }
     text.put(b"  ERR ");
-    text.put(letters);
+    text.put(letters.text().as_slice());
     text.put(b"\n");
 }
 

@@ -10,6 +10,7 @@ ghost use Rattle.deck_objects.specs.Joins.LineItems.{AreShort};
 ghost use Rattle.statement_coder.specs.Joins.Items.{item_as};
 ghost use Rattle.operations.specs.Joins.OperationsAs.{operation_as};
 
+use crate::card_numbers::CardNumber;
 use crate::field_lines::{joined_fields, push_word_lines};
 use crate::lines::{push_card_lines, push_central_line, push_letters_line};
 use crate::sheet::Sheet;
@@ -43,7 +44,12 @@ fn push_instruction(text: &mut Sheet, bases: &Bases, place: u32, items: &[Item])
     }
     let (width, bits) = joined_fields(bases, items);
     let place = place as u64;
-    push_central_line(text, place / 4, place % 4, width, bits);
+    // Where the width is written out, no loop is left over the digits.
+    match width {
+        15 => push_central_line(text, place / 4, place % 4, 15, bits),
+        30 => push_central_line(text, place / 4, place % 4, 30, bits),
+        _ => push_central_line(text, place / 4, place % 4, width, bits),
+    }
 }
 
 /// The lines of the fields of a statement.
@@ -83,19 +89,20 @@ fn push_stored(text: &mut Sheet, parts: &ObjectParts, stored: &CodedLine)
     }
 }
 
-/// The lines of a statement that has these cards, where so many stand before it.
+/// The lines of a statement that has these cards, the first of which has this number.
 fn push_statement(
     text: &mut Sheet,
     parts: &ObjectParts,
-    before: usize,
+    number: &mut CardNumber,
     cards: &[Card],
     shown: &Line,
 )
-    requires few { before + length cards.now < 2 ^ 60 }
+    requires few { number.old + length cards.now < 2 ^ 60 }
     requires listable { IsListableLine parts.now.kind parts.now.items.items shown.now.coded }
-    ensures { text.new ≡ text.old ++ line_text parts.now.kind parts.now.bases parts.now.items.items before cards.now shown.now }
+    ensures text { text.new ≡ text.old ++ line_text parts.now.kind parts.now.bases parts.now.items.items number.old cards.now shown.now }
+    ensures number { number.new ≡ number.old + length cards.now }
 {
-    push_card_lines(text, before, cards);
+    push_card_lines(text, number, cards);
     push_letters_line(text, &shown.letters);
     match &shown.coded {
         None => {}
@@ -118,12 +125,11 @@ pub(crate) fn push_statements(text: &mut Sheet, cards: &[Card], parts: &ObjectPa
     requires listable { AreListable parts.now.kind parts.now.items.items parts.now.lines.items }
     ensures { text.new ≡ text.old ++ lines_text parts.now.kind parts.now.bases parts.now.items.items 0 cards.now parts.now.lines.items }
 {
-    let mut before = 0;
+    let mut number = CardNumber::first();
     let mut ahead = cards;
     for shown in &parts.lines {
         let (own, behind) = split_cards(ahead, shown.cards);
-        push_statement(text, parts, before, own, shown);
-        before += own.len();
+        push_statement(text, parts, &mut number, own, shown);
         ahead = behind;
     }
 }
