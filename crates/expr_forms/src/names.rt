@@ -54,32 +54,11 @@ impl Name {
         self.characters.split_at(usize::from(self.len)).0
     }
 
-    /// Whether both have the same characters; most names have few.
+    /// Whether both have the same characters; the zeros behind them are compared too.
+    #[inline(always)]
     pub fn is_same(&self, other: &Name) -> bool
         ensures { result ≡ same_text self.now other.now }
     {
-        is_same_text(self.as_slice(), other.as_slice())
-    }
-}
-
-/// Whether two texts are the same, character by character.
-fn is_same_text(text: &[u8], other: &[u8]) -> bool
-    ensures { result ≡ same_text text.now other.now }
-{
-    let mut left = text;
-    let mut others = other;
-    'characters: loop {
-        match (left.split_first(), others.split_first()) {
-            (None, None) => return true,
-            (None, Some(_)) => return false,
-            (Some(_), None) => return false,
-            (Some((a, behind)), Some((b, others_behind))) => {
-                if *a != *b {
-                    return false;
-                }
-                left = behind;
-                others = others_behind;
-            }
-        }
+        self.len == other.len && self.characters == other.characters
     }
 }
