@@ -1,11 +1,12 @@
 //! The variable field of DATA: what fills its words (COMPASS 60492600, DATA).
 ghost use Rattle.std.specs.Prelude.{◌≡◌, ◌≤◌, ◌<◌, ◌∷◌, [], length, option_map, is_some, Some, None, IfSome, IfNone, MatchResult};
-ghost use Rattle.definitions.specs.Pieces.{Inside, ByMark, IsMark, Plain, spot_behind, pieces_at, pieces_of, subfields_of};
+ghost use Rattle.definitions.specs.Pieces.{Inside, ByMark, IsMark, spot_behind, pieces_at, pieces_of, subfields_of};
 ghost use Rattle.definitions.specs.Symbols.{number_read};
+ghost use Rattle.definitions.specs.Expressions.{NoSign};
 ghost use Rattle.definitions.specs.Operands.{NumberWord, CountedItemWords, data_word, all_read, onto_all};
 ghost use Rattle.definitions.specs.declared.letter.Letter.TheVariants as letter;
 ghost use Rattle.expr_forms.specs.Joins.Elements.{sign_as};
-ghost use Rattle.expr_forms.specs.Joins.Numbers.{AreDigits};
+ghost use Rattle.expr_forms.specs.Joins.Numbers.{number_as};
 ghost use Rattle.definitions.specs.Laws.ItemTexts.{item_as};
 ghost use Rattle.expr_forms.specs.Joins.PiecesFound.{mark_as, pieces_in};
 ghost use Rattle.expr_forms.specs.Joins.Readings.{datum_as, alone, signed_word};
@@ -115,13 +116,18 @@ fn short_word(base: NumberBase, piece: Option<Piece<'_>>) -> Option<Datum<'_>>
     }
 }
 
-/// The number of DATA that digits are, if they are one.
+/// The number that the next subfield of DATA is, where it is digits and nothing else and fits the
+/// base. Else none is taken.
 #[inline(always)]
-fn digits_word<'a>(base: NumberBase, digits: &[u8]) -> Option<Datum<'a>>
-    requires { AreDigits digits.now }
-    ensures { option_map datum_as result ≡ data_word base (Plain digits.now ∷ []) }
+fn next_number(base: NumberBase, subfields: &mut Subfields<'_>) -> Option<Number>
+    ensures none { IfNone result (subfields.new ≡ subfields.old) }
+    ensures some { IfSome result (λ number. all_read (data_word base) subfields.old ≡ onto_all (Some (NumberWord NoSign (number_as number))) (all_read (data_word base) subfields.new)) }
+    ensures fewer { IfSome result (λ number. length subfields.new < length subfields.old) }
 {
-    Some(Datum::Number(Sign::Absent, digits_read(base, digits)?))
+    let mut behind = subfields.copied();
+    let number = digits_read(base, behind.next_digits()?)?;
+    *subfields = behind;
+    Some(number)
 }
 
 /// What the next subfield of DATA is, if one is left, and if it is lawful.
@@ -131,9 +137,6 @@ fn next_word<'a>(base: NumberBase, subfields: &mut Subfields<'a>) -> Option<Opti
     ensures some { IfSome result (λ word. all_read (data_word base) subfields.old ≡ onto_all (option_map datum_as word) (all_read (data_word base) subfields.new)) }
     ensures fewer { IfSome result (λ word. length subfields.new < length subfields.old) }
 {
-    if let Some(digits) = subfields.next_digits() {
-        return Some(digits_word(base, digits));
-    }
     match subfields.next_short() {
         Some(piece) => Some(short_word(base, piece)),
         None => match subfields.next() {
@@ -149,10 +152,13 @@ fn are_words(base: NumberBase, subfields: Subfields<'_>) -> bool
 {
     let mut rest = subfields;
     'subfields: loop {
-        match next_word(base, &mut rest) {
-            None => return true,
-            Some(None) => return false,
-            Some(Some(_)) => {}
+        match next_number(base, &mut rest) {
+            Some(_) => {}
+            None => match next_word(base, &mut rest) {
+                None => return true,
+                Some(None) => return false,
+                Some(Some(_)) => {}
+            },
         }
     }
 }
@@ -190,21 +196,19 @@ impl<'a> DataWords<'a> {
         }
     }
 
-    /// What fills the next words, if anything is left.
-    pub fn next(&mut self) -> Option<Datum<'a>>
-        ensures none { IfNone result ((self.old ≡ []) × (self.new ≡ [])) }
-        ensures some { IfSome result (λ datum. self.old ≡ datum_as datum ∷ self.new) }
+    /// The next word, where it is digits and nothing else. Else none is taken.
+    #[inline(always)]
+    pub fn next_number(&mut self) -> Option<Number>
+        ensures none { IfNone result (self.new ≡ self.old) }
+        ensures some { IfSome result (λ number. self.old ≡ NumberWord NoSign (number_as number) ∷ self.new) }
     {
-        match self.subfields.next_digits() {
-            Some(digits) => digits_word(self.base, digits),
-            None => self.next_of_any(),
-        }
+        next_number(self.base, &mut self.subfields)
     }
 
-    /// What fills the next words, if anything is left, digits or not. It is not inlined, since its
-    /// locals are filled wherever it is.
+    /// What fills the next words, if anything is left. It is not inlined, since its locals are filled
+    /// wherever it is.
     #[inline(never)]
-    fn next_of_any(&mut self) -> Option<Datum<'a>>
+    pub fn next(&mut self) -> Option<Datum<'a>>
         ensures none { IfNone result ((self.old ≡ []) × (self.new ≡ [])) }
         ensures some { IfSome result (λ datum. self.old ≡ datum_as datum ∷ self.new) }
     {

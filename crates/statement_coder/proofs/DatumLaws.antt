@@ -1,8 +1,8 @@
 -- The words of a subfield of DATA or CON.
-use Rattle.std.proofs.Common.{◌≡◌, ◌∙◌, ℕ, ◌*◌, ◌/◌, ◌^◌, ◌≤◌, ◌<◌, List, [], ◌∷◌, ◌++◌, length, map, flat_map, ap, sym, arith, append_assoc, append-nil}
-use Rattle.definitions.{specs.CountedItems.CountedItem, specs.Expressions.{Expression}, specs.Forms.characters_number, specs.Coding.{counted_item_bits, words_needed}, specs.Kinds.word_bits, specs.Operands.Datum, specs.Settled.Settled, specs.StatementItems.{Item, Context, known, expression_item, datum_item}, specs.Words.cut, specs.declared.deck_kind.DeckKind.DeckKind, specs.declared.deck_kind.DeckKind.TheVariants.{Rel, Abs, Periph}, proofs.LiteralLaws.characters_number-below}
+use Rattle.std.proofs.Common.{◌≡◌, ◌∙◌, ℕ, ◌*◌, ◌/◌, ◌^◌, ◌≤◌, ◌<◌, List, [], ◌∷◌, ◌++◌, length, map, flat_map, ap, sym, arith, append_assoc, append-nil, refl}
+use Rattle.definitions.{specs.CountedItems.CountedItem, specs.Expressions.{Expression, Sign}, specs.Symbols.{Number, Value, TooGreat}, specs.Literals.signed_number, specs.Forms.characters_number, specs.Coding.{coded_in, counted_item_bits, words_needed}, specs.Kinds.word_bits, specs.Operands.Datum, specs.Settled.Settled, specs.StatementItems.{Item, Context, known, known_if, number_item, expression_item, datum_item}, specs.Words.cut, specs.declared.deck_kind.DeckKind.DeckKind, specs.declared.deck_kind.DeckKind.TheVariants.{Rel, Abs, Periph}, proofs.LiteralLaws.characters_number-below}
 use Rattle.expr_forms.{specs.Joins.CodedItems.in_places, proofs.CodedLaws.{counted_item_bits-whole, length-in_places, word_bits-characters, words_needed-room}}
-use Rattle.statement_coder.{specs.Joins.WordItems.{known_words, in_words}, proofs.WidthLaws.{width-expression_item}, proofs.WordItemLaws.{in_words-narrow, in_words-known}}
+use Rattle.statement_coder.{specs.Joins.WordItems.{known_words, in_words}, proofs.WidthLaws.{width-known_if, width-expression_item}, proofs.WordItemLaws.{in_words-narrow, in_words-known}}
 
 pub word_bits-some : (kind : DeckKind) → 0 < word_bits kind
 word_bits-some Rel = omega arith
@@ -12,6 +12,13 @@ word_bits-some Periph = omega arith
 -- an expression of CON is one word
 pub expression-word : (context : Context) (settled : Settled) (word : ℕ) (e : Expression) → in_words word (expression_item context settled word e) ≡ expression_item context settled word e ∷ []
 expression-word context settled word e = in_words-narrow word (expression_item context settled word e) (let w = width-expression_item context settled word e in omega arith)
+
+-- a number of DATA is one word
+pub number-word : (word : ℕ) (sign : Sign) (number : Number) → in_words word (number_item word sign number) ≡ number_item word sign number ∷ []
+number-word word sign (Value size) =
+    let bits = coded_in word (signed_number sign size) in
+    in_words-narrow word (known_if word bits) (let w = width-known_if word bits in omega arith)
+number-word word sign TooGreat = refl
 
 -- the bits of an item fit its words
 item-fits : (kind : DeckKind) (item : CountedItem) → let words = words_needed (word_bits kind) item in counted_item_bits (words * word_bits kind) item < 2 ^ (words * word_bits kind)

@@ -14,7 +14,7 @@ use crate::listing::{known_word, push, push_item};
 use crate::values::{bit_field_item, expression_item};
 use crate::{BlockBases, Item};
 use definitions::DeckKind;
-use expr_forms::{BitFields, ConWords, CountedItem, DataWords, Datum, Names};
+use expr_forms::{BitFields, ConWords, CountedItem, DataWords, Datum, Names, Sign};
 use std::alloc::AllocError;
 
 /// Puts the words of a subfield of DATA or CON at the end of a list.
@@ -58,9 +58,12 @@ pub(crate) fn push_data<B: BlockBases, N: Names>(
 {
     let mut rest = words;
     'words: loop {
-        match rest.next() {
-            None => return Ok(()),
-            Some(datum) => push_datum(kind, bases, names, &datum, list)?,
+        match rest.next_number() {
+            Some(number) => push(list, number_item(kind.word_bits(), Sign::Absent, number))?,
+            None => match rest.next() {
+                None => return Ok(()),
+                Some(datum) => push_datum(kind, bases, names, &datum, list)?,
+            },
         }
     }
 }

@@ -53,9 +53,12 @@ fn data_words(kind: DeckKind, words: DataWords<'_>) -> u32
     let mut rest = words;
     let mut sum = 0;
     'words: loop {
-        match rest.next() {
-            None => return sum,
-            Some(datum) => sum = plus(sum, datum_words(kind, &datum)),
+        match rest.next_number() {
+            Some(_) => sum = plus(sum, 1),
+            None => match rest.next() {
+                None => return sum,
+                Some(datum) => sum = plus(sum, datum_words(kind, &datum)),
+            },
         }
     }
 }
