@@ -1,9 +1,10 @@
 //! The words of all blocks of an object, from one walk over its lines.
-ghost use Rattle.std.specs.Prelude.{◌≡◌, List, length, IfOk};
+ghost use Rattle.std.specs.Prelude.{◌≡◌, List, [], length, IfOk};
 ghost use Rattle.std.specs.List.{AllZip};
 ghost use Rattle.definitions.specs.Cards.{Card};
 ghost use Rattle.definitions.specs.Objects as definitions;
 ghost use Rattle.definitions.specs.Objects.{object_of};
+ghost use Rattle.parcel_packer.specs.Joins.Packing.{empty_run};
 ghost use Rattle.deck_objects.specs.Joins.PartsOf.{ArePartsOf};
 ghost use Rattle.deck_listing.specs.Joins.BlockWords.{AreBlockWords, AreWhole, IsFilledWith};
 ghost use Rattle.deck_listing.specs.Joins.Walking.{AreEmpty, DoNamesDiffer, HasObject};
@@ -13,14 +14,35 @@ use deck_objects::{Linking, Object, ObjectParts};
 use definitions::DeckKind;
 use parcel_packer::{WordSpan, Words};
 use std::alloc::{AllocError, Global};
+use use_blocks::BlockRow;
 
-/// So many blocks in which nothing lies.
-fn empty_blocks(alloc: Global, kind: DeckKind, count: usize) -> Result<Vec<Words>, AllocError>
-    ensures { IfOk result (λ blocks. AreEmpty kind count blocks.items) }
+/// For how many parcels of a block there is to be memory at first: all it has, or four for each line.
+fn parcel_room(kind: DeckKind, row: &BlockRow, lines: usize) -> usize {
+    let parcels = (row.words() as usize).saturating_mul(kind.units() as usize);
+    parcels.min(lines.saturating_mul(4))
+}
+
+/// A block in which nothing lies, with memory for so many parcels.
+fn empty_block(alloc: Global, kind: DeckKind, parcels: usize) -> Words
+    ensures { result ≡ record { kind = kind; run = empty_run; earlier = [] } }
 {
-    let mut blocks = Vec::with_capacity(alloc, count)?;
-    for _ in 0..count {
-        blocks.push(Words::new(alloc, kind))?;
+    let mut words = Words::new(alloc, kind);
+    words.make_room(parcels);
+    words
+}
+
+/// As many blocks as there are rows, in which nothing lies.
+fn empty_blocks(
+    alloc: Global,
+    kind: DeckKind,
+    rows: &[BlockRow],
+    lines: usize,
+) -> Result<Vec<Words>, AllocError>
+    ensures { IfOk result (λ blocks. AreEmpty kind (length rows.now) blocks.items) }
+{
+    let mut blocks = Vec::with_capacity(alloc, rows.len())?;
+    for row in rows {
+        blocks.push(empty_block(alloc, kind, parcel_room(kind, row, lines)))?;
     }
     Ok(blocks)
 }
@@ -49,8 +71,8 @@ pub(crate) fn words_of_parts<L: Linking>(
     ensures { IfOk result (λ blocks. (cards : List Card) (object : definitions.Object) → ArePartsOf cards parts.now object →
         AreBlockWords (L.linking linking.now) object blocks.items) }
 {
-    let count = parts.bases.rows().len();
-    let mut packed = empty_blocks(alloc, parts.kind, count)?;
+    let lines = parts.lines.len();
+    let mut packed = empty_blocks(alloc, parts.kind, parts.bases.rows(), lines)?;
     put_lines(&mut packed, parts, linking)?;
     filled_blocks(alloc, packed.as_slice())
 }

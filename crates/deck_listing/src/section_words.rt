@@ -22,6 +22,9 @@ use expr_forms::Name;
 use parcel_packer::WordSpan;
 use use_blocks::{BlockRow, is_common};
 
+/// How many bytes the line of a word has at most.
+const LINE_ROOM: usize = 28;
+
 /// Appends the lines of the words of a span of a block, as far as they lie within the memory of the
 /// deck; nothing is done for those beyond it.
 fn push_span(text: &mut Sheet, kind: DeckKind, base: u64, block: u64, span: &WordSpan)
@@ -36,10 +39,11 @@ fn push_span(text: &mut Sheet, kind: DeckKind, base: u64, block: u64, span: &Wor
     }
 }
 
-/// Appends the lines of the words of a block.
+/// Appends the lines of the words of a block, for which there is room at once where each span is a word.
 fn push_words(text: &mut Sheet, kind: DeckKind, base: u64, block: u64, words: &[WordSpan])
     ensures { text.new ≡ text.old ++ block_lines kind base block words.now }
 {
+    text.make_room(words.len().saturating_mul(LINE_ROOM));
     for span in words {
         push_span(text, kind, base, block, span);
     }

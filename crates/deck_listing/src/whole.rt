@@ -75,6 +75,7 @@ fn listing_room(object: &Object) -> usize {
 pub fn push_listing(text: &mut Sheet, object: &Object)
     ensures { text.new ≡ text.old ++ deck_listing (object_of object.now) }
 {
+    text.make_room(listing_room(object));
     push_parts(text, object.name(), object.cards(), object.parts());
 }
 
@@ -83,7 +84,6 @@ pub fn listing(alloc: Global, object: &Object) -> Result<Text, AllocError>
     ensures { IfOk result (λ text. text ≡ deck_listing (object_of object.now)) }
 {
     let mut text = Sheet::new(alloc);
-    text.make_room(listing_room(object));
     push_listing(&mut text, object);
     text.into_text()
 }

@@ -116,14 +116,15 @@ impl OpenWord {
 }
 
 impl Gathered {
-    fn new(alloc: Global) -> Gathered
-        ensures gathered { (kind : DeckKind) → IsGathered kind [] result.words.items result.next }
-        ensures word { result.next.word ≡ 0 }
+    /// No words yet, with memory for so many.
+    fn new(alloc: Global, room: usize) -> Result<Gathered, AllocError>
+        ensures gathered { IfOk result (λ gathered. (kind : DeckKind) → IsGathered kind [] gathered.words.items gathered.next) }
+        ensures word { IfOk result (λ gathered. gathered.next.word ≡ 0) }
     {
-        Gathered {
-            words: Vec::new(alloc),
+        Ok(Gathered {
+            words: Vec::with_capacity(alloc, room)?,
             next: OpenWord::at(0),
-        }
+        })
     }
 
     /// Finishes the word, if something lies in it.
@@ -240,7 +241,7 @@ impl Gathered {
     }
 }
 
-/// The words of a run.
+/// The words of a run, with memory at first for half as many as it has spans.
 pub(crate) fn run_words(
     alloc: Global,
     kind: DeckKind,
@@ -249,7 +250,7 @@ pub(crate) fn run_words(
     requires { RiseWithin 0 (places (parcels_in run.now)) 524288 }
     ensures { IfOk result (λ words. IsFilled (value_in kind (parcels_in run.now)) words.items) }
 {
-    let mut gathered = Gathered::new(alloc);
+    let mut gathered = Gathered::new(alloc, run.len() / 2)?;
     for span in run {
         gathered.add_span(kind, *span)?;
     }

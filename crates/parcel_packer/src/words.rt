@@ -63,6 +63,17 @@ impl Words {
         }
     }
 
+    /// Asks for memory for so many parcels more of the run at once. Where there is none, it is asked for again as
+    /// they are put.
+    pub fn make_room(&mut self, parcels: usize)
+        ensures { self.new ≡ self.old }
+    {
+        match self.run.reserve(parcels) {
+            Ok(()) => {}
+            Err(_) => {}
+        }
+    }
+
     /// Begins a run, as each accepted ORG does; each parcel before it is whole. Where no memory is
     /// found, all is as before.
     pub fn begin_run(&mut self) -> Result<(), AllocError>

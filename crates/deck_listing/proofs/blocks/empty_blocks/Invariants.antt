@@ -1,5 +1,5 @@
 use Rattle.deck_listing.specs.Joins.Walking.{AreEmpty}
 use Rattle.deck_listing.proofs.blocks.empty_blocks.Given as goal
 
-abbrev pub invariant-loop : goal.invariant-loop
-invariant-loop l = AreEmpty l.kind l.counter l.blocks.items
+abbrev pub invariant-loop-row : goal.invariant-loop-row
+invariant-loop-row l = AreEmpty l.kind l.row-index l.blocks.items

@@ -5,7 +5,7 @@ use Rattle.deck_listing.proofs.blocks.words_of_parts.Goals as goal
 
 pub put_lines-requires-clause-empty : goal.put_lines-requires-clause-empty
 put_lines-requires-clause-empty g c =
-    subst (λ count. AreEmpty c.args.parts.now.kind count c.in_ok-packed.packed.items) (ap length c.rows-count.ensures) c.in_ok-packed.ensures
+    subst (λ count. AreEmpty c.args.parts.now.kind count c.in_ok-packed.packed.items) (ap length c.rows.ensures) c.in_ok-packed.ensures
 
 pub filled_blocks-requires : goal.filled_blocks-requires
 filled_blocks-requires g c =

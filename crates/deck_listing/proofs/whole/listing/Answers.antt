@@ -4,9 +4,9 @@ use Rattle.deck_listing.{specs.Joins.Sheets.{room_of, text_of}, proofs.SheetStep
 use Rattle.deck_listing.proofs.whole.listing.Goals as goal
 
 pub into_text-requires : goal.into_text-requires
-into_text-requires c = ap room_of (grown c.make_room.new.self (deck_listing (object_of c.args.object.now)) c.push_listing.new.text c.push_listing.ensures (c.make_room.ensures ∙ c.new-text.ensures))
+into_text-requires c = ap room_of (grown c.new-text.result (deck_listing (object_of c.args.object.now)) c.push_listing.new.text c.push_listing.ensures c.new-text.ensures)
 
 pub returns : goal.returns
 returns c =
     let whole = deck_listing (object_of c.args.object.now) in
-    IfOk-weaker c.into_text.result _ (λ (text : List ℕ). text ≡ whole) (λ text same. same ∙ ap text_of (grown c.make_room.new.self whole c.push_listing.new.text c.push_listing.ensures (c.make_room.ensures ∙ c.new-text.ensures))) c.into_text.ensures
+    IfOk-weaker c.into_text.result _ (λ (text : List ℕ). text ≡ whole) (λ text same. same ∙ ap text_of (grown c.new-text.result whole c.push_listing.new.text c.push_listing.ensures c.new-text.ensures)) c.into_text.ensures

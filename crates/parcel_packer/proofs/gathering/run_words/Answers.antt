@@ -5,8 +5,8 @@ use Rattle.parcel_packer.proofs.gathering.run_words.Goals as goal
 
 pub loop-span-init : goal.loop-span-init
 loop-span-init c =
-    let first = c.new-gathered.ensures.word in
-    record { gathered = c.new-gathered.ensures.gathered c.args.kind; order = (0, omega arith, c.requires) }
+    let first = c.in_ok-gathered.ensures.word in
+    record { gathered = c.in_ok-gathered.ensures.gathered c.args.kind; order = (0, omega arith, c.requires) }
 
 pub add_span-requires-clause-order : goal.add_span-requires-clause-order
 add_span-requires-clause-order c =
