@@ -26,11 +26,10 @@ impl<'a> Statement<'a> {
     {
         let kind = self.kind;
         let operation = self.operation;
-        let reading = read_operand(kind, base, operation, self.name, self.variable);
         ReadOperand {
+            reading: read_operand(kind, base, operation, self.name, self.variable),
             kind,
             operation,
-            reading,
         }
     }
 }
@@ -42,10 +41,9 @@ pub fn kept_operand(kind: DeckKind, operation: Operation, kept: &KeptReading) ->
     ensures operation { result.operation ≡ operation }
     ensures read { (settled : Settled) → settled.read.operation ≡ operation_as operation → IsKeptReading kind (operation_as operation) kept.now settled.read.operand → IsReadOperand result settled }
 {
-    let reading = kept.reading(kind, operation);
     ReadOperand {
+        reading: kept.reading(kind, operation),
         kind,
         operation,
-        reading,
     }
 }

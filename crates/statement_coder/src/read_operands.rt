@@ -10,8 +10,8 @@ use operations::Operation;
 /// words.
 #[derive(Drop)]
 pub struct ReadOperand<'a> {
+    pub reading: Reading<'a>,
     pub kind: DeckKind,
     pub operation: Operation,
-    pub reading: Reading<'a>,
     ghost whole: { IsWhole kind reading } by { Prim.hlevel props },
 }

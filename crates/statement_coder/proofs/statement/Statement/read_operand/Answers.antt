@@ -7,6 +7,6 @@ pub invariant_of-result : goal.invariant_of-result
 invariant_of-result c =
     let code = c.args.self.now in
     record {
-      whole = read_whole code.kind c.read_operand-reading.result (operand_of code.kind c.args.base (operation_as code.operation) code.name.now code.variable.now) c.read_operand-reading.ensures.reading
+      whole = read_whole code.kind c.read_operand.result (operand_of code.kind c.args.base (operation_as code.operation) code.name.now code.variable.now) c.read_operand.ensures.reading
           (operand_of-fills code.kind c.args.base (operation_as code.operation) code.name.now code.variable.now);
     }
