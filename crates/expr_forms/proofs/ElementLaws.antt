@@ -1,5 +1,5 @@
 -- The pairs of a text by the pieces that begin it.
-use Rattle.std.{proofs.Common.{◌≡◌, ◌≢◌, ℕ, List, [], ◌∷◌, Bool, true, false, if◌then◌else◌, ◌==◌, Option, Some, None, refl, sym, ◌∙◌, ap, ap₂, subst, length, codes}, proofs.Math.Bool.and-false}
+use Rattle.std.{proofs.Common.{◌≡◌, ◌≢◌, ℕ, List, [], ◌∷◌, Bool, true, false, if◌then◌else◌, ◌==◌, Option, Some, None, refl, sym, ◌∙◌, ap, ap₂, subst, length}, proofs.Math.Bool.and-false}
 use Rattle.definitions.{specs.CountedItems.{CountedSpan, counted_item_at}, specs.Pieces.{Mark, Star, Equals, Inside, ByMark, Piece, IsMark, begun_by_counted_item, spot_behind, left_of, onto_pieces, pieces_at, pieces_of}, specs.Expressions.{LocationCounter, OriginCounter, Operator, counter_of, onto_pairs, pairs_of}, specs.declared.number_base.NumberBase.NumberBase, proofs.GrammarLaws.{EndsElement, pairs_from-star, pairs_from}}
 use Rattle.expr_forms.specs.Joins.{Elements.{ends_element}, PiecesFound.{piece_as, spot_behind_piece}}
 use Rattle.expr_forms.specs.declared.pieces.Piece as codes

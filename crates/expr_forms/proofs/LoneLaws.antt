@@ -140,3 +140,10 @@ other-again (term ∷ terms) = again-by term terms (is_register term.element && 
 pub left-again : (registers : LoneRegisters) (terms : List Term) → other_terms (terms_left_by registers terms) ≡ other_terms terms
 left-again Kept terms = refl
 left-again LeftOut terms = other-again terms
+
+-- plus and minus join terms
+pub joins-shown : (o : Operator) → joins_terms o ≡ true → JoinsTerms o
+joins-shown Times e = cc
+joins-shown Divide e = cc
+joins-shown Add e = tt
+joins-shown Subtract e = tt

@@ -203,18 +203,6 @@ fn run_found<'a>(base: NumberBase, run: &'a [u8], rest: &'a [u8]) -> Option<Elem
     Some(ElementFound { element, rest })
 }
 
-/// The number that digits are.
-#[inline(always)]
-fn element_of_digits<'a>(base: NumberBase, digits: &[u8]) -> Option<Element<'a>>
-    requires { AreDigits digits.now }
-    ensures { option_map element_as result ≡ element_of_text base digits.now }
-{
-    match digits_read(base, digits) {
-        Some(number) => Some(Element::Number(number)),
-        None => None,
-    }
-}
-
 /// The number that digits are, with the text behind them.
 #[inline(always)]
 fn digits_found<'a>(base: NumberBase, digits: &'a [u8], rest: &'a [u8]) -> Option<ElementFound<'a>>
@@ -222,8 +210,13 @@ fn digits_found<'a>(base: NumberBase, digits: &'a [u8], rest: &'a [u8]) -> Optio
     ensures elements { (o : Operator) → elements_found base o result ≡ onto_pairs o (element_of_text base digits.now) (pairs_of base 0 (pieces_at Inside 0 rest.now)) }
     ensures rest { IfSome result (λ found. found.rest.now ≡ rest.now) }
 {
-    let element = element_of_digits(base, digits)?;
-    Some(ElementFound { element, rest })
+    match digits_read(base, digits) {
+        None => None,
+        Some(number) => Some(ElementFound {
+            element: Element::Number(number),
+            rest,
+        }),
+    }
 }
 
 /// The element that begins a text at the start of a field or behind one of the five marks, if one
@@ -233,20 +226,11 @@ pub(crate) fn next_element(base: NumberBase, text: &[u8]) -> Option<ElementFound
     ensures elements { (o : Operator) → pairs_from base o (pieces_of text.now) ≡ elements_found base o result }
     ensures shorter { IfSome result (λ found. length found.rest.now < length text.now) }
 {
-    if let Some(found) = digits_at_start(text) {
-        if ends_run(found.rest) {
-            return digits_found(base, found.digits, found.rest);
+    if let Some((digits, rest)) = digits_at_start(text) {
+        if ends_run(rest) {
+            return digits_found(base, digits, rest);
         }
     }
-    next_of_any(base, text)
-}
-
-/// The same, whatever begins the text.
-#[inline(always)]
-fn next_of_any(base: NumberBase, text: &[u8]) -> Option<ElementFound<'_>>
-    ensures elements { (o : Operator) → pairs_from base o (pieces_of text.now) ≡ elements_found base o result }
-    ensures shorter { IfSome result (λ found. length found.rest.now < length text.now) }
-{
     let found = piece_at_start(text)?;
     match found.piece {
         Piece::Run(run) => run_found(base, run, found.rest),

@@ -1,18 +1,20 @@
 //! One expression: a subfield's text that was read once, and its elements from left to right
 //! (COMPASS 60492600, address expressions).
-ghost use Rattle.std.specs.Prelude.{◌≡◌, ◌≤◌, ◌<◌, ◌∷◌, [], length, option_map, IfSome, MatchOption, MatchResult, Some, None};
+ghost use Rattle.std.specs.Prelude.{◌≡◌, ◌≤◌, ◌<◌, ◌∷◌, [], true, length, option_map, IfSome, MatchResult, Some, None};
 ghost use Rattle.definitions.specs.Pieces.{Inside, pieces_at, pieces_of};
 ghost use Rattle.definitions.specs.Expressions.{Add, pairs_of, grouped, with_sign, expression_of};
 ghost use Rattle.definitions.specs.Laws.Grammar.{operator_of};
 ghost use Rattle.definitions.specs.declared.number_base.NumberBase.{NumberBase};
 ghost use Rattle.definitions.proofs.GrammarLaws.{pairs_from};
 ghost use Rattle.expr_forms.specs.Joins.Elements.{sign_as, element_as};
-ghost use Rattle.expr_forms.specs.Joins.Links.{operator_as};
-ghost use Rattle.expr_forms.specs.Joins.LoneRegisters.{other_terms};
+ghost use Rattle.expr_forms.specs.Joins.Links.{operator_as, link_as};
+ghost use Rattle.expr_forms.specs.Joins.LoneRegisters.{joins_terms, other_terms, term_alone};
 ghost use Rattle.expr_forms.specs.Joins.Parsed.{are_plain, links_of, BeginsTerm};
 
 use crate::elements::{Element, Sign, next_element};
-use crate::links::{Link, LinkFound, Links, LoneRegisters, Operator, TextLinks, next_link};
+use crate::links::{
+    Link, LinkFound, Links, LoneRegisters, Operator, TextLinks, is_register, joins_terms, next_link,
+};
 use crate::plain::is_allowed;
 use definitions::{Letter, NumberBase};
 use std::marker::Model;
@@ -143,6 +145,23 @@ impl<'a> Expr<'a> {
         }
     }
 
+    /// The expression of this sign and of one link, which begins a term.
+    #[inline(always)]
+    fn of_link(base: NumberBase, sign: Sign, link: Link<'a>) -> Expr<'a>
+        requires { joins_terms (operator_as link.operator) ≡ true }
+        ensures { result ≡ record { sign = sign_as sign; terms = term_alone (link_as link.entry) ∷ [] } }
+    {
+        Expr {
+            base,
+            sign,
+            registers: LoneRegisters::Kept,
+            known_plain: is_allowed(false, link.element),
+            operator: link.operator,
+            element: link.element,
+            rest: &[],
+        }
+    }
+
     /// Its elements from left to right, each with the operator before it; that of the first is plus
     /// or minus, by the sign.
     pub fn links(&self) -> Links<'a>
@@ -195,18 +214,39 @@ impl<'a> Expr<'a> {
         self.sign
     }
 
-    /// The expression that is left without the terms that are one register, with this sign.
+    /// The link that is left of a register and of one link more, which is none.
+    #[inline(always)]
+    fn lone_other(&self) -> Option<Link<'a>>
+        ensures other { IfSome result (λ link. other_terms self.now.terms ≡ term_alone (link_as link) ∷ []) }
+        ensures joins { IfSome result (λ link. joins_terms (operator_as link.operator) ≡ true) }
+    {
+        let LinkFound::Link(link, behind) = next_link(self.base, self.rest) else {
+            return None;
+        };
+        let others = joins_terms(link.operator) && !is_register(link.element);
+        if behind.is_empty() && is_register(self.element) && others {
+            Some(link)
+        } else {
+            None
+        }
+    }
+
+    /// The expression that is left without the terms that are one register, with this sign. One link
+    /// that is left beside a register is an expression by itself.
     pub(crate) fn without_registers(&self, sign: Sign) -> Expr<'a>
         ensures { result ≡ record { sign = sign_as sign; terms = other_terms self.now.terms } }
     {
-        Expr {
-            base: self.base,
-            sign,
-            registers: LoneRegisters::LeftOut,
-            known_plain: false,
-            operator: self.operator,
-            element: self.element,
-            rest: self.rest,
+        match self.lone_other() {
+            Some(link) => Expr::of_link(self.base, sign, link),
+            None => Expr {
+                base: self.base,
+                sign,
+                registers: LoneRegisters::LeftOut,
+                known_plain: false,
+                operator: self.operator,
+                element: self.element,
+                rest: self.rest,
+            },
         }
     }
 }

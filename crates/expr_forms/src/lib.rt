@@ -5,12 +5,12 @@
 //!
 //! An `Expr` is its first element and the text behind it, checked once; contracts see the
 //! definitions' tree, and all that is asked of it goes by its `Links`. `take_apart` gives the
-//! registers that are terms by themselves, and K of the other terms: the same text with a flag, by
-//! which `Links` leaves them out. `Subfields` goes from mark to mark, so a comma in a counted item
-//! cuts nothing. A `Shape` is an instruction before any name is known. `value` has two
-//! accumulators, the sum so far and the open term, so that the first fault in the text comes out;
-//! what names mean is the trait `Names`. `KeptExpr` and its like are what was read without the
-//! text; each gives back exactly that. Texts have at most 711 characters.
+//! registers that are terms by themselves, and K of the other terms: their one link, or the same
+//! text with a flag, by which `Links` leaves those out. `Subfields` goes from mark to mark, so a
+//! comma in a counted item cuts nothing. A `Shape` is an instruction before any name is known.
+//! `value` has two accumulators, the sum so far and the open term, so that the first fault in the
+//! text comes out; what names mean is the trait `Names`. `KeptExpr` and its like are what was read
+//! without the text; each gives back exactly that. Texts have at most 711 characters.
 #![tactic(auto)]
 
 // Characters, numbers, symbols and the pieces of a field.

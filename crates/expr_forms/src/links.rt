@@ -67,7 +67,7 @@ pub(crate) fn joins_terms(operator: Operator) -> bool
 }
 
 #[inline(always)]
-fn is_register(element: Element<'_>) -> bool
+pub(crate) fn is_register(element: Element<'_>) -> bool
     ensures { result ≡ is_register (element_as element.entry) }
 {
     match element {

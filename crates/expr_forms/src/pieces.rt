@@ -64,26 +64,19 @@ pub(crate) fn run_len(text: &[u8]) -> usize
     text.len()
 }
 
-/// Digits, and the text behind them.
-#[derive(Clone, Copy)]
-pub(crate) struct DigitsFound<'a> {
-    pub(crate) digits: &'a [u8],
-    pub(crate) rest: &'a [u8],
-}
-
-/// The digits that begin a text, if some do: they are its first piece where a run ends behind them.
+/// The digits that begin a text, if some do, and what is behind them: they are its first piece where a
+/// run ends there.
 #[inline(always)]
-pub(crate) fn digits_at_start(text: &[u8]) -> Option<DigitsFound<'_>>
-    ensures pieces { IfSome result (λ found. ends_run found.rest.now ≡ true → pieces_of text.now ≡ Plain found.digits.now ∷ pieces_at Inside 0 found.rest.now) }
-    ensures digits { IfSome result (λ found. AreDigits found.digits.now) }
-    ensures shorter { IfSome result (λ found. length found.rest.now < length text.now) }
+pub(crate) fn digits_at_start(text: &[u8]) -> Option<(&[u8], &[u8])>
+    ensures pieces { IfSome result (λ found. ends_run found.1.now ≡ true → pieces_of text.now ≡ Plain found.0.now ∷ pieces_at Inside 0 found.1.now) }
+    ensures digits { IfSome result (λ found. AreDigits found.0.now) }
+    ensures shorter { IfSome result (λ found. length found.1.now < length text.now) }
 {
     let count = digit_count(text);
     if count == 0 {
         return None;
     }
-    let (digits, rest) = text.split_at(count);
-    Some(DigitsFound { digits, rest })
+    Some(text.split_at(count))
 }
 
 /// Whether a run ends where this text begins.

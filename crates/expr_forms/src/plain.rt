@@ -13,7 +13,7 @@ ghost use Rattle.expr_forms.specs.Joins.ElementLists.{elements_in, item_alone};
 use crate::counted_item::CountedItem;
 use crate::elements::{Element, Literal, Sign};
 use crate::expressions::Expr;
-use crate::links::Links;
+use crate::links::{Links, LoneRegisters};
 use definitions::{ItemText, Letter, NumberBase};
 
 /// How many bits a word has.
@@ -77,6 +77,7 @@ fn item_alone<'a>(links: &mut Links<'a>) -> Option<ItemText<'a>>
 }
 
 /// The item that an element is, if it is one.
+#[inline(always)]
 fn whole_item(element: Element<'_>) -> Option<ItemText<'_>>
     ensures { option_map item_as result ≡ whole_term (element_as element.entry) }
 {
@@ -115,7 +116,19 @@ impl<'a> Expr<'a> {
     }
 
     /// The item that is all of it, without a sign: such an item fills its field as in DATA.
+    #[inline(always)]
     pub fn whole_item(&self) -> Option<ItemText<'a>>
+        ensures { option_map item_as result ≡ whole_counted_item self.now.sign self.now.terms }
+    {
+        match (self.registers, whole_item(self.element)) {
+            (LoneRegisters::Kept, None) => None,
+            _ => self.item_among_links(),
+        }
+    }
+
+    /// The same by all links.
+    #[inline(never)]
+    fn item_among_links(&self) -> Option<ItemText<'a>>
         ensures { option_map item_as result ≡ whole_counted_item self.now.sign self.now.terms }
     {
         match self.sign() {

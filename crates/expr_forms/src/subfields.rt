@@ -172,9 +172,19 @@ impl<'a> Subfields<'a> {
         ensures some { IfSome result (λ digits. self.old ≡ (Plain digits.now ∷ []) ∷ self.new) }
         ensures digits { IfSome result (λ digits. AreDigits digits.now) }
     {
-        let found = digits_at_start(self.rest?)?;
-        self.rest = behind_end(found.rest)?;
-        Some(found.digits)
+        let Some(text) = self.rest else {
+            return None;
+        };
+        let Some((digits, behind)) = digits_at_start(text) else {
+            return None;
+        };
+        match behind_end(behind) {
+            None => None,
+            Some(rest) => {
+                self.rest = rest;
+                Some(digits)
+            }
+        }
     }
 
     /// The next subfield, where it is nothing before a comma, an item or a run: its piece, if it has

@@ -51,3 +51,7 @@ other_terms (term ∷ terms) = if is_register term.element && has_no_factors ter
 abbrev pub terms_left_by : LoneRegisters → List Term → List Term
 terms_left_by Kept terms = terms
 terms_left_by LeftOut terms = other_terms terms
+
+-- the term that a link is by itself
+abbrev pub term_alone : OperatorElement → Term
+term_alone pair = record { operator = pair.operator; element = pair.element; factors = [] }
