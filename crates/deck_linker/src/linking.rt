@@ -17,6 +17,7 @@ pub struct DeckLinking<'a> {
 impl Linking for DeckLinking<'_> {
     ghost linking = { λ d. linking_of d.layout.now d.based.now };
 
+    #[inline(never)]
     fn bits(&self, width: u32, form: Form) -> u64 {
         coded_or_zero(width, self.layout.linked_value(self.based, form))
     }

@@ -1,6 +1,7 @@
 //! The LINK A lines: fields that the values of a link do not fit.
 ghost use Rattle.std.specs.Prelude.{ℕ, ◌≡◌, ◌+◌, ◌*◌, ◌/◌, ◌^◌, ◌<◌, ◌≤◌, List, flat_map, length, map, reverse, slice_get, OnOk};
 ghost use Rattle.definitions.specs.Kinds.{unit_bits, word_bits};
+ghost use Rattle.definitions.specs.Layout.{block_base};
 ghost use Rattle.definitions.specs.LinkValues.{is_unfit};
 ghost use Rattle.definitions.specs.LinkLines.{address_lines, unfit_addresses, unfit_words};
 ghost use Rattle.deck_objects.specs.Joins.LineItems.{AreKept, AreShort};
@@ -14,6 +15,7 @@ use crate::linked_deck::{kind, name, parts};
 use crate::{Based, Layout};
 use deck_objects::{CodedLine, Line, LineFields, ObjectParts, listed};
 use definitions::DeckKind;
+use expr_forms::Name;
 use statement_coder::{Content, Item, number_coded};
 use std::alloc::AllocError;
 
@@ -56,26 +58,26 @@ fn word_of(kind: DeckKind, bit: u64) -> u64
 }
 
 /// Writes an A line for each of these fields that its value does not fit. The first of them begins at
-/// a bit of its block, which stands at a base.
+/// a bit of a block.
 fn push_unfit_items(
     out: &mut LinkText,
     layout: &Layout,
     based: &Based,
-    base: u128,
+    block: &Name,
     first: u64,
     items: &[Item],
 ) -> Result<(), AllocError>
-    requires base { base < 2 ^ 64 + 2 ^ 32 }
     requires first { first < 2 ^ 40 }
     requires few { length items.now < 2 ^ 32 }
     requires short { AreShort (map item_as items.now) }
-    ensures { OnOk result (out.new ≡ with_lines out.old (address_lines based.now.object.name base (unfit_words layout.now based.now first (map item_as items.now)))) }
+    ensures { OnOk result (out.new ≡ with_lines out.old (address_lines based.now.object.name (block_base layout.now.commons based.now block.now) (unfit_words layout.now based.now first (map item_as items.now)))) }
 {
     let deck = name(based);
     let kind = kind(based);
     let mut from = first;
     for item in items {
         if is_unfit(layout, based, item) {
+            let base = layout.block_base(based, block);
             out.push_address(b'A', deck, base + u128::from(word_of(kind, from)))?;
         }
         from += u64::from(item.width);
@@ -100,10 +102,9 @@ fn push_unfit_line(
     let Some(row) = parts.bases.rows().get(line.block as usize) else {
         return Ok(());
     };
-    let base = layout.block_base(based, row.name());
     let from = bit_of(kind(based), line.place);
     let items = listed(parts.items.as_slice(), first, count);
-    push_unfit_items(out, layout, based, base, from, items)
+    push_unfit_items(out, layout, based, row.name(), from, items)
 }
 
 /// Writes the A lines of a statement of the listing, which has none behind END.

@@ -38,6 +38,7 @@ pub fn coded_or_zero(width: u32, number: i128) -> u64
 }
 
 /// The bits of a field of at most 60 bits.
+#[inline(always)]
 pub fn linked_bits<L: Linking>(linking: &L, item: &Item) -> u64
     requires most { item.now.width ≤ 60 }
     requires room { HasRoom item.now.width (item_as item.now).content }

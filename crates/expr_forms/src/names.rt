@@ -55,7 +55,6 @@ impl Name {
     }
 
     /// Whether both have the same characters; the zeros behind them are compared too.
-    #[inline(always)]
     pub fn is_same(&self, other: &Name) -> bool
         ensures { result ≡ same_text self.now other.now }
     {
