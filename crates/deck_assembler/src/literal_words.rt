@@ -48,15 +48,11 @@ fn add_expression(words: &mut Literals, expression: &Expr<'_>) -> Result<bool, A
     ensures words { OnOk result (words.new ≡ with_literals (literals_in expression.now) words.old) }
     ensures bare { IfOk result (λ bare. bare ≡ true → literals_in expression.now ≡ []) }
 {
-    let mut rest = expression.literals();
-    match rest.next() {
-        None => Ok(true),
-        Some(literal) => {
-            words.add(literal_word(&literal))?;
-            add_left(words, rest)?;
-            Ok(false)
-        }
+    if expression.is_plain(false) {
+        return Ok(true);
     }
+    add_left(words, expression.literals())?;
+    Ok(false)
 }
 
 /// Takes in the literals in K or n of an instruction, and returns whether there are none.
