@@ -2,6 +2,7 @@
 ghost use Rattle.std.specs.Prelude.{◌≡◌, ◌≤◌, ◌+◌, ◌-◌, ◌^◌, ◌∷◌, [], List, min, reverse, IfOk, OnOk, true};
 ghost use Rattle.definitions.specs.Cards as cards;
 ghost use Rattle.definitions.specs.Operands as operands;
+ghost use Rattle.definitions.specs.Operands.{operand_of};
 ghost use Rattle.definitions.specs.Statements as statements;
 ghost use Rattle.definitions.specs.Laws.States.{names_of_blocks, advanced};
 ghost use Rattle.definitions.specs.declared.deck_kind.DeckKind as kinds;
@@ -24,7 +25,7 @@ use crate::pieces::{Piece, add_statement};
 use crate::sized_statement::{SizedStatement, label_of};
 use crate::symbol_table::SymbolTable;
 use expr_forms::Name;
-use statement_coder::{Defines, Meter, Reading, Statement, operand_letters, read_operand, size};
+use statement_coder::{Defines, Meter, Reading, Statement, operand_letters, size};
 use std::alloc::{AllocError, Global};
 use std::hash::RandomState;
 use use_blocks::{BlockState, Effect, Lengths, Literals};
@@ -56,16 +57,19 @@ impl Sizer {
         })
     }
 
-    /// Sizes the next statement, which has so many cards, and counts it in the meter. Where memory runs
-    /// out it is sized in part.
+    /// Sizes the next statement, whose operand was read, and which has so many cards, and counts it in the
+    /// meter. Where memory runs out it is sized in part.
     pub(crate) fn take(
         &mut self,
         alloc: Global,
         statement: &Statement<'_>,
+        reading: &Reading<'_>,
         count: u32,
         meter: &mut Meter,
     ) -> Result<(), AllocError>
-        requires { block_names self.old.lengths ≡ names_of_blocks self.old.state.blocks }
+        requires blocks { block_names self.old.lengths ≡ names_of_blocks self.old.state.blocks }
+        requires reading { IsReading reading.now (operand_of statement.now.kind self.old.state.number_base (operation_as statement.now.operation) statement.now.name.now statement.now.variable.now) }
+        requires lawful { IsLawful reading.now }
         ensures taken { OnOk result ((kind : kinds.DeckKind) (cards : List cards.Card) (earlier : List statements.Statement) (given : statements.Statement) →
             IsRead kind given.cards statement.now → IsNext cards earlier count given → IsSizer kind cards earlier self.old → IsSizer kind cards (given ∷ earlier) self.new) }
         ensures sized { meter.new.sized ≡ min (meter.old.sized + 1) (2 ^ 64 - 1) }
@@ -73,20 +77,13 @@ impl Sizer {
         ensures coded { meter.new.coded ≡ meter.old.coded }
     {
         let base = self.state.number_base();
-        let reading = read_operand(
-            statement.kind,
-            base,
-            statement.operation,
-            statement.name,
-            statement.variable,
-        );
         let (state, symbols) = (&self.state, &self.symbols);
         let keys = symbols.keys();
-        let letters = operand_letters(alloc, keys, statement, &reading, symbols, meter)?;
-        let sizing = size(alloc, statement, &reading, &letters, state, symbols, meter)?;
+        let letters = operand_letters(alloc, keys, statement, reading, symbols, meter)?;
+        let sizing = size(alloc, statement, reading, &letters, state, symbols, meter)?;
         let effect = sizing.effect(statement);
         let is_bare = self.note(
-            &reading,
+            reading,
             statement.location,
             sizing.defines(statement.kind),
             &effect,

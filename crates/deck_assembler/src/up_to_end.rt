@@ -27,7 +27,7 @@ use crate::sizer::Sizer;
 use cards::{Card, Span, StatementRoom, fields};
 use definitions::DeckKind;
 use operations::{KindSearch, is_end};
-use statement_coder::{Meter, Statement, known_statement};
+use statement_coder::{Meter, Statement, known_statement, read_operand};
 use std::alloc::{AllocError, Global};
 
 /// The kind that the operation field of the statement of these cards leaves a search with.
@@ -86,7 +86,14 @@ impl Sizer {
     {
         let statement = Statement::read(kind, span.of(cards), room);
         let ended = is_end(statement.name);
-        self.take(alloc, &statement, span.count as u32, meter)?;
+        let reading = &read_operand(
+            kind,
+            self.state.number_base(),
+            statement.operation,
+            statement.name,
+            statement.variable,
+        );
+        self.take(alloc, &statement, reading, span.count as u32, meter)?;
         Ok(ended)
     }
 

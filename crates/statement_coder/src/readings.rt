@@ -70,6 +70,7 @@ fn read_central<'a>(base: NumberBase, name: &[u8], text: &'a [u8]) -> Reading<'a
 }
 
 /// The operand of a peripheral instruction.
+#[inline(always)]
 fn read_peripheral<'a>(base: NumberBase, name: &[u8], text: &'a [u8]) -> Reading<'a>
     requires { length text.now ≤ 711 }
     ensures reading { IsReading result (peripheral_operand base (peripheral_row name.now) (subfields_of (pieces_of text.now))) }
@@ -99,6 +100,7 @@ fn allows_literals(kind: DeckKind) -> bool
 }
 
 /// The operand of DATA.
+#[inline(always)]
 fn read_data(base: NumberBase, text: &[u8]) -> Reading<'_>
     requires { length text.now ≤ 711 }
     ensures reading { IsReading result (words_operand (all_read (data_word base) (subfields_of (pieces_of text.now)))) }
@@ -111,6 +113,7 @@ fn read_data(base: NumberBase, text: &[u8]) -> Reading<'_>
 }
 
 /// The operand of CON.
+#[inline(always)]
 fn read_con(kind: DeckKind, base: NumberBase, text: &[u8]) -> Reading<'_>
     requires { length text.now ≤ 711 }
     ensures reading { IsReading result (words_operand (all_read (con_word (allows_literals kind) base) (subfields_of (pieces_of text.now)))) }
@@ -123,6 +126,7 @@ fn read_con(kind: DeckKind, base: NumberBase, text: &[u8]) -> Reading<'_>
 }
 
 /// The operand of VFD.
+#[inline(always)]
 fn read_vfd(kind: DeckKind, base: NumberBase, text: &[u8]) -> Reading<'_>
     requires { length text.now ≤ 711 }
     ensures reading { IsReading result (bits_operand (all_read (vfd_field (allows_literals kind) base) (subfields_of (pieces_of text.now)))) }
@@ -135,6 +139,7 @@ fn read_vfd(kind: DeckKind, base: NumberBase, text: &[u8]) -> Reading<'_>
 }
 
 /// The operand of DIS.
+#[inline(always)]
 fn read_dis(kind: DeckKind, base: NumberBase, text: &[u8]) -> Reading<'_>
     ensures reading { IsReading result (dis_operand kind base text.now) }
     ensures lawful { IsLawful result }
@@ -146,6 +151,7 @@ fn read_dis(kind: DeckKind, base: NumberBase, text: &[u8]) -> Reading<'_>
 }
 
 /// The operand of BSS, BSSZ, ORG, LOC and EQU.
+#[inline(always)]
 fn read_value(base: NumberBase, text: &[u8]) -> Reading<'_>
     requires { length text.now ≤ 711 }
     ensures reading { IsReading result (one_value base (subfields_of (pieces_of text.now))) }
@@ -159,6 +165,7 @@ fn read_value(base: NumberBase, text: &[u8]) -> Reading<'_>
 }
 
 /// The operand of BASE.
+#[inline(always)]
 fn read_base(text: &[u8]) -> Reading<'_>
     ensures reading { IsReading result (base_operand text.now) }
     ensures lawful { IsLawful result }
@@ -171,6 +178,7 @@ fn read_base(text: &[u8]) -> Reading<'_>
 }
 
 /// The operand of USE.
+#[inline(always)]
 fn read_use(kind: DeckKind, text: &[u8]) -> Reading<'_>
     ensures reading { IsReading result (use_operand kind text.now) }
     ensures lawful { IsLawful result }
@@ -181,6 +189,7 @@ fn read_use(kind: DeckKind, text: &[u8]) -> Reading<'_>
 
 /// What a variable field of at most 711 characters is to an operation of this name, in a deck of
 /// this kind: `Bad` where it is flagged V.
+#[inline(always)]
 pub fn read_operand<'a>(
     kind: DeckKind,
     base: NumberBase,
