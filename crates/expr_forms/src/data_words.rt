@@ -8,7 +8,7 @@ ghost use Rattle.definitions.specs.declared.letter.Letter.TheVariants as letter;
 ghost use Rattle.expr_forms.specs.Joins.Elements.{sign_as};
 ghost use Rattle.expr_forms.specs.Joins.Numbers.{number_as};
 ghost use Rattle.definitions.specs.Laws.ItemTexts.{item_as};
-ghost use Rattle.expr_forms.specs.Joins.PiecesFound.{mark_as, pieces_in};
+ghost use Rattle.expr_forms.specs.Joins.PiecesFound.{mark_as};
 ghost use Rattle.expr_forms.specs.Joins.Readings.{datum_as, alone, signed_word};
 
 use crate::elements::Sign;
@@ -100,22 +100,6 @@ fn data_word(base: NumberBase, text: &[u8]) -> Option<Datum<'_>>
     }
 }
 
-/// What a subfield of DATA of at most one piece is, if it is lawful.
-#[inline(always)]
-fn short_word(base: NumberBase, piece: Option<Piece<'_>>) -> Option<Datum<'_>>
-    ensures { option_map datum_as result ≡ data_word base (pieces_in piece.entry) }
-{
-    match piece {
-        None => Some(Datum::Zero),
-        Some(Piece::Run(run)) => match number_read(base, run) {
-            Some(number) => Some(Datum::Number(Sign::Absent, number)),
-            None => None,
-        },
-        Some(Piece::Item(item)) => Some(Datum::Item(item)),
-        Some(Piece::Mark(_)) => None,
-    }
-}
-
 /// The number that the next subfield of DATA is, where it is digits and nothing else and fits the
 /// base. Else none is taken.
 #[inline(always)]
@@ -137,12 +121,9 @@ fn next_word<'a>(base: NumberBase, subfields: &mut Subfields<'a>) -> Option<Opti
     ensures some { IfSome result (λ word. all_read (data_word base) subfields.old ≡ onto_all (option_map datum_as word) (all_read (data_word base) subfields.new)) }
     ensures fewer { IfSome result (λ word. length subfields.new < length subfields.old) }
 {
-    match subfields.next_short() {
-        Some(piece) => Some(short_word(base, piece)),
-        None => match subfields.next() {
-            None => None,
-            Some(text) => Some(data_word(base, text)),
-        },
+    match subfields.next() {
+        None => None,
+        Some(text) => Some(data_word(base, text)),
     }
 }
 

@@ -3,10 +3,10 @@
 ghost use Rattle.std.specs.Prelude.{◌≡◌, ◌≤◌, ◌+◌, ◌∷◌, [], true, length, drop, option_copied, IfNone, IfSome};
 ghost use Rattle.definitions.specs.Pieces.{AtStart, AtEquals, Inside, Plain, pieces_at, pieces_of, subfields_of};
 ghost use Rattle.expr_forms.specs.Joins.Numbers.{AreDigits};
-ghost use Rattle.expr_forms.specs.Joins.PiecesFound.{ends_run, pieces_in};
+ghost use Rattle.expr_forms.specs.Joins.PiecesFound.{ends_run};
 ghost use Rattle.expr_forms.specs.Joins.Subfields.{subfield_len, len_to_mark, text_behind, subfields_left};
 
-use crate::pieces::{Mark, Piece, digits_at_start, piece_at_start, run_len};
+use crate::pieces::{digits_at_start, run_len};
 use definitions::item_at;
 use std::marker::Model;
 
@@ -98,13 +98,6 @@ fn behind_comma(text: &[u8]) -> Option<&[u8]>
     Some(text.split_first()?.1)
 }
 
-/// A subfield of at most one piece, and the text behind the comma that ends it.
-#[derive(Clone, Copy)]
-struct ShortFound<'a> {
-    piece: Option<Piece<'a>>,
-    rest: Option<&'a [u8]>,
-}
-
 /// The text behind the end of a subfield that ends where this text begins: none behind the last one.
 #[inline(always)]
 fn behind_end(text: &[u8]) -> Option<Option<&[u8]>>
@@ -116,27 +109,6 @@ fn behind_end(text: &[u8]) -> Option<Option<&[u8]>>
         None => Some(None),
         Some((b',', rest)) => Some(Some(rest)),
         Some(_) => None,
-    }
-}
-
-/// The first subfield of a text, where it is nothing before a comma, an item or a run.
-#[inline(always)]
-fn short_at_start(text: &[u8]) -> Option<ShortFound<'_>>
-    ensures subfields { IfSome result (λ short. subfields_of (pieces_of text.now) ≡ pieces_in short.piece ∷ subfields_left (option_copied short.rest)) }
-    ensures within { IfSome result (λ short. IfSome short.rest (λ rest. length rest.now ≤ length text.now)) }
-{
-    let found = piece_at_start(text)?;
-    let piece = Some(found.piece);
-    match found.piece {
-        Piece::Mark(Mark::Comma) => Some(ShortFound {
-            piece: None,
-            rest: Some(found.rest),
-        }),
-        Piece::Mark(_) => None,
-        Piece::Item(_) | Piece::Run(_) => {
-            let rest = behind_end(found.rest)?;
-            Some(ShortFound { piece, rest })
-        }
     }
 }
 
@@ -185,18 +157,6 @@ impl<'a> Subfields<'a> {
                 Some(digits)
             }
         }
-    }
-
-    /// The next subfield, where it is nothing before a comma, an item or a run: its piece, if it has
-    /// one. Else none is taken.
-    #[inline(always)]
-    pub(crate) fn next_short(&mut self) -> Option<Option<Piece<'a>>>
-        ensures none { IfNone result (self.new ≡ self.old) }
-        ensures some { IfSome result (λ piece. self.old ≡ pieces_in piece ∷ self.new) }
-    {
-        let short = short_at_start(self.rest?)?;
-        self.rest = short.rest;
-        Some(short.piece)
     }
 
     /// The same subfields, to go over them once more.

@@ -32,11 +32,6 @@ abbrev pub pieces_found : Option found.PieceFound → List Piece
 pieces_found None = []
 pieces_found (Some found) = piece_as found.piece ∷ pieces_at (spot_behind_piece (piece_as found.piece)) 0 found.rest.now
 
--- the pieces of a subfield that has one piece at most
-abbrev pub pieces_in : Option pieces.Piece → List Piece
-pieces_in None = []
-pieces_in (Some piece) = piece_as piece ∷ []
-
 -- whether a run ends where this text begins
 abbrev pub ends_run : List ℕ → Bool
 ends_run [] = true
