@@ -15,7 +15,7 @@
 mod sheet;
 
 // The listing.
-mod card_numbers;
+mod card_line;
 mod decks_behind;
 mod field_lines;
 mod lines;

@@ -1,19 +1,16 @@
 //! The lines of a listing, one function for each kind of line.
-ghost use Rattle.std.specs.Prelude.{◌≡◌, ◌≤◌, ◌<◌, ◌+◌, ◌^◌, ◌++◌, ◌∷◌, [], codes, length, flat_map};
+ghost use Rattle.std.specs.Prelude.{◌≡◌, ◌≤◌, ◌<◌, ◌+◌, ◌^◌, ◌++◌, codes, length, flat_map};
 ghost use Rattle.definitions.specs.Kinds.{kind_text};
 ghost use Rattle.definitions.specs.Listing.{block_line, card_lines, central_line, letters_line, line, peripheral_line};
 ghost use Rattle.definitions.specs.Numerals.{decimal_of};
 
-use crate::card_numbers::CardNumber;
+use crate::card_line::CardLine;
 use crate::sheet::Sheet;
 use cards::{Card, DeckName};
-use definitions::{DeckKind, InlineText};
+use definitions::DeckKind;
 use operations::Letters;
 use text_ports::ShortText;
 use use_blocks::BlockRow;
-
-/// How long the line of a card is at most.
-const MOST_OF_CARD_LINE: usize = 88;
 
 /// The first line: the name and the kind of the deck.
 pub(crate) fn push_deck_line(text: &mut Sheet, name: &DeckName, kind: DeckKind)
@@ -26,28 +23,14 @@ pub(crate) fn push_deck_line(text: &mut Sheet, name: &DeckName, kind: DeckKind)
     text.put(b"\n");
 }
 
-/// A card behind its number in the deck.
-fn push_card_line(text: &mut Sheet, number: &mut CardNumber, card: &Card)
-    requires { number.old < 2 ^ 60 }
-    ensures text { text.new ≡ text.old ++ card_lines number.old (card.now ∷ []) }
-    ensures number { number.new ≡ number.old + 1 }
-{
-    let mut line = InlineText::<MOST_OF_CARD_LINE>::of(number.digits());
-    line.push(b' ');
-    line.append(card.as_slice());
-    line.push(b'\n');
-    text.put(line.as_slice());
-    number.count_up();
-}
-
 /// Cards behind their numbers in the deck.
-pub(crate) fn push_card_lines(text: &mut Sheet, number: &mut CardNumber, cards: &[Card])
-    requires { number.old + length cards.now < 2 ^ 60 }
-    ensures text { text.new ≡ text.old ++ card_lines number.old cards.now }
-    ensures number { number.new ≡ number.old + length cards.now }
+pub(crate) fn push_card_lines(text: &mut Sheet, next: &mut CardLine, cards: &[Card])
+    requires { next.old + length cards.now < 2 ^ 60 }
+    ensures text { text.new ≡ text.old ++ card_lines next.old cards.now }
+    ensures next { next.new ≡ next.old + length cards.now }
 {
     for card in cards {
-        push_card_line(text, number, card);
+        next.put(text, card.as_slice());
     }
 }
 

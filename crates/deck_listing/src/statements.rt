@@ -10,7 +10,7 @@ ghost use Rattle.deck_objects.specs.Joins.LineItems.{AreShort};
 ghost use Rattle.statement_coder.specs.Joins.Items.{item_as};
 ghost use Rattle.operations.specs.Joins.OperationsAs.{operation_as};
 
-use crate::card_numbers::CardNumber;
+use crate::card_line::CardLine;
 use crate::field_lines::{joined_fields, push_word_lines};
 use crate::lines::{push_card_lines, push_central_line, push_letters_line};
 use crate::sheet::Sheet;
@@ -89,20 +89,20 @@ fn push_stored(text: &mut Sheet, parts: &ObjectParts, stored: &CodedLine)
     }
 }
 
-/// The lines of a statement that has these cards, the first of which has this number.
+/// The lines of a statement that has these cards, the first of which has the next line.
 fn push_statement(
     text: &mut Sheet,
     parts: &ObjectParts,
-    number: &mut CardNumber,
+    next: &mut CardLine,
     cards: &[Card],
     shown: &Line,
 )
-    requires few { number.old + length cards.now < 2 ^ 60 }
+    requires few { next.old + length cards.now < 2 ^ 60 }
     requires listable { IsListableLine parts.now.kind parts.now.items.items shown.now.coded }
-    ensures text { text.new ≡ text.old ++ line_text parts.now.kind parts.now.bases parts.now.items.items number.old cards.now shown.now }
-    ensures number { number.new ≡ number.old + length cards.now }
+    ensures text { text.new ≡ text.old ++ line_text parts.now.kind parts.now.bases parts.now.items.items next.old cards.now shown.now }
+    ensures next { next.new ≡ next.old + length cards.now }
 {
-    push_card_lines(text, number, cards);
+    push_card_lines(text, next, cards);
     push_letters_line(text, &shown.letters);
     match &shown.coded {
         None => {}
@@ -125,11 +125,11 @@ pub(crate) fn push_statements(text: &mut Sheet, cards: &[Card], parts: &ObjectPa
     requires listable { AreListable parts.now.kind parts.now.items.items parts.now.lines.items }
     ensures { text.new ≡ text.old ++ lines_text parts.now.kind parts.now.bases parts.now.items.items 0 cards.now parts.now.lines.items }
 {
-    let mut number = CardNumber::first();
+    let mut next = CardLine::first();
     let mut ahead = cards;
     for shown in &parts.lines {
         let (own, behind) = split_cards(ahead, shown.cards);
-        push_statement(text, parts, &mut number, own, shown);
+        push_statement(text, parts, &mut next, own, shown);
         ahead = behind;
     }
 }

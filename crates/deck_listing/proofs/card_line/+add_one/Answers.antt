@@ -1,6 +1,6 @@
 use Rattle.std.proofs.{Common.{◌≡◌, ℕ, suc, ◌+◌, ◌/◌, ◌%◌, ◌≤◌, List, [], ◌∷◌, ◌++◌, length, sym, ap, ap₂, ◌∙◌, arith}, lemmas.List.same_from_push}
 use Rattle.definitions.specs.Numerals.{digits_of}
-use Rattle.deck_listing.proofs.card_numbers.+add_one.Goals as goal
+use Rattle.deck_listing.proofs.card_line.+add_one.Goals as goal
 
 -- behind a 9 stands 0, and the digits before it are counted up
 carried : (front after : List ℕ) (last count number : ℕ) → front ++ last ∷ [] ≡ digits_of 10 count number → length front + 1 ≡ count → 57 ≤ last →
