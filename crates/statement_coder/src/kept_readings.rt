@@ -79,7 +79,7 @@ impl Reading<'_> {
     {
         match self.in_few_bytes() {
             Some(kept) => Ok(kept),
-            None => KeptReading::spelt(alloc, statement, base),
+            None => Ok(KeptReading::spelt(alloc, statement, base)?),
         }
     }
 }

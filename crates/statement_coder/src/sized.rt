@@ -186,6 +186,6 @@ pub fn size<S: EarlySymbols>(
     count_sized(meter);
     match size_usual(statement, reading, of_operand, state, symbols) {
         Some(usual) => Ok(KeptSizing::of(usual)),
-        None => kept_settled(alloc, statement, reading, of_operand, state, symbols),
+        None => Ok(kept_settled(alloc, statement, reading, of_operand, state, symbols)?),
     }
 }

@@ -11,6 +11,6 @@ returns-in-Some-clause-sizing g c =
     subst (IsSizing code.kind view (settled_read code.kind (seen_from c.args.state.now view) (read_as code given operand))) (sym c.of.ensures)
     (c.in-Some.ensures.sizing given operand stray reading letters)
 
-pub returns-in-None-clause-needs_none : goal.returns-in-None-clause-needs_none
-returns-in-None-clause-needs_none g c = λ counting plain.
+pub returns-in_err-kept_settled-in-None-clause-needs_none : goal.returns-in_err-kept_settled-in-None-clause-needs_none
+returns-in_err-kept_settled-in-None-clause-needs_none g c = λ counting plain.
     absurd (true≢false (sym (c.size_usual.ensures.some counting plain) ∙ ap is_some c.in-None.is))
