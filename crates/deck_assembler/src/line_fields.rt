@@ -13,7 +13,7 @@ ghost use Rattle.deck_assembler.specs.Joins.KeptFields.{AreKeptAs, are_zeros};
 
 use crate::copied_lines::{listed_from, put_listed};
 use crate::known_bits::listed_bits;
-use deck_objects::LineFields;
+use deck_objects::{LineBits, LineFields};
 use statement_coder::{CodedItems, Item};
 use std::alloc::AllocError;
 
@@ -45,7 +45,7 @@ fn instruction_fields(instruction: &[Item], items: &mut Vec<Item>) -> Result<Lin
     ensures unchanged { OnErr result (items.new.items ≡ items.old.items) }
 {
     match listed_bits(instruction) {
-        Some(bits) => Ok(LineFields::Known(bits)),
+        Some(bits) => Ok(LineFields::Known(LineBits::new(bits))),
         None => linked_fields(instruction, items),
     }
 }
@@ -63,7 +63,7 @@ fn list_fields(count: usize, items: &mut Vec<Item>) -> Result<LineFields, AllocE
     let first = items.len().saturating_sub(count);
     if let Some(bits) = listed_bits(items.as_slice().split_at(first).1) {
         items.truncate(first);
-        return Ok(LineFields::Known(bits));
+        return Ok(LineFields::Known(LineBits::new(bits)));
     }
     listed_from(first, items)
 }

@@ -12,6 +12,7 @@
 
 // The names that a deck enters, and its statements, a line each.
 mod entries;
+mod line_bits;
 mod lines;
 
 // All of it, held by one or by several.
@@ -22,6 +23,7 @@ mod shared_object;
 mod linking;
 
 pub use entries::Entry;
+pub use line_bits::LineBits;
 pub use lines::{CodedLine, Line, LineFields, listed};
 pub use linking::{Linking, Unlinked, coded_or_zero, linked_bits};
 pub use object::{Object, ObjectParts};

@@ -5,6 +5,7 @@ ghost use Rattle.definitions.specs.StatementItems.{known};
 ghost use Rattle.statement_coder.specs.Joins.Items.{item_as};
 ghost use Rattle.deck_objects.specs.Joins.LineItems.{listed};
 
+use crate::line_bits::LineBits;
 use definitions::DeckKind;
 use operations::{Letters, Operation};
 use statement_coder::{Content, Item};
@@ -15,7 +16,7 @@ pub enum LineFields {
     /// It has none.
     Absent,
     /// All of them as one number, which reaches from the statement's place to its end: at most 60 bits.
-    Known(u64),
+    Known(LineBits),
     /// So many of the object's fields, from the first of them on.
     Listed { first: u32, count: u32 },
     /// Zeros from its place to its end, as BSSZ stores them.
@@ -38,13 +39,13 @@ pub struct CodedLine {
 
 impl CodedLine {
     /// Bits that reach from its place to its end, as a field.
-    pub fn known_field(&self, kind: DeckKind, bits: u64) -> Item
+    pub fn known_field(&self, kind: DeckKind, bits: LineBits) -> Item
         requires { (self.now.end - self.now.place) * unit_bits kind ≤ 60 }
         ensures { item_as result ≡ known ((self.now.end - self.now.place) * unit_bits kind) bits }
     {
         Item {
             width: self.end.saturating_sub(self.place) * kind.unit_bits(),
-            content: Content::Known(bits),
+            content: Content::Known(bits.get()),
             letter: None,
         }
     }

@@ -115,7 +115,7 @@ fn coded_line(answer: &mut Answer, line: &CodedLine) {
     answer.either(line.begins_run, "run", "-");
     match line.fields {
         LineFields::Absent => answer.word("absent"),
-        LineFields::Known(bits) => answer.octal(&bits),
+        LineFields::Known(bits) => answer.octal(&bits.get()),
         LineFields::Listed { first, count } => {
             answer.word("listed");
             answer.number(&first);
