@@ -84,6 +84,23 @@ impl Reading<'_> {
     }
 }
 
+impl Spelling {
+    /// The operand that it is to this operation in a deck of this kind.
+    #[inline(never)]
+    fn reading(&self, kind: DeckKind, operation: Operation) -> Reading<'_>
+        ensures reading { IsReading result (operand_of kind self.now.base (operation_as operation) self.now.name.items self.now.variable.items) }
+        ensures lawful { IsLawful result }
+    {
+        read_operand(
+            kind,
+            self.base,
+            operation,
+            self.name.as_slice(),
+            self.variable.as_slice(),
+        )
+    }
+}
+
 impl KeptReading {
     /// The operand of a statement as it spells it, under this base.
     #[inline(never)]
@@ -114,13 +131,7 @@ impl KeptReading {
         ensures whole { IsWhole kind result }
     {
         match self {
-            KeptReading::Spelt(spelling) => read_operand(
-                kind,
-                spelling.base,
-                operation,
-                spelling.name.as_slice(),
-                spelling.variable.as_slice(),
-            ),
+            KeptReading::Spelt(spelling) => spelling.reading(kind, operation),
             KeptReading::Unread => Reading::Unread,
             KeptReading::Bad => Reading::Bad,
             KeptReading::Instruction(kept) => Reading::Instruction(kept.shape()),
