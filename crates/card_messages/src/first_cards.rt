@@ -22,7 +22,7 @@ pub(crate) struct FirstCards {
 type Cards = IndexMap<u64, u32, RandomState>;
 
 /// The cards of a statement that has so many, of which no statement has more than ten.
-pub(crate) fn cards_of(cards: &[Card], count: u32) -> &[Card]
+pub(crate) fn cards_of(cards: &[Card], count: u16) -> &[Card]
     ensures { length result.now ≤ 10 }
 {
     cards.split_at(cards.len().min(count as usize).min(10)).0
@@ -84,7 +84,7 @@ impl FirstCards {
         for piece in deck.pieces() {
             for sized in piece.statements() {
                 first.note_statement(deck.kind(), sized, card)?;
-                card = card.saturating_add(sized.cards);
+                card = card.saturating_add(sized.cards as u32);
             }
         }
         Ok(first)

@@ -158,7 +158,7 @@ fn mentions_of(alloc: Global, cards: &[Card], sized: &SizedDeck) -> Result<Menti
             let read = Statement::read(sized.kind(), cards_of(left, statement.cards), &mut room);
             mentions.note_statement(&read, statement, card)?;
             left = left.split_at(left.len().min(statement.cards as usize)).1;
-            card = card.saturating_add(statement.cards);
+            card = card.saturating_add(statement.cards as u32);
         }
     }
     mentions.found.sort_unstable();

@@ -35,7 +35,7 @@ pub(crate) struct DeckLines {
 }
 
 /// The next so many cards, at most ten.
-pub(crate) fn next_cards(cards: &[Card], stood: usize, count: u32) -> &[Card]
+pub(crate) fn next_cards(cards: &[Card], stood: usize, count: u16) -> &[Card]
     ensures cards { count ≤ 10 → count ≤ length (drop stood cards.now) → result.now ≡ take count (drop stood cards.now) }
     ensures few { length result.now ≤ 10 }
 {
@@ -46,7 +46,7 @@ pub(crate) fn next_cards(cards: &[Card], stood: usize, count: u32) -> &[Card]
 }
 
 /// The cards behind the next so many.
-pub(crate) fn later_cards(cards: &[Card], count: u32) -> &[Card]
+pub(crate) fn later_cards(cards: &[Card], count: u16) -> &[Card]
     ensures { count ≤ length cards.now → result.now ≡ drop count cards.now }
 {
     cards.split_at((count as usize).min(cards.len())).1
@@ -111,7 +111,7 @@ impl DeckLines {
         let block = block_index(view.bases.rows(), sized.sizing.block(), self.block);
         let line = copied_line(found.coded, block, found.items, &mut self.items)?;
         self.lines.push(Line {
-            cards: sized.cards,
+            cards: sized.cards as u32,
             letters: found.line.letters.copied(),
             coded: Some(line),
         })?;

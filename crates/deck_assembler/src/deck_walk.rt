@@ -153,7 +153,7 @@ impl Making {
         ensures sized { meter.new.sized ≡ meter.old.sized }
     {
         for sized in piece {
-            let found = former.next(self.lines.stood, sized.cards);
+            let found = former.next(self.lines.stood, sized.cards as u32);
             self.add(view, sized, found, same, meter)?;
         }
         Ok(())

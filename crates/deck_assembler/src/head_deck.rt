@@ -29,7 +29,7 @@ fn is_of_head(sized: &SizedStatement, stood: usize, before: usize) -> bool
     ensures yes { result ≡ true → IsOfHead before stood sized.now }
     ensures no { IsOfHead before stood sized.now → result ≡ true }
 {
-    sized.operation.is_neutral() && ends_within(stood, sized.cards, before)
+    sized.operation.is_neutral() && ends_within(stood, sized.cards as u32, before)
 }
 
 /// The first statements of a deck, as far as they are neutral and end within so many cards.

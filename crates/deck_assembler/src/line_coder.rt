@@ -53,7 +53,7 @@ pub(crate) fn statement_line(
     let coded = code(read, &sized.sizing, view, &bases, items, &mut room, meter)?;
     let line = coded_line(read.operation, block, &sized.sizing, coded.items, items)?;
     Ok(Line {
-        cards: sized.cards,
+        cards: sized.cards as u32,
         letters: coded.letters,
         coded: Some(line),
     })

@@ -12,7 +12,7 @@ use statement_coder::{KeptReading, KeptSizing};
 /// behind those before it.
 #[derive(Drop)]
 pub struct SizedStatement {
-    pub cards: u32,
+    pub cards: u16,
     pub operation: Operation,
     pub label: Name,
     pub is_bare: bool,

@@ -64,7 +64,7 @@ impl Sizer {
         alloc: Global,
         statement: &Statement<'_>,
         reading: &Reading<'_>,
-        count: u32,
+        count: u16,
         meter: &mut Meter,
     ) -> Result<(), AllocError>
         requires blocks { block_names self.old.lengths ≡ names_of_blocks self.old.state.blocks }

@@ -93,7 +93,7 @@ impl Sizer {
             statement.name,
             statement.variable,
         );
-        self.take(alloc, &statement, reading, span.count as u32, meter)?;
+        self.take(alloc, &statement, reading, span.count as u16, meter)?;
         Ok(ended)
     }
 
