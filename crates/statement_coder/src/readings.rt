@@ -1,20 +1,20 @@
 //! What the variable field of a statement is to its operation, before any name is known
 //! (COMPASS 60492600, variable field).
-ghost use Rattle.std.specs.Prelude.{◌≡◌, ◌≤◌, ℕ, List, true, false, length};
+ghost use Rattle.std.specs.Prelude.{◌≡◌, ◌≤◌, true, false, length, is_some, option_and_then, IfSome, IsTrue};
 ghost use Rattle.definitions.specs.Pieces.{pieces_of, subfields_of};
 ghost use Rattle.definitions.specs.PeripheralTable.{peripheral_row};
 ghost use Rattle.definitions.specs.Operands.{operand_of, central_operand, peripheral_operand, base_operand, words_operand, bits_operand, all_read, data_word, con_word, vfd_field, one_value, dis_operand, use_operand};
 ghost use Rattle.definitions.specs.Matching.{central_of};
 ghost use Rattle.definitions.specs.Kinds.{allows_literals};
 ghost use Rattle.definitions.specs.Operations.{is_data};
-ghost use Rattle.expr_forms.specs.Joins.Operands.{is_operand};
+ghost use Rattle.expr_forms.specs.Joins.Shapes.{instruction_as};
 ghost use Rattle.operations.specs.Joins.OperationsAs.{operation_as};
 ghost use Rattle.statement_coder.specs.Joins.Readings.{IsReading, IsLawful, is_listed};
 
 use definitions::{DeckKind, NumberBase};
 use expr_forms::{
-    BitFields, ConWords, DataWords, DisText, Expr, LinkedNames, Shape, UseField, dis_text,
-    number_base, one_value, operand, use_field,
+    BitFields, ConWords, DataWords, DisText, Expr, LinkedNames, Operand, Shape, Subfield, UseField,
+    dis_text, number_base, one_value, operand, use_field,
 };
 use operations::Operation;
 
@@ -37,21 +37,24 @@ pub enum Reading<'a> {
     Use(UseField),
 }
 
-/// What is no operand: to PS and NO alone, which read none, it is one.
+/// The central instruction of a field that is no expression, if it is one: what is no operand is one to PS and
+/// NO alone, which read none.
 #[inline(never)]
-fn read_ignoring<'a>(name: &[u8]) -> Reading<'a>
-    ensures reading { (base : NumberBase) (text : List ℕ) → is_operand base (subfields_of (pieces_of text)) ≡ false →
-        IsReading result (central_operand (central_of base name.now (subfields_of (pieces_of text)))) }
-    ensures lawful { IsLawful result }
-    ensures unlisted { is_listed result ≡ false }
+fn shape_of_subfields<'a>(base: NumberBase, name: &[u8], text: &'a [u8]) -> Option<Shape<'a>>
+    requires { length text.now ≤ 711 }
+    ensures instruction { option_and_then instruction_as result ≡ central_of base name.now (subfields_of (pieces_of text.now)) }
+    ensures central { IfSome result (λ shape. IsTrue (is_some (instruction_as shape))) }
 {
-    match cpu_opcodes::ignoring(name) {
-        Some(shape) => Reading::Instruction(shape),
-        None => Reading::Bad,
+    match operand(text, base) {
+        Ok(operand) => match cpu_opcodes::find(name, &operand) {
+            Ok(shape) => Some(shape),
+            Err(_) => None,
+        },
+        Err(_) => cpu_opcodes::ignoring(name),
     }
 }
 
-/// The operand of a central instruction.
+/// The operand of a central instruction. A field that is an expression has no comma, so it is not cut.
 #[inline(always)]
 fn read_central<'a>(base: NumberBase, name: &[u8], text: &'a [u8]) -> Reading<'a>
     requires { length text.now ≤ 711 }
@@ -59,14 +62,19 @@ fn read_central<'a>(base: NumberBase, name: &[u8], text: &'a [u8]) -> Reading<'a
     ensures lawful { IsLawful result }
     ensures unlisted { is_listed result ≡ false }
 {
-    let read = operand(text, base);
-    let Ok(operand) = &read else {
-        return read_ignoring(name);
-    };
-    let Ok(shape) = cpu_opcodes::find(name, operand) else {
-        return Reading::Bad;
-    };
-    Reading::Instruction(shape)
+    match Expr::parse(text, base) {
+        Ok(expression) => {
+            let operand = Operand::One(Subfield { text, expression });
+            match cpu_opcodes::find(name, &operand) {
+                Ok(shape) => Reading::Instruction(shape),
+                Err(_) => Reading::Bad,
+            }
+        }
+        Err(_) => match shape_of_subfields(base, name, text) {
+            Some(shape) => Reading::Instruction(shape),
+            None => Reading::Bad,
+        },
+    }
 }
 
 /// The operand of a peripheral instruction.
