@@ -2,7 +2,7 @@ mod PackingLaws
 pub mod ParcelSteps
 mod RiseLaws
 mod GatherLaws
-mod ZeroLaws
+mod WholeLaws
 mod MergeLaws
 mod JoinLaws
 mod NothingLaws

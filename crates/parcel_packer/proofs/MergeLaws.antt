@@ -219,24 +219,25 @@ pub runs_rise-append : (early late : List (List Parcel)) → DoRunsRise (early +
 runs_rise-append [] late h = (tt, h)
 runs_rise-append (run ∷ early) late h = let rest = runs_rise-append early late h.1 in ((h.0, rest.0), rest.1)
 
-pub parcels_in_runs-append : {Z : Type 0} (early late : List (Vec Span Z)) → parcels_in_runs (early ++ late) ≡ parcels_in_runs early ++ parcels_in_runs late
-parcels_in_runs-append [] late = refl
-parcels_in_runs-append (run ∷ early) late = ap (λ rs. parcels_in run.items ∷ rs) (parcels_in_runs-append early late)
+pub parcels_in_runs-append : {Z : Type 0} (size : ℕ) (early late : List (Vec Span Z)) → parcels_in_runs size (early ++ late) ≡ parcels_in_runs size early ++ parcels_in_runs size late
+parcels_in_runs-append size [] late = refl
+parcels_in_runs-append size (run ∷ early) late = ap (λ rs. parcels_in size run.items ∷ rs) (parcels_in_runs-append size early late)
 
 -- the halves of runs
-halves : {Z : Type 0} (runs early late : List (Vec Span Z)) (middle : ℕ) → early ≡ take middle runs → late ≡ drop middle runs → parcels_in_runs early ++ parcels_in_runs late ≡ parcels_in_runs runs
-halves runs early late middle e k = rw (e, k) (sym (parcels_in_runs-append (take middle runs) (drop middle runs)) ∙ ap parcels_in_runs (take-append-drop middle runs))
+halves : {Z : Type 0} (size : ℕ) (runs early late : List (Vec Span Z)) (middle : ℕ) → early ≡ take middle runs → late ≡ drop middle runs →
+    parcels_in_runs size early ++ parcels_in_runs size late ≡ parcels_in_runs size runs
+halves size runs early late middle e k = rw (e, k) (sym (parcels_in_runs-append size (take middle runs) (drop middle runs)) ∙ ap (parcels_in_runs size) (take-append-drop middle runs))
 
-pub halves_rise : {Z : Type 0} (runs early late : List (Vec Span Z)) (middle : ℕ) → early ≡ take middle runs → late ≡ drop middle runs → DoRunsRise (parcels_in_runs runs) →
-    DoRunsRise (parcels_in_runs early) × DoRunsRise (parcels_in_runs late)
-halves_rise runs early late middle e k h = runs_rise-append (parcels_in_runs early) (parcels_in_runs late) (rw (halves runs early late middle e k) h)
+pub halves_rise : {Z : Type 0} (size : ℕ) (runs early late : List (Vec Span Z)) (middle : ℕ) → early ≡ take middle runs → late ≡ drop middle runs → DoRunsRise (parcels_in_runs size runs) →
+    DoRunsRise (parcels_in_runs size early) × DoRunsRise (parcels_in_runs size late)
+halves_rise size runs early late middle e k h = runs_rise-append (parcels_in_runs size early) (parcels_in_runs size late) (rw (halves size runs early late middle e k) h)
 
-pub halves_filled : {Z : Type 0} (kind : DeckKind) (runs early late : List (Vec Span Z)) (middle : ℕ) → early ≡ take middle runs → late ≡ drop middle runs → (older newer words : List WordSpan) →
-    IsFilled (latest_value kind (parcels_in_runs early)) older → IsFilled (latest_value kind (parcels_in_runs late)) newer →
-    IsFilled (λ offset. option_or (found offset newer) (found offset older)) words → IsFilled (latest_value kind (parcels_in_runs runs)) words
-halves_filled kind runs early late middle e k older newer words h g both =
+pub halves_filled : {Z : Type 0} (kind : DeckKind) (size : ℕ) (runs early late : List (Vec Span Z)) (middle : ℕ) → early ≡ take middle runs → late ≡ drop middle runs → (older newer words : List WordSpan) →
+    IsFilled (latest_value kind (parcels_in_runs size early)) older → IsFilled (latest_value kind (parcels_in_runs size late)) newer →
+    IsFilled (λ offset. option_or (found offset newer) (found offset older)) words → IsFilled (latest_value kind (parcels_in_runs size runs)) words
+halves_filled kind size runs early late middle e k older newer words h g both =
     let Holds : List (List Parcel) → Type 0 = λ rs. IsFilled (latest_value kind rs) words in
-    subst Holds (halves runs early late middle e k) (filled_both kind (parcels_in_runs early) (parcels_in_runs late) older newer words h g both)
+    subst Holds (halves size runs early late middle e k) (filled_both kind (parcels_in_runs size early) (parcels_in_runs size late) older newer words h g both)
 
 -- what holds of a result holds with a weaker fact too
 pub if_ok : {T E : Type 0} (r : Result T E) (P Q : T → Type 0) → ((x : T) → P x → Q x) → IfOk r P → IfOk r Q

@@ -21,7 +21,7 @@ shifted_last a b w = rw pow-succ (lasts (a * 2 ^ w) b (a * (2 ^ w * 2)) (omega a
     lasts : (x y z : ℕ) → z ≡ 2 * x → (z + y) % 2 ≡ y % 2
     lasts x y z e = omega arith
 
-same_bits : (size : ℕ) (instruction : Bool) (v w n m : ℕ) (run : OpenRun) → v ≡ w → n ≡ m → put_bits size instruction v n run ≡ put_bits size instruction w m run
+pub same_bits : (size : ℕ) (instruction : Bool) (v w n m : ℕ) (run : OpenRun) → v ≡ w → n ≡ m → put_bits size instruction v n run ≡ put_bits size instruction w m run
 same_bits size instruction v w n m run e h = rw (e, h) refl
 
 -- bits behind bits are put as one number
@@ -33,9 +33,9 @@ put_bits-joined size instruction v (suc w) a b run h =
     rw (add-suc v w) (rw (shifted_half a b w, shifted_last a b w) (ap (λ r. put_bit size instruction (b % 2) r) rest))
 
 -- two runs with the same parcels and equal numbers
-same_run : (parcels : List Parcel) (p q f g b c : ℕ) → p ≡ q → f ≡ g → b ≡ c →
-    (let r : OpenRun = record { parcels = parcels; place = p; filled = f; bits = b } in r) ≡ record { parcels = parcels; place = q; filled = g; bits = c }
-same_run parcels p q f g b c e h k = rw (e, h, k) refl
+pub same_run : (xs ys : List Parcel) (p q f g b c : ℕ) → xs ≡ ys → p ≡ q → f ≡ g → b ≡ c →
+    (let r : OpenRun = record { parcels = xs; place = p; filled = f; bits = b } in r) ≡ record { parcels = ys; place = q; filled = g; bits = c }
+same_run xs ys p q f g b c d e h k = rw (d, e, h, k) refl
 
 put_bit-more : (size : ℕ) (instruction : Bool) (bit : ℕ) (run : OpenRun) → run.filled + 1 < size →
     put_bit size instruction bit run ≡ record { parcels = run.parcels; place = run.place; filled = run.filled + 1; bits = 2 * run.bits + bit }
@@ -61,11 +61,11 @@ shifted_more a w n = rw pow-succ (sums (a * 2 ^ w) n (a * (2 ^ w * 2)) (omega ar
 -- bits that stay within the parcel
 pub put_bits-within : (size : ℕ) (instruction : Bool) (w n : ℕ) (run : OpenRun) → n < 2 ^ w → run.filled + w < size →
     put_bits size instruction w n run ≡ record { parcels = run.parcels; place = run.place; filled = run.filled + w; bits = run.bits * 2 ^ w + n }
-put_bits-within size instruction zero n run h k = same_run run.parcels run.place run.place run.filled (run.filled + 0) run.bits (run.bits * 1 + n) refl (omega arith) (omega arith)
+put_bits-within size instruction zero n run h k = same_run run.parcels run.parcels run.place run.place run.filled (run.filled + 0) run.bits (run.bits * 1 + n) refl refl (omega arith) (omega arith)
 put_bits-within size instruction (suc w) n run h k =
     let rest = put_bits-within size instruction w (n / 2) run (half_below n w h) (omega arith) in
     rw rest (put_bit-more size instruction (n % 2) (record { parcels = run.parcels; place = run.place; filled = run.filled + w; bits = run.bits * 2 ^ w + n / 2 }) (omega arith)
-    ∙ same_run run.parcels run.place run.place (run.filled + w + 1) (run.filled + suc w) (2 * (run.bits * 2 ^ w + n / 2) + n % 2) (run.bits * 2 ^ suc w + n) refl (omega arith) (shifted_more run.bits w n))
+    ∙ same_run run.parcels run.parcels run.place run.place (run.filled + w + 1) (run.filled + suc w) (2 * (run.bits * 2 ^ w + n / 2) + n % 2) (run.bits * 2 ^ suc w + n) refl refl (omega arith) (shifted_more run.bits w n))
 
 -- bits that make the parcel whole
 pub put_bits-closing : (size : ℕ) (instruction : Bool) (w n : ℕ) (run : OpenRun) → n < 2 ^ w → 0 < w → run.filled + w ≡ size →
@@ -83,18 +83,14 @@ parcels_from-append instruction place (x ∷ xs) ys =
     ap (λ ps. parcel_at instruction place x ∷ ps) (parcels_from-append instruction (place + 1) xs ys
     ∙ ap (λ p. parcels_from instruction (place + 1) xs ++ parcels_from instruction p ys) (omega arith))
 
-cut-length : (width count number : ℕ) → length (cut width count number) ≡ count
+pub cut-length : (width count number : ℕ) → length (cut width count number) ≡ count
 cut-length width zero number = refl
 cut-length width (suc count) number =
     let rest = cut-length width count (number / 2 ^ width) in
     omega (arith, length-append (cut width count (number / 2 ^ width)) (number % 2 ^ width ∷ []))
 
-same_parcels : (xs ys : List Parcel) (p q : ℕ) → xs ≡ ys → p ≡ q →
-    (let r : OpenRun = record { parcels = xs; place = p; filled = 0; bits = 0 } in r) ≡ record { parcels = ys; place = q; filled = 0; bits = 0 }
-same_parcels xs ys p q e h = rw (e, h) refl
-
 -- one number more is one parcel more
-last_parcel : (instruction : Bool) (place count last low : ℕ) (parcels : List Parcel) (numbers : List ℕ) → length numbers ≡ count → last ≡ low →
+pub last_parcel : (instruction : Bool) (place count last low : ℕ) (parcels : List Parcel) (numbers : List ℕ) → length numbers ≡ count → last ≡ low →
     (parcels ++ parcels_from instruction place numbers) ++ parcel_at instruction (place + count) last ∷ [] ≡ parcels ++ parcels_from instruction place (numbers ++ low ∷ [])
 last_parcel instruction place count last low parcels numbers e h =
     rw (← e, h) (append_assoc parcels (parcels_from instruction place numbers) (parcel_at instruction (place + length numbers) low ∷ [])
@@ -106,7 +102,7 @@ pub put_bits-whole : (size : ℕ) (instruction : Bool) (count number place : ℕ
     ≡ record { parcels = parcels ++ parcels_from instruction place (cut size count number); place = place + count; filled = 0; bits = 0 }
 put_bits-whole size instruction zero number place parcels positive h =
     same_bits size instruction (size * 0) 0 number number (record { parcels = parcels; place = place; filled = 0; bits = 0 }) (omega arith) refl
-    ∙ same_parcels parcels (parcels ++ []) place (place + 0) (sym (append-nil parcels)) (omega arith)
+    ∙ same_run parcels (parcels ++ []) place (place + 0) 0 0 0 0 (sym (append-nil parcels)) (omega arith) refl refl
 put_bits-whole size instruction (suc count) number place parcels positive h =
     let run : OpenRun = record { parcels = parcels; place = place; filled = 0; bits = 0 } in
     let high = number / 2 ^ size in
@@ -121,4 +117,4 @@ put_bits-whole size instruction (suc count) number place parcels positive h =
     ∙ put_bits-joined size instruction (size * count) size high low run low_below
     ∙ ap (λ r. put_bits size instruction size low r) front
     ∙ put_bits-closing size instruction size low behind low_below positive one
-    ∙ same_parcels _ _ (place + count + 1) (place + suc count) (last_parcel instruction place count (0 * 2 ^ size + low) low parcels (cut size count high) (cut-length size count high) (omega arith)) (omega arith)
+    ∙ same_run _ _ (place + count + 1) (place + suc count) 0 0 0 0 (last_parcel instruction place count (0 * 2 ^ size + low) low parcels (cut size count high) (cut-length size count high) (omega arith)) (omega arith) refl refl

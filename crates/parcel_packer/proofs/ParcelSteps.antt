@@ -1,20 +1,6 @@
 -- The steps of putting a field into a run.
-use Rattle.std.proofs.{Common.{◌≡◌, ℕ, ◌+◌, ◌-◌, ◌*◌, ◌/◌, ◌%◌, ◌^◌, ◌<◌, ◌≤◌, Bool, List, [], ◌∷◌, ◌++◌, refl, sym, ap, subst, ◌∙◌, arith, append_assoc, append-nil}, Math.Nat.{mod-lt, pow-le-pow_right}, lemmas.Nat.{pow-add, pow_pos, shr_below, shr_split, shl_whole, mul-add-lt}}
-use Rattle.parcel_packer.{specs.Joins.Packing.{put_bits, parcel_at}, specs.Joins.Spans.{IsField, IsPut, IsSplit, parcels_in, span_parcels, run_of}, specs.declared.spans.Span.Span, specs.declared.spans.OpenParcel.OpenParcel, specs.declared.fields.Field.Field, proofs.PackingLaws.{put_bits-joined, put_bits-within, put_bits-closing}}
-
--- the first bits of a field and the rest
-pub split_bits : (field : Field) (width : ℕ) → IsField field → width < field.width →
-    IsSplit field (record { width = width; bits = field.bits / 2 ^ (field.width - width); is_instruction = field.is_instruction })
-    (record { width = field.width - width; bits = field.bits - field.bits / 2 ^ (field.width - width) * 2 ^ (field.width - width) % 2 ^ 64; is_instruction = field.is_instruction })
-split_bits field width h within =
-    let left = field.width - width in
-    let whole : width + left ≡ field.width = omega arith in
-    let short = h.short in
-    let first_below = shr_below field.bits width left (rw whole h.bits_fit) in
-    let unwrapped = shl_whole (field.bits / 2 ^ left) width left 64 first_below (omega arith) in
-    let parts = shr_split field.bits left in
-    let low = mod-lt field.bits (pow_pos left) in
-    record { width = whole; bits = rw unwrapped (omega (arith, parts)); first_fits = first_below; rest_fits = rw unwrapped (omega (arith, parts, low)); first_kind = refl; rest_kind = refl }
+use Rattle.std.proofs.{Common.{◌≡◌, ℕ, zero, suc, ◌+◌, ◌-◌, ◌*◌, ◌/◌, ◌%◌, ◌^◌, ◌<◌, ◌≤◌, List, [], ◌∷◌, ◌++◌, refl, sym, ap, ◌∙◌, arith, inl, inr, append_assoc, append-nil}, Math.Nat.mod-lt, lemmas.Nat.{pow-add, pow_pos, le-div, mod_below, shr_below, shr_split, mul-le, mul-add-lt}}
+use Rattle.parcel_packer.{specs.Joins.Packing.{OpenRun, put_bits}, specs.Joins.Spans.{IsOpen, IsPut, parcels_in, span_parcels, run_of}, specs.declared.spans.Span.Span, specs.declared.spans.OpenParcel.OpenParcel, specs.declared.fields.Field.Field, proofs.PackingLaws.{put_bits-joined, put_bits-whole, put_bits-within, same_bits, same_run}, proofs.RiseLaws.order_of}
 
 -- bits behind the bits of an open parcel fit both widths together
 pub joined_below : (a b f w : ℕ) → a < 2 ^ f → b < 2 ^ w → a * 2 ^ w + b < 2 ^ (f + w)
@@ -24,109 +10,90 @@ joined_below a b f w h k =
     let turned : 2 ^ w * 2 ^ f ≡ 2 ^ f * 2 ^ w = omega arith in
     omega (arith, together, below, turned)
 
-wider : (n : ℕ) → n ≤ 15 → 2 ^ n ≤ 2 ^ 15
-wider n h = pow-le-pow_right {n = 2} (omega arith) h
-
-pub joined_in_parcel : (a b f w : ℕ) → a < 2 ^ f → b < 2 ^ w → f + w ≤ 15 → a * 2 ^ w + b < 2 ^ 15
-joined_in_parcel a b f w h k within =
-    let below = joined_below a b f w h k in
-    let wide = wider (f + w) within in
-    omega (arith, below, wide)
-
 -- one span more
-pub parcels_in-push : (spans : List Span) (span : Span) → parcels_in (spans ++ span ∷ []) ≡ parcels_in spans ++ span_parcels span
-parcels_in-push [] span = append-nil (span_parcels span)
-parcels_in-push (first ∷ spans) span =
-    ap (λ ps. span_parcels first ++ ps) (parcels_in-push spans span) ∙ sym (append_assoc (span_parcels first) (parcels_in spans) (span_parcels span))
+pub parcels_in-push : (size : ℕ) (spans : List Span) (span : Span) → parcels_in size (spans ++ span ∷ []) ≡ parcels_in size spans ++ span_parcels size span
+parcels_in-push size [] span = append-nil (span_parcels size span)
+parcels_in-push size (first ∷ spans) span =
+    ap (λ ps. span_parcels size first ++ ps) (parcels_in-push size spans span) ∙ sym (append_assoc (span_parcels size first) (parcels_in size spans) (span_parcels size span))
 
-same_bits_in : (spans : List Span) (place filled b c : ℕ) → b ≡ c → run_of spans (record { place = place; filled = filled; bits = b }) ≡ run_of spans (record { place = place; filled = filled; bits = c })
-same_bits_in spans place filled b c e = rw e refl
-
--- a part that stays within the open parcel
-pub part_within : (size : ℕ) (spans : List Span) (next : OpenParcel) (part : Field) (bits : ℕ) → part.bits < 2 ^ part.width → next.filled + part.width < size →
-    bits ≡ next.bits * 2 ^ part.width + part.bits → bits < 2 ^ (next.filled + part.width) →
-    IsPut size spans next part spans (record { place = next.place; filled = next.filled + part.width; bits = bits })
-part_within size spans next part bits fits room e below = record {
-  run = same_bits_in spans next.place (next.filled + part.width) bits (next.bits * 2 ^ part.width + part.bits) e
-      ∙ sym (put_bits-within size part.is_instruction part.width part.bits (run_of spans next) fits room);
+-- a field that stays within the open parcel
+pub field_within : (size : ℕ) (spans : List Span) (next : OpenParcel) (field : Field) (bits : ℕ) → field.bits < 2 ^ field.width → next.filled + field.width < size →
+    bits ≡ next.bits * 2 ^ field.width + field.bits → bits < 2 ^ (next.filled + field.width) →
+    IsPut size spans next field spans (record { place = next.place; filled = next.filled + field.width; bits = bits })
+field_within size spans next field bits fits room e below = record {
+  run = same_run (parcels_in size spans) (parcels_in size spans) next.place next.place (next.filled + field.width) (next.filled + field.width) bits (next.bits * 2 ^ field.width + field.bits) refl refl refl e
+      ∙ sym (put_bits-within size field.is_instruction field.width field.bits (run_of size spans next) fits room);
   is_open = record { has_room = room; bits_fit = below };
-  more = [];
-  kept = sym (append-nil spans);
   end = omega arith;
 }
 
-closed_run : (old new : List Span) (span : Span) (place bits : ℕ) (instruction : Bool) → new ≡ old ++ span ∷ [] → span_parcels span ≡ parcel_at instruction place bits ∷ [] →
-    run_of new (record { place = place + 1; filled = 0; bits = 0 }) ≡ record { parcels = parcels_in old ++ parcel_at instruction place bits ∷ []; place = place + 1; filled = 0; bits = 0 }
-closed_run old new span place bits instruction e one = rw e (ap (λ ps. record { parcels = ps; place = place + 1; filled = 0; bits = 0 }) (parcels_in-push old span ∙ ap (λ ps. parcels_in old ++ ps) one))
+-- a number of parcels, one at least
+pub a_parcel : (size count : ℕ) → 0 < count → size ≤ size * count
+a_parcel size zero h = absurd (omega arith)
+a_parcel size (suc count) h = let product : size * suc count ≡ size * count + size = omega arith in omega (arith, product)
 
--- a part that makes the open parcel whole
-pub part_closing : (size : ℕ) (old new : List Span) (next : OpenParcel) (part : Field) (bits : ℕ) → part.bits < 2 ^ part.width → 0 < part.width → next.filled + part.width ≡ size →
-    bits ≡ next.bits * 2 ^ part.width + part.bits →
-    new ≡ old ++ (let s : Span = record { place = next.place; count = 1; bits = bits; is_instruction = part.is_instruction } in s) ∷ [] →
-    IsPut size old next part new (record { place = next.place + 1; filled = 0; bits = 0 })
-part_closing size old new next part bits fits some full e pushed = record {
-  run = closed_run old new (record { place = next.place; count = 1; bits = bits; is_instruction = part.is_instruction }) next.place (next.bits * 2 ^ part.width + part.bits) part.is_instruction pushed
-      (ap (λ b. parcel_at part.is_instruction next.place b ∷ []) e)
-      ∙ sym (put_bits-closing size part.is_instruction part.width part.bits (run_of old next) fits some full);
-  is_open = record { has_room = omega arith; bits_fit = omega arith };
-  more = (record { place = next.place; count = 1; bits = bits; is_instruction = part.is_instruction }) ∷ [];
-  kept = pushed;
-  end = let product : size * (next.place + 1) ≡ size * next.place + size = omega arith in omega (arith, product);
-}
+-- how many parcels are whole, and how many bits lie behind them
+pub record AreParted (size filled width count left : ℕ) : Type 0 where
+  pub parts : size * count + left ≡ filled + width
+  pub short : left < size
+  pub inside : left ≤ width
+  pub front : filled + (width - left) ≡ size * count
 
--- a field is put by putting its first bits and then the rest
-pub put_both : (size : ℕ) (old middle new : List Span) (next after end : OpenParcel) (field first rest : Field) → IsSplit field first rest →
-    IsPut size old next first middle after → IsPut size middle after rest new end → IsPut size old next field new end
-put_both size old middle new next after end field first rest parts front back = record {
-  run = back.run ∙ ap (λ r. put_bits size rest.is_instruction rest.width rest.bits r) front.run ∙ one_field;
-  is_open = back.is_open;
-  more = front.more ++ back.more;
-  kept = back.kept ∙ ap (λ s. s ++ back.more) front.kept ∙ append_assoc old front.more back.more;
-  end = omega (arith, parts.width, front.end, back.end);
-}
-  where
-    one_field : put_bits size rest.is_instruction rest.width rest.bits (put_bits size first.is_instruction first.width first.bits (run_of old next))
-        ≡ put_bits size field.is_instruction field.width field.bits (run_of old next)
-    one_field =
-        rw (parts.first_kind, parts.rest_kind, ← parts.width, parts.bits)
-        (sym (put_bits-joined size field.is_instruction first.width rest.width first.bits rest.bits (run_of old next) parts.rest_fits))
+pub parted : (size filled width : ℕ) → filled < size → size ≤ filled + width → AreParted size filled width ((filled + width) / size) ((filled + width) % size)
+parted size filled width h full =
+    let total = filled + width in
+    let some : 0 < size = omega arith in
+    let short = mod_below total size some in
+    let parts : size * (total / size) + total % size ≡ total = omega arith in
+    let one : 1 * size ≤ total = omega arith in
+    let whole = a_parcel size (total / size) (le-div 1 total size some one) in
+    record { parts = parts; short = short; inside = omega (arith, parts, whole); front = omega (arith, parts, whole) }
 
-abbrev whole : ℕ → Field → Span
-whole place part = record { place = place; count = 1; bits = part.bits; is_instruction = part.is_instruction }
+-- the parcels that a field makes whole have at most 60 bits, where so many parcels have 60
+pub few_whole : (size count filled width left : ℕ) → 60 % size ≡ 0 → size * count + left ≡ filled + width → filled < size → width ≤ 60 → size * count ≤ 60
+few_whole size count filled width left fills parts room short =
+    let most : size * (60 / size) ≡ 60 = omega arith in
+    elim (order_of count (60 / size + 1)) [
+      | inl few ↦ let le : size * count ≤ size * (60 / size) = mul-le size count size (60 / size) (omega arith) (omega arith) in omega (arith, most, le)
+      | inr many ↦
+          let product : size * (60 / size + 1) ≡ size * (60 / size) + size = omega arith in
+          let le : size * (60 / size + 1) ≤ size * count = mul-le size (60 / size + 1) size count (omega arith) many in
+          absurd (omega (arith, most, le, product))
+    ]
 
-abbrev open_at : ℕ → OpenParcel
-open_at place = record { place = place; filled = 0; bits = 0 }
-
--- a part of 15 bits makes a parcel whole in which nothing lies yet
-part_alone : (old : List Span) (next : OpenParcel) (part : Field) → next.filled ≡ 0 → next.bits ≡ 0 → part.bits < 2 ^ part.width → part.width ≡ 15 →
-    IsPut 15 old next part (old ++ whole next.place part ∷ []) (open_at (next.place + 1))
-part_alone old next part empty none fits width =
-    part_closing 15 old (old ++ whole next.place part ∷ []) next part part.bits fits (omega arith) (omega arith) (rw none (let e : part.bits ≡ 0 * 2 ^ part.width + part.bits = omega arith in e)) refl
-
-same_place : (old new : List Span) (next : OpenParcel) (field : Field) (a b : ℕ) → a ≡ b → IsPut 15 old next field new (open_at a) → IsPut 15 old next field new (open_at b)
-same_place old new next field a b e put = subst (λ n. IsPut 15 old next field new (open_at n)) e put
-
--- four parts of 15 bits, one behind the other
-pub four_alone : (old new : List Span) (next : OpenParcel) (field first behind second half third fourth : Field) → next.filled ≡ 0 → next.bits ≡ 0 → field.width ≡ 60 →
-    first.width ≡ 15 → second.width ≡ 15 → third.width ≡ 15 → IsSplit field first behind → IsSplit behind second half → IsSplit half third fourth →
-    new ≡ old ++ (whole next.place first ∷ whole (next.place + 1) second ∷ whole (next.place + 2) third ∷ whole (next.place + 3) fourth ∷ []) →
-    IsPut 15 old next field new (open_at (next.place + 4))
-four_alone old new next field first behind second half third fourth empty none width w1 w2 w3 s1 s2 s3 e =
-    let a = next.place in
-    let at1 = old ++ whole a first ∷ [] in
-    let at2 = at1 ++ whole (a + 1) second ∷ [] in
-    let at3 = at2 ++ whole (a + 2) third ∷ [] in
-    let at4 = at3 ++ whole (a + 3) fourth ∷ [] in
-    let w4 : fourth.width ≡ 15 = omega (arith, s1.width, s2.width, s3.width) in
-    let two : a + 1 + 1 ≡ a + 2 = omega arith in
-    let three : a + 2 + 1 ≡ a + 3 = omega arith in
-    let four : a + 3 + 1 ≡ a + 4 = omega arith in
-    let p1 = part_alone old next first empty none s1.first_fits w1 in
-    let p2 = same_place at1 at2 (open_at (a + 1)) second (a + 1 + 1) (a + 2) two (part_alone at1 (open_at (a + 1)) second refl refl s2.first_fits w2) in
-    let p3 = same_place at2 at3 (open_at (a + 2)) third (a + 2 + 1) (a + 3) three (part_alone at2 (open_at (a + 2)) third refl refl s3.first_fits w3) in
-    let p4 = same_place at3 at4 (open_at (a + 3)) fourth (a + 3 + 1) (a + 4) four (part_alone at3 (open_at (a + 3)) fourth refl refl s3.rest_fits w4) in
-    let p34 = put_both 15 at2 at3 at4 (open_at (a + 2)) (open_at (a + 3)) (open_at (a + 4)) half third fourth s3 p3 p4 in
-    let p234 = put_both 15 at1 at2 at4 (open_at (a + 1)) (open_at (a + 2)) (open_at (a + 4)) behind second half s2 p2 p34 in
-    let all = put_both 15 old at1 at4 next (open_at (a + 1)) (open_at (a + 4)) field first behind s1 p1 p234 in
-    let grouped : at4 ≡ old ++ (whole a first ∷ whole (a + 1) second ∷ whole (a + 2) third ∷ whole (a + 3) fourth ∷ []) = simp append_assoc in
-    subst (λ ss. IsPut 15 old next field ss (open_at (a + 4))) (grouped ∙ sym e) all
+-- a field that makes the open parcel whole: all parcels that are whole are one span
+pub field_whole : (size : ℕ) (old new : List Span) (next : OpenParcel) (field : Field) (count left joined last : ℕ) → IsOpen size next → field.bits < 2 ^ field.width → AreParted size next.filled field.width count left →
+    joined ≡ next.bits * 2 ^ (field.width - left) + field.bits / 2 ^ left → last ≡ field.bits % 2 ^ left →
+    new ≡ old ++ (let s : Span = record { place = next.place; count = count; bits = joined; is_instruction = field.is_instruction } in s) ∷ [] →
+    IsPut size old next field new (record { place = next.place + count; filled = left; bits = last })
+field_whole size old new next field count left joined last room fits h e f pushed =
+    let i = field.is_instruction in
+    let first = field.width - left in
+    let high = field.bits / 2 ^ left in
+    let low = field.bits % 2 ^ left in
+    let both = next.bits * 2 ^ first + high in
+    let inside = h.inside in
+    let width : first + left ≡ field.width = omega arith in
+    let high_below : high < 2 ^ first = shr_below field.bits first left (rw width fits) in
+    let low_below : low < 2 ^ left = mod-lt field.bits (pow_pos left) in
+    let space = room.has_room in
+    let some : 0 < size = omega arith in
+    let start : OpenRun = record { parcels = parcels_in size old; place = next.place; filled = 0; bits = 0 } in
+    let opened : put_bits size i next.filled next.bits start ≡ run_of size old next =
+    put_bits-within size i next.filled next.bits start room.bits_fit (omega arith)
+    ∙ same_run (parcels_in size old) (parcels_in size old) next.place next.place (0 + next.filled) next.filled (0 * 2 ^ next.filled + next.bits) next.bits refl refl (omega arith) (omega arith) in
+    let spans : OpenRun = record { parcels = parcels_in size old ++ span_parcels size (record { place = next.place; count = count; bits = both; is_instruction = i }); place = next.place + count; filled = 0; bits = 0 } in
+    let front : put_bits size i first high (run_of size old next) ≡ spans =
+    ap (λ r. put_bits size i first high r) (sym opened) ∙ sym (put_bits-joined size i next.filled first next.bits high start high_below)
+    ∙ same_bits size i (next.filled + first) (size * count) both both start h.front refl
+    ∙ put_bits-whole size i count both next.place (parcels_in size old) some (rw (← h.front) (joined_below next.bits high next.filled first room.bits_fit high_below)) in
+    let product : size * (next.place + count) ≡ size * next.place + size * count = omega arith in
+    record {
+      run = sym (same_bits size i field.width (first + left) field.bits (high * 2 ^ left + low) (run_of size old next) (sym width) (sym (shr_split field.bits left))
+          ∙ put_bits-joined size i first left high low (run_of size old next) low_below
+          ∙ ap (λ r. put_bits size i left low r) front
+          ∙ put_bits-within size i left low spans low_below (let short = h.short in omega arith)
+          ∙ same_run (spans.parcels) (parcels_in size new) (next.place + count) (next.place + count) (0 + left) left (0 * 2 ^ left + low) last (rw (pushed, e) (sym (parcels_in-push size old _))) refl (omega arith) (omega (arith, f)));
+      is_open = record { has_room = h.short; bits_fit = rw f low_below };
+      end = omega (arith, product, h.parts);
+    }

@@ -1,7 +1,7 @@
 -- Statements whose fields are put one behind the other have the parcels of the definitions; what is put rises.
-use Rattle.std.proofs.{Common.{◌≡◌, ◌≢◌, ℕ, zero, suc, ◌+◌, ◌-◌, ◌*◌, ◌/◌, ◌%◌, ◌^◌, ◌<◌, ◌≤◌, Bool, true, false, List, [], ◌∷◌, ◌++◌, replicate, reverse, refl, sym, ap, subst, ◌∙◌, arith, inl, inr}, lemmas.Bool.cases_order, lemmas.Bool.Decides.eqb_tells, lemmas.Nat.{pow_pos, le-div, shr_le, shr_split}, lemmas.List.{replicate_more, reverse-append}}
+use Rattle.std.proofs.{Common.{◌≡◌, ◌≢◌, ℕ, zero, suc, ◌+◌, ◌-◌, ◌*◌, ◌/◌, ◌%◌, ◌^◌, ◌<◌, ◌≤◌, Bool, true, false, List, [], ◌∷◌, ◌++◌, reverse, refl, sym, ap, subst, ◌∙◌, arith, inl, inr}, lemmas.Bool.cases_order, lemmas.Bool.Decides.eqb_tells, lemmas.Nat.{pow_pos, le-div}, lemmas.List.reverse-append}
 use Rattle.definitions.specs.{Characters.same_text, Kinds.{units, unit_bits, word_bits, most_words}, StatementItems.Item, Words.{Parcel, Coded, Linking, cut, parcels_from, width_of, joined, content_bits, parcels_of, onto_runs, runs_of}, Operations.is_instruction, declared.deck_kind.DeckKind.DeckKind, declared.deck_kind.DeckKind.TheVariants.{Rel, Abs, Periph}}
-use Rattle.parcel_packer.{specs.Joins.Packing.{OpenRun, Packed, DoItemsFit, end_bit, most_bits, moved, MayBegin, put_bit, put_bits, put_items, parcel_at, runs_in}, specs.Joins.Spans.{IsOpen, IsPut, IsKept, RiseWithin, DoRunsRise, places, parcels_in, run_of, span_parcels}, specs.declared.spans.Span.Span, specs.declared.spans.OpenParcel.OpenParcel, specs.declared.fields.Field.Field, proofs.PackingLaws.{put_bits-joined, put_bits-whole}, proofs.ParcelSteps.{joined_below, parcels_in-push}, proofs.RiseLaws.{rise-wider, rise-push, rise-append, places-append}}
+use Rattle.parcel_packer.{specs.Joins.Packing.{OpenRun, Packed, DoItemsFit, end_bit, most_bits, moved, MayBegin, put_bit, put_bits, put_items, parcel_at, runs_in}, specs.Joins.Spans.{IsOpen, IsPut, IsKept, RiseWithin, DoRunsRise, places, parcels_in, run_of, span_parcels}, specs.declared.spans.Span.Span, specs.declared.spans.OpenParcel.OpenParcel, specs.declared.fields.Field.Field, proofs.PackingLaws.{cut-length, put_bits-joined, put_bits-whole}, proofs.ParcelSteps.{joined_below, parcels_in-push}, proofs.RiseLaws.{parcels_rise, rise-wider, rise-push, rise-append, places-append}}
 
 joined-below : (linking : Linking) (items : List Item) → DoItemsFit linking items → joined linking items < 2 ^ width_of items
 joined-below linking [] h = omega arith
@@ -119,17 +119,17 @@ pub record IsMoved (size : ℕ) (old new : OpenParcel) (at_bit : ℕ) : Type 0 w
   pub filled : new.filled ≡ old.filled
   pub bits : new.bits ≡ old.bits
 
-same_open : (spans : List Span) (a : OpenParcel) (r : OpenRun) → run_of spans a ≡ r → (a.place ≡ r.place) × (a.filled ≡ r.filled) × (a.bits ≡ r.bits)
-same_open spans a r e = (ap (λ (x : OpenRun). x.place) e, ap (λ (x : OpenRun). x.filled) e, ap (λ (x : OpenRun). x.bits) e)
+same_open : (size : ℕ) (spans : List Span) (a : OpenParcel) (r : OpenRun) → run_of size spans a ≡ r → (a.place ≡ r.place) × (a.filled ≡ r.filled) × (a.bits ≡ r.bits)
+same_open size spans a r e = (ap (λ (x : OpenRun). x.place) e, ap (λ (x : OpenRun). x.filled) e, ap (λ (x : OpenRun). x.bits) e)
 
 whole_parcels : (size n : ℕ) → 0 < size → n % size ≡ 0 → size * (n / size) ≡ n
 whole_parcels size n some h = omega arith
 
-pub moved_open : (size : ℕ) (spans : List Span) (old new : OpenParcel) (at_bit : ℕ) → 0 < size → run_of spans new ≡ moved size at_bit (run_of spans old) → MayBegin size (run_of spans old) at_bit → IsMoved size old new at_bit
+pub moved_open : (size : ℕ) (spans : List Span) (old new : OpenParcel) (at_bit : ℕ) → 0 < size → run_of size spans new ≡ moved size at_bit (run_of size spans old) → MayBegin size (run_of size spans old) at_bit → IsMoved size old new at_bit
 moved_open size spans old new at_bit some e may = elim (eqb_tells old.filled 0) [
   | inl test ↦
       let first = test.1 in
-      let parts = same_open spans new (record { parcels = parcels_in spans; place = at_bit / size; filled = 0; bits = old.bits }) (rw test.0 at e) in
+      let parts = same_open size spans new (record { parcels = parcels_in size spans; place = at_bit / size; filled = 0; bits = old.bits }) (rw test.0 at e) in
       let whole = whole_parcels size at_bit some (may.1 first) in
       let p = parts.0 in
       let f = parts.1 in
@@ -139,7 +139,7 @@ moved_open size spans old new at_bit some e may = elim (eqb_tells old.filled 0) 
       let product : size * new.place ≡ size * (at_bit / size) = ap (λ n. size * n) p in
       record { at = omega arith; on = omega arith; filled = omega arith; bits = parts.2 }
   | inr test ↦
-      let parts = same_open spans new (run_of spans old) (rw test.0 at e) in
+      let parts = same_open size spans new (run_of size spans old) (rw test.0 at e) in
       let p = parts.0 in
       let f = parts.1 in
       let positive : 0 < old.filled = not_zero old.filled test.1 in
@@ -172,32 +172,21 @@ pub put_kept : (kind : DeckKind) (size : ℕ) (old new : List Span) (before next
 put_kept kind size old new before next after at_bit field earlier e kept m put within =
     let Opens : ℕ → Type 0 = λ n. IsOpen n after in
     let Rises : OpenRun → Type 0 = λ r. RiseWithin 0 (places r.parcels) r.place in
+    let Before : ℕ → Type 0 = λ n. RiseWithin 0 (places (parcels_in n old)) before.place in
+    let After : ℕ → Type 0 = λ n. RiseWithin 0 (places (parcels_in n new)) after.place in
     let most = within_parcels kind size (at_bit + field.width) e within in
     let end = put.end in
     let at = m.at in
     let reached : size * after.place + after.filled ≤ size * 524288 = omega arith in
     record {
       is_open = subst Opens e put.is_open;
-      rise = subst Rises (sym put.run) (put_bits-rise size field.is_instruction field.width field.bits (run_of old next) (rise-wider 0 (places (parcels_in old)) before.place next.place kept.rise m.on));
+      rise = subst After e
+          (subst Rises (sym put.run) (put_bits-rise size field.is_instruction field.width field.bits (run_of size old next) (rise-wider 0 (places (parcels_in size old)) before.place next.place (subst Before (sym e) kept.rise) m.on)));
       within = end_within kind after.place after.filled (rw e at reached);
       runs_rise = kept.runs_rise;
     }
 
 -- zero words
-cut-zero : (width count : ℕ) → cut width count 0 ≡ replicate count 0
-cut-zero width zero = refl
-cut-zero width (suc count) =
-    let none : 0 / 2 ^ width ≡ 0 = let le = shr_le 0 width in omega arith in
-    let rest : 0 % 2 ^ width ≡ 0 = let split = shr_split 0 width in omega arith in
-    both (0 / 2 ^ width) (0 % 2 ^ width) none rest (cut-zero width count)
-  where
-    both : (a b : ℕ) → a ≡ 0 → b ≡ 0 → cut width count 0 ≡ replicate count 0 → cut width count a ++ b ∷ [] ≡ replicate (suc count) 0
-    both a b e h front = rw (e, h) (ap (λ ns. ns ++ 0 ∷ []) front ∙ replicate_more count 0 ∙ ap (λ n. replicate n 0) (let more : count + 1 ≡ suc count = omega arith in more))
-
-zeros-rise : (place count : ℕ) → RiseWithin place (places (parcels_from false place (replicate count 0))) (place + count)
-zeros-rise place zero = omega arith
-zeros-rise place (suc count) = (omega arith, rise-wider (place + 1) (places (parcels_from false (place + 1) (replicate count 0))) (place + 1 + count) (place + suc count) (zeros-rise (place + 1) count) (omega arith))
-
 word_parcels : (kind : DeckKind) (count : ℕ) → word_bits kind * count ≡ unit_bits kind * (units kind * count)
 word_parcels Rel count = omega arith
 word_parcels Abs count = omega arith
@@ -214,20 +203,17 @@ no_bits (suc filled) bits e h = absurd (omega arith)
 
 pub zeros_put : (kind : DeckKind) (word count : ℕ) (old new : List Span) (next : OpenParcel) → next.filled ≡ 0 → IsOpen (unit_bits kind) next →
     new ≡ old ++ (let s : Span = record { place = units kind * word; count = units kind * count; bits = 0; is_instruction = false } in s) ∷ [] →
-    run_of new (record { place = units kind * word + units kind * count; filled = 0; bits = 0 })
-    ≡ put_bits (unit_bits kind) false (word_bits kind * count) 0 (moved (unit_bits kind) (word_bits kind * word) (run_of old next))
+    run_of (unit_bits kind) new (record { place = units kind * word + units kind * count; filled = 0; bits = 0 })
+    ≡ put_bits (unit_bits kind) false (word_bits kind * count) 0 (moved (unit_bits kind) (word_bits kind * word) (run_of (unit_bits kind) old next))
 zeros_put kind word count old new next f h pushed =
     let place = units kind * word in
     let zeros = units kind * count in
     let span : Span = record { place = place; count = zeros; bits = 0; is_instruction = false } in
-    let fresh = moved_fresh (unit_bits kind) (word_bits kind * word) place (run_of old next) f (no_bits next.filled next.bits f h.bits_fit) (word_place kind word) in
-    let whole = put_bits-whole (unit_bits kind) false zeros 0 place (parcels_in old) (unit_some kind) (pow_pos (unit_bits kind * zeros)) in
-    let number = cut-zero (unit_bits kind) zeros in
+    let fresh = moved_fresh (unit_bits kind) (word_bits kind * word) place (run_of (unit_bits kind) old next) f (no_bits next.filled next.bits f h.bits_fit) (word_place kind word) in
     sym (ap (λ r. put_bits (unit_bits kind) false (word_bits kind * count) 0 r) fresh
-    ∙ ap (λ w. put_bits (unit_bits kind) false w 0 (record { parcels = parcels_in old; place = place; filled = 0; bits = 0 })) (word_parcels kind count)
-    ∙ whole
-    ∙ ap (λ ns. record { parcels = parcels_in old ++ parcels_from false place ns; place = place + zeros; filled = 0; bits = 0 }) number
-    ∙ ap (λ ps. record { parcels = ps; place = place + zeros; filled = 0; bits = 0 }) (sym (ap parcels_in pushed ∙ parcels_in-push old span)))
+    ∙ ap (λ w. put_bits (unit_bits kind) false w 0 (record { parcels = parcels_in (unit_bits kind) old; place = place; filled = 0; bits = 0 })) (word_parcels kind count)
+    ∙ put_bits-whole (unit_bits kind) false zeros 0 place (parcels_in (unit_bits kind) old) (unit_some kind) (pow_pos (unit_bits kind * zeros))
+    ∙ ap (λ ps. record { parcels = ps; place = place + zeros; filled = 0; bits = 0 }) (sym (ap (parcels_in (unit_bits kind)) pushed ∙ parcels_in-push (unit_bits kind) old span)))
 
 most_units : (kind : DeckKind) (n : ℕ) → n ≤ most_words kind → units kind * n ≤ 524288
 most_units Rel n h = omega arith
@@ -244,10 +230,12 @@ zeros_kept kind word count old new next earlier h begins within pushed =
     let most = most_units kind (word + count) within in
     let product : units kind * (word + count) ≡ units kind * word + units kind * count = omega arith in
     let Rises : List Parcel → Type 0 = λ ps. RiseWithin 0 (places ps) (place + zeros) in
+    let Ends : ℕ → Type 0 = λ n. RiseWithin place (places (span_parcels (unit_bits kind) span)) (place + n) in
     record {
       is_open = record { has_room = unit_some kind; bits_fit = omega arith };
-      rise = subst Rises (sym (ap parcels_in pushed ∙ parcels_in-push old span))
-          (rise_both (parcels_in old) (span_parcels span) place (place + zeros) (rise-wider 0 (places (parcels_in old)) next.place place h.rise begins) (zeros-rise place zeros));
+      rise = subst Rises (sym (ap (parcels_in (unit_bits kind)) pushed ∙ parcels_in-push (unit_bits kind) old span))
+          (rise_both (parcels_in (unit_bits kind) old) (span_parcels (unit_bits kind) span) place (place + zeros) (rise-wider 0 (places (parcels_in (unit_bits kind) old)) next.place place h.rise begins)
+          (subst Ends (cut-length (unit_bits kind) zeros 0) (parcels_rise false place (cut (unit_bits kind) zeros 0))));
       within = omega arith;
       runs_rise = h.runs_rise;
     }
@@ -266,8 +254,8 @@ reverse-push runs run = reverse-append runs (run ∷ [])
 pub empty_kept : (kind : DeckKind) (earlier : List (List Parcel)) → DoRunsRise earlier → IsKept kind [] (record { place = 0; filled = 0; bits = 0 }) earlier
 empty_kept kind earlier h = record { is_open = record { has_room = unit_some kind; bits_fit = omega arith }; rise = omega arith; within = omega arith; runs_rise = h }
 
-pub whole_rise : (kind : DeckKind) (spans : List Span) (next : OpenParcel) (earlier : List (List Parcel)) → IsKept kind spans next earlier → RiseWithin 0 (places (parcels_in spans)) 524288
-whole_rise kind spans next earlier h = rise-wider 0 (places (parcels_in spans)) next.place 524288 h.rise h.within
+pub whole_rise : (kind : DeckKind) (spans : List Span) (next : OpenParcel) (earlier : List (List Parcel)) → IsKept kind spans next earlier → RiseWithin 0 (places (parcels_in (unit_bits kind) spans)) 524288
+whole_rise kind spans next earlier h = rise-wider 0 (places (parcels_in (unit_bits kind) spans)) next.place 524288 h.rise h.within
 
 -- a place behind the last bit is where the next bit goes anyhow
 pub moved_stays : (kind : DeckKind) (run : OpenRun) → moved (unit_bits kind) (end_bit (unit_bits kind) run) run ≡ run

@@ -1,5 +1,5 @@
 -- Numbers and spans that rise, and what spans that rise have at an offset.
-use Rattle.std.{proofs.Common.{◌≡◌, ℕ, zero, suc, ◌+◌, ◌/◌, ◌<◌, ◌≤◌, Bool, true, false, List, [], ◌∷◌, ◌++◌, Option, Some, None, replicate, refl, ap, subst, ◌∙◌, arith, ◌⊎◌, inl, inr}, specs.Prelude.if◌then◌else◌, proofs.lemmas.Bool.Decides.leb_tells, specs.Option.option_or}
+use Rattle.std.{proofs.Common.{◌≡◌, ℕ, suc, ◌+◌, ◌/◌, ◌<◌, ◌≤◌, Bool, true, false, List, [], ◌∷◌, ◌++◌, Option, Some, None, length, refl, ap, subst, ◌∙◌, arith, ◌⊎◌, inl, inr}, specs.Prelude.if◌then◌else◌, proofs.lemmas.Bool.Decides.leb_tells, specs.Option.option_or}
 use Rattle.definitions.specs.{Kinds.units, Words.{Parcel, parcels_from}, declared.deck_kind.DeckKind.DeckKind, declared.deck_kind.DeckKind.TheVariants.{Rel, Abs, Periph}}
 use Rattle.parcel_packer.specs.{Joins.Spans.{RiseWithin, places}, Joins.Filling.{DoSpansRise, found, is_within}, declared.word_spans.WordSpan.WordSpan}
 
@@ -94,18 +94,23 @@ found-under offset low (span ∷ spans) high h k =
     let first = h.0 in
     found-before offset span spans (omega arith) ∙ found-under offset (span.offset + span.count) spans high h.2 (omega arith)
 
--- what follows a span's parcels rises from its end
-behind_parcels : (instruction : Bool) (place count bits : ℕ) (ns : List ℕ) (high : ℕ) →
-    RiseWithin place (places (parcels_from instruction place (replicate count bits)) ++ ns) high → RiseWithin (place + count) ns high
-behind_parcels instruction place zero bits ns high h = rise-lower (place + 0) place ns high h (omega arith)
-behind_parcels instruction place (suc count) bits ns high h =
-    rise-lower (place + suc count) (place + 1 + count) ns high (behind_parcels instruction (place + 1) count bits ns high h.1) (omega arith)
+-- parcels one behind the other rise, and what follows them rises from their end
+pub parcels_rise : (instruction : Bool) (place : ℕ) (bits : List ℕ) → RiseWithin place (places (parcels_from instruction place bits)) (place + length bits)
+parcels_rise instruction place [] = omega arith
+parcels_rise instruction place (first ∷ bits) =
+    (omega arith, rise-wider (place + 1) (places (parcels_from instruction (place + 1) bits)) (place + 1 + length bits) (place + suc (length bits)) (parcels_rise instruction (place + 1) bits) (omega arith))
 
-pub span_rise : (low place count bits : ℕ) (instruction : Bool) (ns : List ℕ) (high : ℕ) →
-    RiseWithin low (places (parcels_from instruction place (replicate count bits)) ++ ns) high → 0 < count → (low ≤ place) × RiseWithin (place + count) ns high
-span_rise low place zero bits instruction ns high h some = absurd (omega arith)
-span_rise low place (suc count) bits instruction ns high h some =
-    (h.0, rise-lower (place + suc count) (place + 1 + count) ns high (behind_parcels instruction (place + 1) count bits ns high h.1) (omega arith))
+behind_parcels : (instruction : Bool) (place : ℕ) (bits ns : List ℕ) (high : ℕ) →
+    RiseWithin place (places (parcels_from instruction place bits) ++ ns) high → RiseWithin (place + length bits) ns high
+behind_parcels instruction place [] ns high h = rise-lower (place + 0) place ns high h (omega arith)
+behind_parcels instruction place (first ∷ bits) ns high h =
+    rise-lower (place + suc (length bits)) (place + 1 + length bits) ns high (behind_parcels instruction (place + 1) bits ns high h.1) (omega arith)
+
+pub span_rise : (low place : ℕ) (bits : List ℕ) (instruction : Bool) (ns : List ℕ) (high : ℕ) →
+    RiseWithin low (places (parcels_from instruction place bits) ++ ns) high → 0 < length bits → (low ≤ place) × RiseWithin (place + length bits) ns high
+span_rise low place [] instruction ns high h some = absurd (omega arith)
+span_rise low place (first ∷ bits) instruction ns high h some =
+    (h.0, rise-lower (place + suc (length bits)) (place + 1 + length bits) ns high (behind_parcels instruction (place + 1) bits ns high h.1) (omega arith))
 
 pub units_le : (kind : DeckKind) (m n : ℕ) → m ≤ n → m / units kind ≤ n / units kind
 units_le Rel m n h = omega arith
@@ -116,27 +121,26 @@ split_places : (low : ℕ) (xs ys : List Parcel) (high : ℕ) → RiseWithin low
 split_places low xs ys high h = rw places-append at h
 
 -- where a word is left open before a span, and what is behind the span
-pub after_span : (kind : DeckKind) (low place count bits : ℕ) (instruction : Bool) (rest : List Parcel) (high before after : ℕ) →
-    before ≤ low / units kind → RiseWithin low (places (parcels_from instruction place (replicate count bits) ++ rest)) high →
-    (0 < count → after ≤ (place + count) / units kind) → (count ≡ 0 → after ≡ before) →
+pub after_span : (kind : DeckKind) (low place : ℕ) (bits : List ℕ) (instruction : Bool) (rest : List Parcel) (high before after : ℕ) →
+    before ≤ low / units kind → RiseWithin low (places (parcels_from instruction place bits ++ rest)) high →
+    (0 < length bits → after ≤ (place + length bits) / units kind) → (length bits ≡ 0 → after ≡ before) →
     (behind : ℕ) × (after ≤ behind / units kind) × RiseWithin behind (places rest) high
-after_span kind low place zero bits instruction rest high before after h rise some none = let e : after ≡ before = none refl in (low, omega arith, rise)
-after_span kind low place (suc count) bits instruction rest high before after h rise some none =
-    let split = split_places low (parcels_from instruction place (replicate (suc count) bits)) rest high rise in
-    let parts = span_rise low place (suc count) bits instruction (places rest) high split (omega arith) in
-    let e : after ≤ (place + suc count) / units kind = some (omega arith) in
-    (place + suc count, e, parts.1)
+after_span kind low place [] instruction rest high before after h rise some none = let e : after ≡ before = none refl in (low, omega arith, rise)
+after_span kind low place (first ∷ bits) instruction rest high before after h rise some none =
+    let split = split_places low (parcels_from instruction place (first ∷ bits)) rest high rise in
+    let parts = span_rise low place (first ∷ bits) instruction (places rest) high split (omega arith) in
+    (place + length (first ∷ bits), some (omega arith), parts.1)
 
 -- a span stands where its run may go on
-pub span_order : (kind : DeckKind) (low place count bits : ℕ) (instruction : Bool) (rest : List Parcel) (high before : ℕ) →
-    before ≤ low / units kind → RiseWithin low (places (parcels_from instruction place (replicate count bits) ++ rest)) high → 0 < count →
-    (before ≤ place / units kind) × (place + count ≤ high)
-span_order kind low place count bits instruction rest high before h rise some =
-    let split = split_places low (parcels_from instruction place (replicate count bits)) rest high rise in
-    let parts = span_rise low place count bits instruction (places rest) high split some in
+pub span_order : (kind : DeckKind) (low place : ℕ) (bits : List ℕ) (instruction : Bool) (rest : List Parcel) (high before : ℕ) →
+    before ≤ low / units kind → RiseWithin low (places (parcels_from instruction place bits ++ rest)) high → 0 < length bits →
+    (before ≤ place / units kind) × (place + length bits ≤ high)
+span_order kind low place bits instruction rest high before h rise some =
+    let split = split_places low (parcels_from instruction place bits) rest high rise in
+    let parts = span_rise low place bits instruction (places rest) high split some in
     let first = parts.0 in
     let le = units_le kind low place first in
-    let top = rise-order (place + count) (places rest) high parts.1 in
+    let top = rise-order (place + length bits) (places rest) high parts.1 in
     (omega arith, top)
 
 -- the first of rising spans ends where the others begin

@@ -1,5 +1,6 @@
 //! The words of several runs: where two have a word, it is the later run's.
 ghost use Rattle.std.specs.Prelude.{IfOk};
+ghost use Rattle.definitions.specs.Kinds.{unit_bits};
 ghost use Rattle.parcel_packer.specs.Joins.Spans.{DoRunsRise, parcels_in_runs};
 ghost use Rattle.parcel_packer.specs.Joins.Filling.{IsFilled, latest_value};
 
@@ -16,8 +17,8 @@ pub(crate) fn runs_words(
     kind: DeckKind,
     runs: &[Vec<Span>],
 ) -> Result<Vec<WordSpan>, AllocError>
-    requires { DoRunsRise (parcels_in_runs runs.now) }
-    ensures { IfOk result (λ words. IsFilled (latest_value kind (parcels_in_runs runs.now)) words.items) }
+    requires { DoRunsRise (parcels_in_runs (unit_bits kind) runs.now) }
+    ensures { IfOk result (λ words. IsFilled (latest_value kind (parcels_in_runs (unit_bits kind) runs.now)) words.items) }
 {
     if runs.is_empty() {
         return Ok(Vec::new(alloc));

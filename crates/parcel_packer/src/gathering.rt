@@ -5,8 +5,9 @@ ghost use Rattle.definitions.specs.Words.{Parcel, filling_of, word_of_parcels};
 ghost use Rattle.definitions.specs.declared.deck_kind.DeckKind.{DeckKind};
 ghost use Rattle.parcel_packer.specs.Joins.Packing.{parcel_at};
 ghost use Rattle.parcel_packer.specs.Joins.Spans.{RiseWithin, places, parcels_in, span_parcels};
-ghost use Rattle.parcel_packer.specs.Joins.Filling.{AreZeroWords, IsFilled, IsOpenWord, IsGathered, value_in, word_made, zero_parcels};
+ghost use Rattle.parcel_packer.specs.Joins.Filling.{AreWords, FillWords, IsFilled, IsOpenWord, IsGathered, value_in, word_made};
 
+use crate::fields::{last_bits, parcel_bits};
 use crate::spans::Span;
 use crate::word_spans::WordSpan;
 use definitions::DeckKind;
@@ -37,16 +38,28 @@ fn either(a: bool, b: bool) -> bool
     a || b
 }
 
-/// Whether a span is that of whole words of zeros, one or more.
-fn is_zero_words(kind: DeckKind, span: Span) -> bool
-    ensures { result ≡ true → AreZeroWords kind span }
+/// Whether a span is that of a whole word, or of whole words of zeros, one or more.
+fn are_words(kind: DeckKind, span: Span) -> bool
+    ensures { result ≡ true → AreWords kind span }
 {
     let units = kind.units();
-    span.count != 0
-        && span.place % units == 0
-        && span.count % units == 0
-        && span.bits == 0
-        && !span.is_instruction
+    span.place % units == 0
+        && (span.count == units
+            || span.bits == 0 && span.count != 0 && span.count % units == 0 && !span.is_instruction)
+}
+
+/// The bits of a parcel of a span behind which there are so many others.
+fn parcel(kind: DeckKind, bits: u64, behind: u32) -> u64
+    requires { behind ≤ 524288 }
+    ensures { result ≡ bits / 2 ^ (unit_bits kind * behind) % 2 ^ unit_bits kind }
+{
+    let size = parcel_bits(kind);
+    let shift = size * behind;
+    if shift < 64 {
+        last_bits(bits >> shift, size)
+    } else {
+        0
+    }
 }
 
 impl OpenWord {
@@ -185,52 +198,54 @@ impl Gathered {
         requires order { 0 < span.count → self.old.next.word ≤ span.place / units kind }
         requires room { 0 < span.count → span.place + span.count ≤ 524288 }
         ensures gathered { OnOk result ((parcels : List Parcel) → IsGathered kind parcels self.old.words.items self.old.next →
-            IsGathered kind (parcels ++ span_parcels span) self.new.words.items self.new.next) }
+            IsGathered kind (parcels ++ span_parcels (unit_bits kind) span) self.new.words.items self.new.next) }
         ensures word { OnOk result (0 < span.count → self.new.next.word ≡ (span.place + span.count - 1) / units kind) }
         ensures same { OnOk result (span.count ≡ 0 → self.new.next.word ≡ self.old.next.word) }
     {
         for index in 0..span.count {
-            self.add(kind, span.place + index, span.bits, span.is_instruction)?;
+            let bits = parcel(kind, span.bits, span.count - 1 - index);
+            self.add(kind, span.place + index, bits as u16, span.is_instruction)?;
         }
         Ok(())
     }
 
-    /// So many zero words from the open word on, in which nothing lies.
-    fn add_zeros(&mut self, count: u32) -> Result<(), AllocError>
+    /// So many words of one value from the open word on, in which nothing lies.
+    fn add_words(&mut self, count: u32, value: u64) -> Result<(), AllocError>
         requires empty { self.old.next.is_empty ≡ true }
         requires some { 0 < count }
         requires room { self.old.next.word + count ≤ 524288 }
-        ensures gathered { OnOk result ((kind : DeckKind) (parcels : List Parcel) → IsGathered kind parcels self.old.words.items self.old.next →
-            IsGathered kind (parcels ++ zero_parcels kind self.old.next.word count) self.new.words.items self.new.next) }
+        ensures gathered { OnOk result ((kind : DeckKind) (parcels more : List Parcel) → FillWords kind self.old.next.word count value more →
+            IsGathered kind parcels self.old.words.items self.old.next → IsGathered kind (parcels ++ more) self.new.words.items self.new.next) }
         ensures word { OnOk result (self.new.next.word ≡ self.old.next.word + count) }
     {
         let offset = self.next.word;
         self.words.push(WordSpan {
             offset,
             count,
-            value: 0,
+            value,
         })?;
-        self.next = OpenWord::at(offset + count);
+        self.next.word = offset + count;
         Ok(())
     }
 
-    /// A span more. Whole words of zeros are finished at once, however many they are.
+    /// A span more. A whole word, and whole words of zeros, however many they are, are finished at once.
     fn add_span(&mut self, kind: DeckKind, span: Span) -> Result<(), AllocError>
         requires order { 0 < span.count → self.old.next.word ≤ span.place / units kind }
         requires room { 0 < span.count → span.place + span.count ≤ 524288 }
         ensures gathered { OnOk result ((parcels : List Parcel) → IsGathered kind parcels self.old.words.items self.old.next →
-            IsGathered kind (parcels ++ span_parcels span) self.new.words.items self.new.next) }
+            IsGathered kind (parcels ++ span_parcels (unit_bits kind) span) self.new.words.items self.new.next) }
         ensures word { OnOk result (0 < span.count → self.new.next.word ≤ (span.place + span.count) / units kind) }
         ensures same { OnOk result (span.count ≡ 0 → self.new.next.word ≡ self.old.next.word) }
     {
-        if !is_zero_words(kind, span) {
+        if !are_words(kind, span) {
             return self.add_parcels(kind, span);
         }
         self.go_to(kind, span.place / kind.units())?;
         if !self.next.is_empty {
             return self.add_parcels(kind, span);
         }
-        self.add_zeros(span.count / kind.units())
+        let value = last_bits(span.bits, parcel_bits(kind) * kind.units());
+        self.add_words(span.count / kind.units(), value)
     }
 
     fn finish(mut self, kind: DeckKind) -> Result<Vec<WordSpan>, AllocError>
@@ -247,8 +262,8 @@ pub(crate) fn run_words(
     kind: DeckKind,
     run: &[Span],
 ) -> Result<Vec<WordSpan>, AllocError>
-    requires { RiseWithin 0 (places (parcels_in run.now)) 524288 }
-    ensures { IfOk result (λ words. IsFilled (value_in kind (parcels_in run.now)) words.items) }
+    requires { RiseWithin 0 (places (parcels_in (unit_bits kind) run.now)) 524288 }
+    ensures { IfOk result (λ words. IsFilled (value_in kind (parcels_in (unit_bits kind) run.now)) words.items) }
 {
     let mut gathered = Gathered::new(alloc, run.len() / 2)?;
     for span in run {

@@ -3,7 +3,7 @@
 //! operation, a symbol or a card.
 //!
 //! A run is a list of spans to which fields are put in order, at places in bits: an ORG to a far
-//! word is cheap, zeros are one span, and a field that fills a central word is four spans at once.
+//! word is cheap, and zeros are one span, as are all parcels that a field makes whole.
 //! Runs are merged in halves, and the later one has what both have.
 #![tactic(auto)]
 

@@ -1,11 +1,12 @@
 //! How a run is kept: whole parcels as spans, and the bits of the parcel behind them.
 
-/// Parcels of equal bits one behind the other, counted in parcels of the block.
+/// Parcels one behind the other, counted in parcels of the block; their bits are one number, the first
+/// parcel's first.
 #[derive(Clone, Copy, Drop)]
 pub(crate) struct Span {
     pub(crate) place: u32,
     pub(crate) count: u32,
-    pub(crate) bits: u16,
+    pub(crate) bits: u64,
     pub(crate) is_instruction: bool,
 }
 
@@ -14,5 +15,5 @@ pub(crate) struct Span {
 pub(crate) struct OpenParcel {
     pub(crate) place: u32,
     pub(crate) filled: u32,
-    pub(crate) bits: u32,
+    pub(crate) bits: u64,
 }

@@ -35,15 +35,16 @@ pub struct Words {
 
 impl Model for Words {
     ghost use Rattle.std.specs.Prelude.{reverse};
+    ghost use Rattle.definitions.specs.Kinds.{unit_bits};
     ghost use Rattle.parcel_packer.specs.Joins.Packing.{Packed};
 
     ghost Value = { Packed };
 
     ghost use Rattle.parcel_packer.specs.Joins.Spans.{IsKept, parcels_in_runs, run_of};
 
-    ghost view = { λ w. record { kind = w.kind; run = run_of w.run.items w.next; earlier = reverse (parcels_in_runs w.earlier.items) } };
+    ghost view = { λ w. record { kind = w.kind; run = run_of (unit_bits w.kind) w.run.items w.next; earlier = reverse (parcels_in_runs (unit_bits w.kind) w.earlier.items) } };
 
-    ghost invariant = { λ w. IsKept w.kind w.run.items w.next (parcels_in_runs w.earlier.items) };
+    ghost invariant = { λ w. IsKept w.kind w.run.items w.next (parcels_in_runs (unit_bits w.kind) w.earlier.items) };
 }
 
 impl Words {

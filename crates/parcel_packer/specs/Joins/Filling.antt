@@ -1,6 +1,6 @@
 -- What spans of words say of each word of a block, and what they are to say (ours).
-use Rattle.std.specs.{Prelude.{ℕ, zero, suc, ◌≡◌, ◌+◌, ◌-◌, ◌*◌, ◌%◌, ◌^◌, ◌<◌, ◌≤◌, List, [], ◌∷◌, ◌++◌, Option, None, Some, Bool, true, false, ◌&&◌, nat_le, nat_lt, max, min, replicate, unwrap_or, slice_index_or, if◌then◌else◌}, List.list_any, Option.option_or}
-use Rattle.definitions.specs.{Kinds.units, Words.{Parcel, StoredWord, bits_at, in_word, parcels_from, word_of_parcels}, declared.deck_kind.DeckKind.DeckKind}
+use Rattle.std.specs.{Prelude.{ℕ, zero, suc, ◌≡◌, ◌+◌, ◌-◌, ◌%◌, ◌^◌, ◌<◌, ◌≤◌, List, [], ◌∷◌, ◌++◌, Option, None, Some, Bool, true, false, ◌&&◌, nat_le, nat_lt, max, min, ◌⊎◌, unwrap_or, slice_index_or, if◌then◌else◌}, List.list_any, Option.option_or}
+use Rattle.definitions.specs.{Kinds.units, Words.{Parcel, StoredWord, bits_at, in_word, word_of_parcels}, declared.deck_kind.DeckKind.DeckKind}
 use Rattle.parcel_packer.specs.{declared.gathering.OpenWord.OpenWord, declared.spans.Span.Span, declared.word_spans.WordSpan.WordSpan}
 
 -- so many words of one value, one behind the other
@@ -62,17 +62,18 @@ abbrev pub word_made : DeckKind → ℕ → List Parcel → List WordSpan
 word_made kind offset [] = []
 word_made kind offset (parcel ∷ parcels) = record { offset = offset; count = 1; value = word_of_parcels kind (parcel ∷ parcels) } ∷ []
 
--- the parcels of so many zero words from a word on
-abbrev pub zero_parcels : DeckKind → ℕ → ℕ → List Parcel
-zero_parcels kind word count = parcels_from false (units kind * word) (replicate (units kind * count) 0)
-
--- a span is that of whole words of zeros
-pub record AreZeroWords (kind : DeckKind) (span : Span) : Type 0 where
-  pub some : 0 < span.count
+-- a span is that of a whole word, or of whole words of zeros
+pub record AreWords (kind : DeckKind) (span : Span) : Type 0 where
   pub from_word : span.place % units kind ≡ 0
   pub to_word : span.count % units kind ≡ 0
-  pub zero : span.bits ≡ 0
-  pub plain : span.is_instruction ≡ false
+  pub some : 0 < span.count
+  pub of : (span.count ≡ units kind) ⊎ ((span.bits ≡ 0) × (span.is_instruction ≡ false))
+
+-- parcels fill so many words, each with one value, and lie in no other
+pub record FillWords (kind : DeckKind) (first count value : ℕ) (parcels : List Parcel) : Type 0 where
+  pub has : (word : ℕ) → first ≤ word → word < first + count → value_in kind parcels word ≡ Some value
+  pub before : (word : ℕ) → word < first → in_word kind word parcels ≡ []
+  pub past : (word : ℕ) → first + count ≤ word → in_word kind word parcels ≡ []
 
 -- a run's parcels gathered: each word before the open one is finished, and nothing lies behind that
 pub record IsGathered (kind : DeckKind) (parcels : List Parcel) (spans : List WordSpan) (next : OpenWord) : Type 0 where

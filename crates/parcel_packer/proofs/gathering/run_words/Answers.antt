@@ -1,5 +1,5 @@
 use Rattle.std.proofs.Common.{arith, ◌<◌, length, take, List, subst}
-use Rattle.definitions.specs.Words.{Parcel}
+use Rattle.definitions.specs.{Kinds.unit_bits, Words.Parcel}
 use Rattle.parcel_packer.{specs.Joins.Spans.parcels_in, specs.Joins.Filling.IsGathered, proofs.GatherSteps.{run_more, next_order, next_stands}}
 use Rattle.parcel_packer.proofs.gathering.run_words.Goals as goal
 
@@ -25,6 +25,6 @@ loop-span-preserved c =
     let after = c.add_span.new.self in
     let Holds : List Parcel → Type 0 = λ ps. IsGathered c.args.kind ps after.words.items after.next in
     record {
-      gathered = subst Holds (run_more run index _ inside) (c.in_ok-add_span.ensures.gathered (parcels_in (take index run)) c.loop-span.invariant.gathered);
+      gathered = subst Holds (run_more (unit_bits c.args.kind) run index _ inside) (c.in_ok-add_span.ensures.gathered (parcels_in (unit_bits c.args.kind) (take index run)) c.loop-span.invariant.gathered);
       order = next_stands c.args.kind c.loop-span.gathered.next.word after.next.word run index _ inside c.loop-span.invariant.order c.in_ok-add_span.ensures.word c.in_ok-add_span.ensures.same;
     }

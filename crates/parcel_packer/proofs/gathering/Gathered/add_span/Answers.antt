@@ -1,16 +1,12 @@
-use Rattle.std.proofs.{Common.{◌++◌, List, refl, subst, sym}, lemmas.Result.on_ok_weaker}
-use Rattle.definitions.specs.Words.{Parcel}
-use Rattle.parcel_packer.{specs.Joins.Filling.IsGathered, proofs.ZeroLaws.zeros-span}
+use Rattle.std.proofs.{Common.{refl}, lemmas.Result.on_ok_weaker}
+use Rattle.definitions.specs.Kinds.{unit_bits}
+use Rattle.parcel_packer.{specs.Joins.Spans.span_parcels, proofs.WholeLaws.span_fills}
 use Rattle.parcel_packer.proofs.gathering.Gathered.add_span.Goals as goal
 
 pub returns-clause-gathered : goal.returns-clause-gathered
 returns-clause-gathered c =
     let kind = c.args.kind in
     let span = c.args.span in
-    let after = c.add_zeros.new.self in
-    let same = zeros-span kind span c.go_to.new.self.next.word c.units.result c.units-2.result (c.if-not-is_zero_words.ensures refl) c.units.ensures c.units-2.ensures c.in_ok-go_to.ensures.word in
-    on_ok_weaker c.add_zeros.result
-    (λ put parcels h.
-    let Holds : List Parcel → Type 0 = λ more. IsGathered kind (parcels ++ more) after.words.items after.next in
-    subst Holds (sym same) (put kind parcels (c.in_ok-go_to.ensures.gathered parcels h)))
-    c.add_zeros.ensures.gathered
+    let fill = span_fills kind span c.units.result c.units-3.result c.parcel_bits.result c.units-2.result c.go_to.new.self.next.word c.last_bits-value.result (c.if-not-are_words.ensures refl)
+    c.units.ensures c.units-3.ensures c.parcel_bits.ensures.size c.units-2.ensures c.in_ok-go_to.ensures.word c.last_bits-value.ensures in
+    on_ok_weaker c.add_words.result (λ put parcels h. put kind parcels (span_parcels (unit_bits kind) span) fill (c.in_ok-go_to.ensures.gathered parcels h)) c.add_words.ensures.gathered

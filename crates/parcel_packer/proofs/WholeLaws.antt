@@ -1,0 +1,221 @@
+-- A whole word, and whole words of zeros, gathered at once.
+use Rattle.std.{proofs.Common.{◌≡◌, ◌≢◌, ℕ, zero, suc, ◌+◌, ◌*◌, ◌/◌, ◌%◌, ◌^◌, ◌<◌, ◌≤◌, Bool, true, false, nat_eq, List, [], ◌∷◌, ◌++◌, Some, length, replicate, refl, sym, ap, subst, ◌∙◌, arith, inl, inr, append-nil}, specs.List.list_any, proofs.lemmas.Bool.Decides.{eqb_tells, leb_tells}, proofs.lemmas.Nat.{shr_le, shr_split}, proofs.lemmas.List.{Elements.filter-append, replicate_more}}
+use Rattle.definitions.{specs.Kinds.{units, unit_bits}, specs.Words.{Parcel, bits_at, cut, filling_of, in_word, parcels_from, word_of_parcels}, specs.declared.deck_kind.DeckKind.DeckKind, specs.declared.deck_kind.DeckKind.TheVariants.{Rel, Abs, Periph}, proofs.TestLaws.option_or-none}
+use Rattle.parcel_packer.{specs.Joins.Packing.parcel_at, specs.Joins.Spans.span_parcels, specs.Joins.Filling.{AreWords, FillWords, IsGathered, IsOpenWord, found, is_none_there, value_in, value_of_parcels}, specs.declared.gathering.OpenWord.OpenWord, specs.declared.spans.Span.Span, specs.declared.word_spans.WordSpan.WordSpan, proofs.GatherLaws.no_parcels, proofs.PackingLaws.cut-length, proofs.RiseLaws.{none-option_or, spans-push, found-append, found-above, found-here, found-before, order_of, units_le}}
+
+-- parcels of zeros that are no instruction's
+abbrev AreZero : List Parcel → Type 0
+AreZero [] = Unit {0}
+AreZero (parcel ∷ parcels) = (parcel.bits ≡ 0) × (parcel.is_instruction ≡ false) × AreZero parcels
+
+zero-filling : (kind : DeckKind) (parcels : List Parcel) → AreZero parcels → filling_of kind parcels ≡ 0
+zero-filling Rel parcels zeros = rw (none parcels zeros) refl
+  where
+    none : (ps : List Parcel) → AreZero ps → list_any (λ (p : Parcel). p.is_instruction) ps ≡ false
+    none [] h = refl
+    none (p ∷ ps) h = rw h.1 (none ps h.2)
+zero-filling Abs parcels zeros = rw (none parcels zeros) refl
+  where
+    none : (ps : List Parcel) → AreZero ps → list_any (λ (p : Parcel). p.is_instruction) ps ≡ false
+    none [] h = refl
+    none (p ∷ ps) h = rw h.1 (none ps h.2)
+zero-filling Periph parcels zeros = refl
+
+zero-bits : (kind : DeckKind) (place : ℕ) (parcels : List Parcel) → AreZero parcels → bits_at kind 0 place parcels ≡ 0
+zero-bits kind place [] zeros = refl
+zero-bits kind place (parcel ∷ parcels) zeros = elim (eqb_tells (parcel.place % units kind) place) [
+  | inl h ↦ rw h.0 zeros.0
+  | inr h ↦ rw h.0 (zero-bits kind place parcels zeros.2)
+]
+
+zero-place : (kind : DeckKind) (parcels : List Parcel) (place : ℕ) → AreZero parcels → bits_at kind (filling_of kind parcels) place parcels ≡ 0
+zero-place kind parcels place zeros = rw (zero-filling kind parcels zeros) (zero-bits kind place parcels zeros)
+
+zero-word : (kind : DeckKind) (parcels : List Parcel) → AreZero parcels → word_of_parcels kind parcels ≡ 0
+zero-word Rel parcels zeros = omega (arith, zero-place Rel parcels 0 zeros, zero-place Rel parcels 1 zeros, zero-place Rel parcels 2 zeros, zero-place Rel parcels 3 zeros)
+zero-word Abs parcels zeros = omega (arith, zero-place Abs parcels 0 zeros, zero-place Abs parcels 1 zeros, zero-place Abs parcels 2 zeros, zero-place Abs parcels 3 zeros)
+zero-word Periph parcels zeros = omega (arith, zero-place Periph parcels 0 zeros)
+
+-- the word of some zeros
+zero-value : (kind : DeckKind) (parcels : List Parcel) → AreZero parcels → is_none_there parcels ≡ false → value_of_parcels kind parcels ≡ Some 0
+zero-value kind [] zeros some = cc
+zero-value kind (parcel ∷ parcels) zeros some = ap Some (zero-word kind (parcel ∷ parcels) zeros)
+
+cut-zero : (size count : ℕ) → cut size count 0 ≡ replicate count 0
+cut-zero size zero = refl
+cut-zero size (suc count) =
+    let none : 0 / 2 ^ size ≡ 0 = let le = shr_le 0 size in omega arith in
+    let rest : 0 % 2 ^ size ≡ 0 = let split = shr_split 0 size in omega arith in
+    let more : count + 1 ≡ suc count = omega arith in
+    rw (none, rest) (ap (λ ns. ns ++ 0 ∷ []) (cut-zero size count) ∙ replicate_more count 0 ∙ ap (λ n. replicate n 0) more)
+
+zero-held : (kind : DeckKind) (word place count : ℕ) → AreZero (in_word kind word (parcels_from false place (replicate count 0)))
+zero-held kind word place zero = tt
+zero-held kind word place (suc count) = elim (eqb_tells (place / units kind) word) [
+  | inl h ↦ rw h.0 (refl, refl, zero-held kind word (place + 1) count)
+  | inr h ↦ rw h.0 (zero-held kind word (place + 1) count)
+]
+
+-- parcels of other words
+held-none : (kind : DeckKind) (word : ℕ) (instruction : Bool) (place : ℕ) (bits : List ℕ) → ((n : ℕ) → place ≤ n → n < place + length bits → n / units kind ≢ word) → in_word kind word (parcels_from instruction place bits) ≡ []
+held-none kind word instruction place [] other = refl
+held-none kind word instruction place (first ∷ bits) other = elim (eqb_tells (place / units kind) word) [
+  | inl h ↦ absurd (other place (omega arith) (omega arith) h.1)
+  | inr h ↦ rw h.0 (held-none kind word instruction (place + 1) bits (λ n a b. other n (omega arith) (omega arith)))
+]
+
+-- parcels of this word
+held-all : (kind : DeckKind) (word : ℕ) (instruction : Bool) (place : ℕ) (bits : List ℕ) → ((n : ℕ) → place ≤ n → n < place + length bits → n / units kind ≡ word) →
+    in_word kind word (parcels_from instruction place bits) ≡ parcels_from instruction place bits
+held-all kind word instruction place [] same = refl
+held-all kind word instruction place (first ∷ bits) same = elim (eqb_tells (place / units kind) word) [
+  | inl h ↦ rw h.0 (ap (λ ps. parcel_at instruction place first ∷ ps) (held-all kind word instruction (place + 1) bits (λ n a b. same n (omega arith) (omega arith))))
+  | inr h ↦ absurd (h.1 (same place (omega arith) (omega arith)))
+]
+
+-- a parcel of this word
+held-some : (kind : DeckKind) (word : ℕ) (instruction : Bool) (place : ℕ) (bits : List ℕ) (n : ℕ) → place ≤ n → n < place + length bits → n / units kind ≡ word → is_none_there (in_word kind word (parcels_from instruction place bits)) ≡ false
+held-some kind word instruction place [] n a b at = absurd (omega arith)
+held-some kind word instruction place (first ∷ bits) n a b at = elim (eqb_tells (place / units kind) word) [
+  | inl h ↦ rw h.0 refl
+  | inr h ↦ rw h.0 (held-some kind word instruction (place + 1) bits n (past n a at h.1) (omega arith) at)
+]
+  where
+    past : (m : ℕ) → place ≤ m → m / units kind ≡ word → place / units kind ≢ word → place + 1 ≤ m
+    past m c e other = elim (leb_tells (place + 1) m) [
+      | inl k ↦ k.1
+      | inr k ↦ let over = k.1 in let same : place ≡ m = omega arith in absurd (other (ap (λ i. i / units kind) same ∙ e))
+    ]
+
+in_word-both : (kind : DeckKind) (word : ℕ) (xs ys : List Parcel) → in_word kind word (xs ++ ys) ≡ in_word kind word xs ++ in_word kind word ys
+in_word-both kind word xs ys = filter-append (λ (p : Parcel). nat_eq (p.place / units kind) word) xs ys
+
+-- the words of parcels that are those of whole words
+word_past : (kind : DeckKind) (place count n : ℕ) → place % units kind ≡ 0 → count % units kind ≡ 0 → n < place + count → n / units kind < place / units kind + count / units kind
+word_past Rel place count n a b h = omega arith
+word_past Abs place count n a b h = omega arith
+word_past Periph place count n a b h = omega arith
+
+word_there : (kind : DeckKind) (place count word : ℕ) → place % units kind ≡ 0 → count % units kind ≡ 0 → place / units kind ≤ word → word < place / units kind + count / units kind →
+    (place ≤ units kind * word) × (units kind * word < place + count) × (units kind * word / units kind ≡ word)
+word_there Rel place count word a b h k = (omega arith, omega arith, omega arith)
+word_there Abs place count word a b h k = (omega arith, omega arith, omega arith)
+word_there Periph place count word a b h k = (omega arith, omega arith, omega arith)
+
+one_word : (kind : DeckKind) → units kind / units kind ≡ 1
+one_word Rel = refl
+one_word Abs = refl
+one_word Periph = refl
+
+-- a word of four parcels, one behind the other
+four_rel : (parcels : List Parcel) (a b c d : ℕ) → ((f : ℕ) → bits_at Rel f 0 parcels ≡ a) → ((f : ℕ) → bits_at Rel f 1 parcels ≡ b) → ((f : ℕ) → bits_at Rel f 2 parcels ≡ c) → ((f : ℕ) → bits_at Rel f 3 parcels ≡ d) →
+    word_of_parcels Rel parcels ≡ ((a * 32768 + b) * 32768 + c) * 32768 + d
+four_rel parcels a b c d p q r s = let f = filling_of Rel parcels in omega (arith, p f, q f, r f, s f)
+
+four_abs : (parcels : List Parcel) (a b c d : ℕ) → ((f : ℕ) → bits_at Abs f 0 parcels ≡ a) → ((f : ℕ) → bits_at Abs f 1 parcels ≡ b) → ((f : ℕ) → bits_at Abs f 2 parcels ≡ c) → ((f : ℕ) → bits_at Abs f 3 parcels ≡ d) →
+    word_of_parcels Abs parcels ≡ ((a * 32768 + b) * 32768 + c) * 32768 + d
+four_abs parcels a b c d p q r s = let f = filling_of Abs parcels in omega (arith, p f, q f, r f, s f)
+
+four_joined : (n : ℕ) → ((n / 32768 / 32768 / 32768 % 32768 * 32768 + n / 32768 / 32768 % 32768) * 32768 + n / 32768 % 32768) * 32768 + n % 32768 ≡ n % 2 ^ 60
+four_joined n = omega arith
+
+-- the word whose parcels are a number cut
+word_cut : (kind : DeckKind) (instruction : Bool) (place bits : ℕ) → place % units kind ≡ 0 →
+    value_of_parcels kind (parcels_from instruction place (cut (unit_bits kind) (units kind) bits)) ≡ Some (bits % 2 ^ (unit_bits kind * units kind))
+word_cut Rel instruction place bits h =
+    let p0 : place % 4 ≡ 0 = omega arith in
+    let p1 : (place + 1) % 4 ≡ 1 = omega arith in
+    let p2 : (place + 1 + 1) % 4 ≡ 2 = omega arith in
+    let p3 : (place + 1 + 1 + 1) % 4 ≡ 3 = omega arith in
+    ap Some (four_rel (parcels_from instruction place (cut 15 4 bits)) _ _ _ _ (λ f. rw p0 refl) (λ f. rw (p0, p1) refl) (λ f. rw (p0, p1, p2) refl) (λ f. rw (p0, p1, p2, p3) refl) ∙ four_joined bits)
+word_cut Abs instruction place bits h =
+    let p0 : place % 4 ≡ 0 = omega arith in
+    let p1 : (place + 1) % 4 ≡ 1 = omega arith in
+    let p2 : (place + 1 + 1) % 4 ≡ 2 = omega arith in
+    let p3 : (place + 1 + 1 + 1) % 4 ≡ 3 = omega arith in
+    ap Some (four_abs (parcels_from instruction place (cut 15 4 bits)) _ _ _ _ (λ f. rw p0 refl) (λ f. rw (p0, p1) refl) (λ f. rw (p0, p1, p2) refl) (λ f. rw (p0, p1, p2, p3) refl) ∙ four_joined bits)
+word_cut Periph instruction place bits h =
+    let p0 : place % 1 ≡ 0 = omega arith in
+    let ps = parcels_from instruction place (cut 12 1 bits) in
+    let only : (f : ℕ) → bits_at Periph f 0 ps ≡ bits % 4096 = λ f. rw p0 refl in
+    ap Some (omega (arith, only (filling_of Periph ps)))
+
+-- a span of whole words fills them
+pub span_fills : (kind : DeckKind) (span : Span) (first again size width word value : ℕ) → AreWords kind span → first ≡ units kind → again ≡ units kind → size ≡ unit_bits kind → width ≡ units kind →
+    word ≡ span.place / first → value ≡ span.bits % 2 ^ (size * width) → FillWords kind word (span.count / again) value (span_parcels (unit_bits kind) span)
+span_fills kind span first again size width word value h f a s w e v = rw (e, v, f, a, s, w) (record {
+  has = λ at from to. elim h.of [
+    | inl one ↦ whole at from to one
+    | inr zeros ↦ none at from to zeros.0 zeros.1
+  ];
+  before = λ at below. held-none kind at span.is_instruction span.place bits (λ n c d same. let le = units_le kind span.place n c in absurd (omega arith));
+  past = λ at above. held-none kind at span.is_instruction span.place bits (λ n c d same. let lt = word_past kind span.place span.count n h.from_word h.to_word (rw many at d) in absurd (omega arith));
+})
+  where
+    bits : List ℕ
+    bits = cut (unit_bits kind) span.count span.bits
+
+    many : length bits ≡ span.count
+    many = cut-length (unit_bits kind) span.count span.bits
+
+    whole : (at : ℕ) → span.place / units kind ≤ at → at < span.place / units kind + span.count / units kind → span.count ≡ units kind →
+        value_in kind (span_parcels (unit_bits kind) span) at ≡ Some (span.bits % 2 ^ (unit_bits kind * units kind))
+    whole at from to one =
+        let single : span.count / units kind ≡ 1 = ap (λ n. n / units kind) one ∙ one_word kind in
+        ap (value_of_parcels kind) (held-all kind at span.is_instruction span.place bits
+        (λ n c d. let le = units_le kind span.place n c in let lt = word_past kind span.place span.count n h.from_word h.to_word (rw many at d) in omega (arith, single)))
+        ∙ ap (λ n. value_of_parcels kind (parcels_from span.is_instruction span.place (cut (unit_bits kind) n span.bits))) one
+        ∙ word_cut kind span.is_instruction span.place span.bits h.from_word
+
+    none : (at : ℕ) → span.place / units kind ≤ at → at < span.place / units kind + span.count / units kind → span.bits ≡ 0 → span.is_instruction ≡ false →
+        value_in kind (span_parcels (unit_bits kind) span) at ≡ Some (span.bits % 2 ^ (unit_bits kind * units kind))
+    none at from to empty plain =
+        let there = word_there kind span.place span.count at h.from_word h.to_word from to in
+        let value : 0 ≡ span.bits % 2 ^ (unit_bits kind * units kind) = rw empty (let split = shr_split 0 (unit_bits kind * units kind) in omega arith) in
+        let All : List ℕ → Type 0 = λ ns. AreZero (in_word kind at (parcels_from false span.place ns)) in
+        let zeros : bits ≡ replicate span.count 0 = ap (λ n. cut (unit_bits kind) span.count n) empty ∙ cut-zero (unit_bits kind) span.count in
+        ap (λ i. value_of_parcels kind (in_word kind at (parcels_from i span.place bits))) plain
+        ∙ zero-value kind (in_word kind at (parcels_from false span.place bits)) (subst All (sym zeros) (zero-held kind at span.place span.count))
+        (held-some kind at false span.place bits (units kind * at) there.0 (rw many there.1) there.2)
+        ∙ ap Some value
+
+-- nothing lies from the open word on
+none-behind : (kind : DeckKind) (parcels : List Parcel) (spans : List WordSpan) (next : OpenWord) (offset : ℕ) → IsGathered kind parcels spans next → next.is_empty ≡ true → next.word ≤ offset → in_word kind offset parcels ≡ []
+none-behind kind parcels spans next offset h empty from = elim (order_of next.word offset) [
+  | inl behind ↦ h.behind offset behind
+  | inr same ↦ let e : offset ≡ next.word = omega arith in rw e (no_parcels (in_word kind next.word parcels) (sym h.holds.empty ∙ empty))
+]
+
+-- so many words of one value from the open word on, in which nothing lies
+pub words_gathered : (kind : DeckKind) (parcels more : List Parcel) (old new : List WordSpan) (next : OpenWord) (count value : ℕ) → next.is_empty ≡ true → 0 < count → next.word + count < 2 ^ 20 →
+    new ≡ old ++ (let s : WordSpan = record { offset = next.word; count = count; value = value } in s) ∷ [] → FillWords kind next.word count value more → IsGathered kind parcels old next →
+    IsGathered kind (parcels ++ more) new (record next { word = next.word + count })
+words_gathered kind parcels more old new next count value empty some small pushed fill h =
+    record {
+      small = small;
+      rise = rw pushed (spans-push 0 old span (next.word + count) h.rise some (omega arith));
+      has = λ offset below. ap (found offset) pushed ∙ found-append offset old (span ∷ []) ∙ elim (order_of offset next.word) [
+        | inl before ↦
+            option_or-none (found offset old) (found offset (span ∷ [])) (found-before offset span [] before)
+            ∙ h.has offset before
+            ∙ ap (value_of_parcels kind) (sym (in_word-both kind offset parcels more ∙ ap (λ ps. in_word kind offset parcels ++ ps) (fill.before offset before) ∙ append-nil (in_word kind offset parcels)))
+        | inr behind ↦
+            none-option_or (found offset old) (found offset (span ∷ [])) (found-above offset 0 old next.word h.rise behind)
+            ∙ found-here offset span [] behind below
+            ∙ sym (fill.has offset behind below)
+            ∙ ap (value_of_parcels kind) (sym (in_word-both kind offset parcels more ∙ ap (λ ps. ps ++ in_word kind offset more) (none-behind kind parcels old next offset h empty behind)))
+      ];
+      holds = let Holds : List Parcel → Type 0 = λ ps. IsOpenWord kind next ps in
+          let same : in_word kind next.word parcels ≡ in_word kind (next.word + count) (parcels ++ more) = no_parcels _ (sym h.holds.empty ∙ empty) ∙ sym (no_more (next.word + count) (omega arith)) in
+          let held = subst Holds same h.holds in record { bits = held.bits; instruction = held.instruction; empty = held.empty };
+      behind = λ offset above. no_more offset (omega arith);
+    }
+  where
+    span : WordSpan
+    span = record { offset = next.word; count = count; value = value }
+
+    no_more : (offset : ℕ) → next.word + count ≤ offset → in_word kind offset (parcels ++ more) ≡ []
+    no_more offset past =
+        in_word-both kind offset parcels more
+        ∙ ap (λ ps. ps ++ in_word kind offset more) (none-behind kind parcels old next offset h empty (omega arith))
+        ∙ fill.past offset past
