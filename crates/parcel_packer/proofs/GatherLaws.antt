@@ -51,10 +51,6 @@ parcel_added kind old new parcels place at_place bits instruction low at here ot
       | inr e ↦ rw e.0 (h.bits filling k below ∙ ap (λ c. unwrap_or c filling) (sym (others k (λ same. e.1 (at ∙ sym same)))))
     ]
 
-pub filling_is : (kind : DeckKind) (next : OpenWord) (parcels : List Parcel) (filling : ℕ) → IsOpenWord kind next parcels →
-    filling ≡ filling_of kind parcels → (k : ℕ) → k < 4 → bits_at kind (filling_of kind parcels) k parcels ≡ unwrap_or (get_or next.parcels k None) filling
-filling_is kind next parcels filling h e k below = rw e (h.bits (filling_of kind parcels) k below)
-
 pub in_word-push : (kind : DeckKind) (word : ℕ) (parcels : List Parcel) (parcel : Parcel) →
     in_word kind word (parcels ++ parcel ∷ []) ≡ in_word kind word parcels ++ (if nat_eq (parcel.place / units kind) word then parcel ∷ [] else [])
 in_word-push kind word parcels parcel = filter-append (λ (p : Parcel). nat_eq (p.place / units kind) word) parcels (parcel ∷ [])
@@ -147,11 +143,16 @@ pub gathered_none : (kind : DeckKind) (next : OpenWord) → next.word ≡ 0 → 
 gathered_none kind next first h = record { small = omega arith; rise = omega arith; has = λ offset below. refl; holds = h; behind = λ offset above. refl }
 
 -- a central word is its four parcels one behind the other
+pub word_four : (kind : DeckKind) (parcels : List Parcel) (a b c d : ℕ) → units kind ≢ 1 → bits_at kind (filling_of kind parcels) 0 parcels ≡ a → bits_at kind (filling_of kind parcels) 1 parcels ≡ b →
+    bits_at kind (filling_of kind parcels) 2 parcels ≡ c → bits_at kind (filling_of kind parcels) 3 parcels ≡ d → word_of_parcels kind parcels ≡ ((a * 32768 + b) * 32768 + c) * 32768 + d
+word_four Rel parcels a b c d four p q r s = omega (arith, p, q, r, s)
+word_four Abs parcels a b c d four p q r s = omega (arith, p, q, r, s)
+word_four Periph parcels a b c d four p q r s = absurd (four refl)
+
 pub word_central : (kind : DeckKind) (next : OpenWord) (parcels : List Parcel) (filling : ℕ) → units kind ≢ 1 → IsOpenWord kind next parcels → filling ≡ filling_of kind parcels →
     ((unwrap_or (get_or next.parcels 0 None) filling * 32768 + unwrap_or (get_or next.parcels 1 None) filling) * 32768 + unwrap_or (get_or next.parcels 2 None) filling) * 32768 + unwrap_or (get_or next.parcels 3 None) filling
     ≡ word_of_parcels kind parcels
-word_central Rel next parcels filling four h e =
-    omega (arith, filling_is Rel next parcels filling h e 0 (omega arith), filling_is Rel next parcels filling h e 1 (omega arith), filling_is Rel next parcels filling h e 2 (omega arith), filling_is Rel next parcels filling h e 3 (omega arith))
-word_central Abs next parcels filling four h e =
-    omega (arith, filling_is Abs next parcels filling h e 0 (omega arith), filling_is Abs next parcels filling h e 1 (omega arith), filling_is Abs next parcels filling h e 2 (omega arith), filling_is Abs next parcels filling h e 3 (omega arith))
-word_central Periph next parcels filling four h e = absurd (four refl)
+word_central kind next parcels filling four h e = sym (word_four kind parcels _ _ _ _ four (at 0 (omega arith)) (at 1 (omega arith)) (at 2 (omega arith)) (at 3 (omega arith)))
+  where
+    at : (k : ℕ) → k < 4 → bits_at kind (filling_of kind parcels) k parcels ≡ unwrap_or (get_or next.parcels k None) filling
+    at k below = rw e (h.bits (filling_of kind parcels) k below)

@@ -1,5 +1,5 @@
 -- The steps of putting a field into a run.
-use Rattle.std.proofs.{Common.{◌≡◌, ℕ, zero, suc, ◌+◌, ◌-◌, ◌*◌, ◌/◌, ◌%◌, ◌^◌, ◌<◌, ◌≤◌, List, [], ◌∷◌, ◌++◌, refl, sym, ap, ◌∙◌, arith, inl, inr, append_assoc, append-nil}, Math.Nat.mod-lt, lemmas.Nat.{pow-add, pow_pos, le-div, mod_below, shr_below, shr_split, mul-le, mul-add-lt}}
+use Rattle.std.proofs.{Common.{◌≡◌, ℕ, ◌+◌, ◌-◌, ◌*◌, ◌/◌, ◌%◌, ◌^◌, ◌<◌, ◌≤◌, List, [], ◌∷◌, ◌++◌, refl, sym, ap, ◌∙◌, arith, inl, inr, append_assoc, append-nil}, Math.Nat.{le-mul_of_pos_right, mod-lt}, lemmas.Nat.{pow-add, pow_pos, le-div, mod_below, shr_below, shr_split, mul-le, mul-add-lt}}
 use Rattle.parcel_packer.{specs.Joins.Packing.{OpenRun, put_bits}, specs.Joins.Spans.{IsOpen, IsPut, parcels_in, span_parcels, run_of}, specs.declared.spans.Span.Span, specs.declared.spans.OpenParcel.OpenParcel, specs.declared.fields.Field.Field, proofs.PackingLaws.{put_bits-joined, put_bits-whole, put_bits-within, same_bits, same_run}, proofs.RiseLaws.order_of}
 
 -- bits behind the bits of an open parcel fit both widths together
@@ -27,11 +27,6 @@ field_within size spans next field bits fits room e below = record {
   end = omega arith;
 }
 
--- a number of parcels, one at least
-pub a_parcel : (size count : ℕ) → 0 < count → size ≤ size * count
-a_parcel size zero h = absurd (omega arith)
-a_parcel size (suc count) h = let product : size * suc count ≡ size * count + size = omega arith in omega (arith, product)
-
 -- how many parcels are whole, and how many bits lie behind them
 pub record AreParted (size filled width count left : ℕ) : Type 0 where
   pub parts : size * count + left ≡ filled + width
@@ -46,7 +41,7 @@ parted size filled width h full =
     let short = mod_below total size some in
     let parts : size * (total / size) + total % size ≡ total = omega arith in
     let one : 1 * size ≤ total = omega arith in
-    let whole = a_parcel size (total / size) (le-div 1 total size some one) in
+    let whole = le-mul_of_pos_right {m = total / size} size (le-div 1 total size some one) in
     record { parts = parts; short = short; inside = omega (arith, parts, whole); front = omega (arith, parts, whole) }
 
 -- the parcels that a field makes whole have at most 60 bits, where so many parcels have 60

@@ -1,7 +1,7 @@
 -- Statements whose fields are put one behind the other have the parcels of the definitions; what is put rises.
 use Rattle.std.proofs.{Common.{◌≡◌, ◌≢◌, ℕ, zero, suc, ◌+◌, ◌-◌, ◌*◌, ◌/◌, ◌%◌, ◌^◌, ◌<◌, ◌≤◌, Bool, true, false, List, [], ◌∷◌, ◌++◌, reverse, refl, sym, ap, subst, ◌∙◌, arith, inl, inr}, lemmas.Bool.cases_order, lemmas.Bool.Decides.eqb_tells, lemmas.Nat.{pow_pos, le-div}, lemmas.List.reverse-append}
 use Rattle.definitions.specs.{Characters.same_text, Kinds.{units, unit_bits, word_bits, most_words}, StatementItems.Item, Words.{Parcel, Coded, Linking, cut, parcels_from, width_of, joined, content_bits, parcels_of, onto_runs, runs_of}, Operations.is_instruction, declared.deck_kind.DeckKind.DeckKind, declared.deck_kind.DeckKind.TheVariants.{Rel, Abs, Periph}}
-use Rattle.parcel_packer.{specs.Joins.Packing.{OpenRun, Packed, DoItemsFit, end_bit, most_bits, moved, MayBegin, put_bit, put_bits, put_items, parcel_at, runs_in}, specs.Joins.Spans.{IsOpen, IsPut, IsKept, RiseWithin, DoRunsRise, places, parcels_in, run_of, span_parcels}, specs.declared.spans.Span.Span, specs.declared.spans.OpenParcel.OpenParcel, specs.declared.fields.Field.Field, proofs.PackingLaws.{cut-length, put_bits-joined, put_bits-whole}, proofs.ParcelSteps.{joined_below, parcels_in-push}, proofs.RiseLaws.{parcels_rise, rise-wider, rise-push, rise-append, places-append}}
+use Rattle.parcel_packer.{specs.Joins.Packing.{OpenRun, Packed, DoItemsFit, end_bit, most_bits, moved, MayBegin, put_bit, put_bits, put_items, parcel_at, runs_in}, specs.Joins.Spans.{IsOpen, IsPut, IsKept, RiseWithin, DoRunsRise, places, parcels_in, run_of, span_parcels}, specs.declared.spans.Span.Span, specs.declared.spans.OpenParcel.OpenParcel, specs.declared.fields.Field.Field, proofs.PackingLaws.{cut-length, put_bits-joined, put_bits-whole, same_run}, proofs.ParcelSteps.{joined_below, parcels_in-push}, proofs.RiseLaws.{parcels_rise, rise-wider, rise-push, rise-append, places-append}}
 
 joined-below : (linking : Linking) (items : List Item) → DoItemsFit linking items → joined linking items < 2 ^ width_of items
 joined-below linking [] h = omega arith
@@ -17,11 +17,7 @@ put_items-joined size instruction linking (first ∷ items) run h =
     ∙ sym (put_bits-joined size instruction first.width (width_of items) (content_bits linking first.width first.content) (joined linking items) run (joined-below linking items h.1))
 
 fresh_run : (run : OpenRun) (place : ℕ) → run.filled ≡ 0 → run.bits ≡ 0 → run.place ≡ place → run ≡ record { parcels = run.parcels; place = place; filled = 0; bits = 0 }
-fresh_run run place f b p = same run.parcels run.place place run.filled 0 run.bits 0 p f b
-  where
-    same : (parcels : List Parcel) (p q f g b c : ℕ) → p ≡ q → f ≡ g → b ≡ c →
-        (let r : OpenRun = record { parcels = parcels; place = p; filled = f; bits = b } in r) ≡ record { parcels = parcels; place = q; filled = g; bits = c }
-    same parcels p q f g b c e h k = rw (e, h, k) refl
+fresh_run run place f b p = same_run run.parcels run.parcels run.place place run.filled 0 run.bits 0 refl p f b
 
 -- fields that fill whole parcels are their number cut
 pub items_whole : (size : ℕ) (instruction : Bool) (linking : Linking) (items : List Item) (count : ℕ) (run : OpenRun) → 0 < size → run.filled ≡ 0 → run.bits ≡ 0 →
@@ -260,16 +256,12 @@ whole_rise kind spans next earlier h = rise-wider 0 (places (parcels_in (unit_bi
 -- a place behind the last bit is where the next bit goes anyhow
 pub moved_stays : (kind : DeckKind) (run : OpenRun) → moved (unit_bits kind) (end_bit (unit_bits kind) run) run ≡ run
 moved_stays kind run = elim (eqb_tells run.filled 0) [
-  | inl test ↦ rw test.0 (same run.parcels ((unit_bits kind * run.place + run.filled) / unit_bits kind) run.place 0 run.filled run.bits (here test.1) (sym test.1))
+  | inl test ↦ rw test.0 (same_run run.parcels run.parcels ((unit_bits kind * run.place + run.filled) / unit_bits kind) run.place 0 run.filled run.bits run.bits refl (here test.1) (sym test.1) refl)
   | inr test ↦ rw test.0 refl
 ]
   where
     here : run.filled ≡ 0 → (unit_bits kind * run.place + run.filled) / unit_bits kind ≡ run.place
     here f = ap (λ n. n / unit_bits kind) (omega arith) ∙ unit_place kind run.place
-
-    same : (parcels : List Parcel) (p q f g b : ℕ) → p ≡ q → f ≡ g →
-        (let r : OpenRun = record { parcels = parcels; place = p; filled = f; bits = b } in r) ≡ record { parcels = parcels; place = q; filled = g; bits = b }
-    same parcels p q f g b e h = rw (e, h) refl
 
 -- a run ends so many bits behind where it ended
 put_bit-end : (size : ℕ) (instruction : Bool) (bit : ℕ) (run : OpenRun) → run.filled < size →

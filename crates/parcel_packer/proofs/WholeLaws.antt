@@ -1,24 +1,20 @@
 -- A whole word, and whole words of zeros, gathered at once.
 use Rattle.std.{proofs.Common.{◌≡◌, ◌≢◌, ℕ, zero, suc, ◌+◌, ◌*◌, ◌/◌, ◌%◌, ◌^◌, ◌<◌, ◌≤◌, Bool, true, false, nat_eq, List, [], ◌∷◌, ◌++◌, Some, length, replicate, refl, sym, ap, subst, ◌∙◌, arith, inl, inr, append-nil}, specs.List.list_any, proofs.lemmas.Bool.Decides.{eqb_tells, leb_tells}, proofs.lemmas.Nat.{shr_le, shr_split}, proofs.lemmas.List.{Elements.filter-append, replicate_more}}
 use Rattle.definitions.{specs.Kinds.{units, unit_bits}, specs.Words.{Parcel, bits_at, cut, filling_of, in_word, parcels_from, word_of_parcels}, specs.declared.deck_kind.DeckKind.DeckKind, specs.declared.deck_kind.DeckKind.TheVariants.{Rel, Abs, Periph}, proofs.TestLaws.option_or-none}
-use Rattle.parcel_packer.{specs.Joins.Packing.parcel_at, specs.Joins.Spans.span_parcels, specs.Joins.Filling.{AreWords, FillWords, IsGathered, IsOpenWord, found, is_none_there, value_in, value_of_parcels}, specs.declared.gathering.OpenWord.OpenWord, specs.declared.spans.Span.Span, specs.declared.word_spans.WordSpan.WordSpan, proofs.GatherLaws.no_parcels, proofs.PackingLaws.cut-length, proofs.RiseLaws.{none-option_or, spans-push, found-append, found-above, found-here, found-before, order_of, units_le}}
+use Rattle.parcel_packer.{specs.Joins.Packing.parcel_at, specs.Joins.Spans.span_parcels, specs.Joins.Filling.{AreWords, FillWords, IsGathered, IsOpenWord, found, is_none_there, value_in, value_of_parcels}, specs.declared.gathering.OpenWord.OpenWord, specs.declared.spans.Span.Span, specs.declared.word_spans.WordSpan.WordSpan, proofs.GatherLaws.{no_parcels, word_four}, proofs.PackingLaws.cut-length, proofs.RiseLaws.{none-option_or, spans-push, found-append, found-above, found-here, found-before, order_of, units_le}}
 
 -- parcels of zeros that are no instruction's
 abbrev AreZero : List Parcel → Type 0
 AreZero [] = Unit {0}
 AreZero (parcel ∷ parcels) = (parcel.bits ≡ 0) × (parcel.is_instruction ≡ false) × AreZero parcels
 
+no_instruction : (parcels : List Parcel) → AreZero parcels → list_any (λ (p : Parcel). p.is_instruction) parcels ≡ false
+no_instruction [] h = refl
+no_instruction (p ∷ parcels) h = rw h.1 (no_instruction parcels h.2)
+
 zero-filling : (kind : DeckKind) (parcels : List Parcel) → AreZero parcels → filling_of kind parcels ≡ 0
-zero-filling Rel parcels zeros = rw (none parcels zeros) refl
-  where
-    none : (ps : List Parcel) → AreZero ps → list_any (λ (p : Parcel). p.is_instruction) ps ≡ false
-    none [] h = refl
-    none (p ∷ ps) h = rw h.1 (none ps h.2)
-zero-filling Abs parcels zeros = rw (none parcels zeros) refl
-  where
-    none : (ps : List Parcel) → AreZero ps → list_any (λ (p : Parcel). p.is_instruction) ps ≡ false
-    none [] h = refl
-    none (p ∷ ps) h = rw h.1 (none ps h.2)
+zero-filling Rel parcels zeros = rw (no_instruction parcels zeros) refl
+zero-filling Abs parcels zeros = rw (no_instruction parcels zeros) refl
 zero-filling Periph parcels zeros = refl
 
 zero-bits : (kind : DeckKind) (place : ℕ) (parcels : List Parcel) → AreZero parcels → bits_at kind 0 place parcels ≡ 0
@@ -107,33 +103,22 @@ one_word Rel = refl
 one_word Abs = refl
 one_word Periph = refl
 
--- a word of four parcels, one behind the other
-four_rel : (parcels : List Parcel) (a b c d : ℕ) → ((f : ℕ) → bits_at Rel f 0 parcels ≡ a) → ((f : ℕ) → bits_at Rel f 1 parcels ≡ b) → ((f : ℕ) → bits_at Rel f 2 parcels ≡ c) → ((f : ℕ) → bits_at Rel f 3 parcels ≡ d) →
-    word_of_parcels Rel parcels ≡ ((a * 32768 + b) * 32768 + c) * 32768 + d
-four_rel parcels a b c d p q r s = let f = filling_of Rel parcels in omega (arith, p f, q f, r f, s f)
-
-four_abs : (parcels : List Parcel) (a b c d : ℕ) → ((f : ℕ) → bits_at Abs f 0 parcels ≡ a) → ((f : ℕ) → bits_at Abs f 1 parcels ≡ b) → ((f : ℕ) → bits_at Abs f 2 parcels ≡ c) → ((f : ℕ) → bits_at Abs f 3 parcels ≡ d) →
-    word_of_parcels Abs parcels ≡ ((a * 32768 + b) * 32768 + c) * 32768 + d
-four_abs parcels a b c d p q r s = let f = filling_of Abs parcels in omega (arith, p f, q f, r f, s f)
-
 four_joined : (n : ℕ) → ((n / 32768 / 32768 / 32768 % 32768 * 32768 + n / 32768 / 32768 % 32768) * 32768 + n / 32768 % 32768) * 32768 + n % 32768 ≡ n % 2 ^ 60
 four_joined n = omega arith
+
+four_cut : (kind : DeckKind) (instruction : Bool) (place bits : ℕ) → units kind ≡ 4 → place % 4 ≡ 0 → word_of_parcels kind (parcels_from instruction place (cut 15 4 bits)) ≡ bits % 2 ^ 60
+four_cut kind instruction place bits four p0 =
+    let p1 : (place + 1) % 4 ≡ 1 = omega arith in
+    let p2 : (place + 1 + 1) % 4 ≡ 2 = omega arith in
+    let p3 : (place + 1 + 1 + 1) % 4 ≡ 3 = omega arith in
+    word_four kind (parcels_from instruction place (cut 15 4 bits)) _ _ _ _ (rw four (λ e. absurd (omega arith))) (rw (four, p0) refl) (rw (four, p0, p1) refl) (rw (four, p0, p1, p2) refl) (rw (four, p0, p1, p2, p3) refl)
+    ∙ four_joined bits
 
 -- the word whose parcels are a number cut
 word_cut : (kind : DeckKind) (instruction : Bool) (place bits : ℕ) → place % units kind ≡ 0 →
     value_of_parcels kind (parcels_from instruction place (cut (unit_bits kind) (units kind) bits)) ≡ Some (bits % 2 ^ (unit_bits kind * units kind))
-word_cut Rel instruction place bits h =
-    let p0 : place % 4 ≡ 0 = omega arith in
-    let p1 : (place + 1) % 4 ≡ 1 = omega arith in
-    let p2 : (place + 1 + 1) % 4 ≡ 2 = omega arith in
-    let p3 : (place + 1 + 1 + 1) % 4 ≡ 3 = omega arith in
-    ap Some (four_rel (parcels_from instruction place (cut 15 4 bits)) _ _ _ _ (λ f. rw p0 refl) (λ f. rw (p0, p1) refl) (λ f. rw (p0, p1, p2) refl) (λ f. rw (p0, p1, p2, p3) refl) ∙ four_joined bits)
-word_cut Abs instruction place bits h =
-    let p0 : place % 4 ≡ 0 = omega arith in
-    let p1 : (place + 1) % 4 ≡ 1 = omega arith in
-    let p2 : (place + 1 + 1) % 4 ≡ 2 = omega arith in
-    let p3 : (place + 1 + 1 + 1) % 4 ≡ 3 = omega arith in
-    ap Some (four_abs (parcels_from instruction place (cut 15 4 bits)) _ _ _ _ (λ f. rw p0 refl) (λ f. rw (p0, p1) refl) (λ f. rw (p0, p1, p2) refl) (λ f. rw (p0, p1, p2, p3) refl) ∙ four_joined bits)
+word_cut Rel instruction place bits h = ap Some (four_cut Rel instruction place bits refl h)
+word_cut Abs instruction place bits h = ap Some (four_cut Abs instruction place bits refl h)
 word_cut Periph instruction place bits h =
     let p0 : place % 1 ≡ 0 = omega arith in
     let ps = parcels_from instruction place (cut 12 1 bits) in
