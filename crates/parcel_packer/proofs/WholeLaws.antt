@@ -1,41 +1,7 @@
 -- A whole word, and whole words of zeros, gathered at once.
-use Rattle.std.{proofs.Common.{◌≡◌, ◌≢◌, ℕ, zero, suc, ◌+◌, ◌*◌, ◌/◌, ◌%◌, ◌^◌, ◌<◌, ◌≤◌, Bool, true, false, nat_eq, List, [], ◌∷◌, ◌++◌, Some, length, replicate, refl, sym, ap, subst, ◌∙◌, arith, inl, inr, append-nil}, specs.List.list_any, proofs.lemmas.Bool.Decides.{eqb_tells, leb_tells}, proofs.lemmas.Nat.{shr_le, shr_split}, proofs.lemmas.List.{Elements.filter-append, replicate_more}}
+use Rattle.std.{proofs.Common.{◌≡◌, ◌≢◌, ℕ, zero, suc, ◌+◌, ◌-◌, ◌*◌, ◌/◌, ◌%◌, ◌^◌, ◌<◌, ◌≤◌, Bool, true, nat_eq, List, [], ◌∷◌, ◌++◌, Some, length, replicate, refl, sym, ap, subst, ◌∙◌, arith, inl, inr, append-nil}, proofs.lemmas.Bool.Decides.eqb_tells, proofs.lemmas.Nat.{shr_le, shr_split}, proofs.lemmas.List.{Elements.filter-append, length-replicate, replicate_more, replicate-append-replicate}}
 use Rattle.definitions.{specs.Kinds.{units, unit_bits}, specs.Words.{Parcel, bits_at, cut, filling_of, in_word, parcels_from, word_of_parcels}, specs.declared.deck_kind.DeckKind.DeckKind, specs.declared.deck_kind.DeckKind.TheVariants.{Rel, Abs, Periph}, proofs.TestLaws.option_or-none}
-use Rattle.parcel_packer.{specs.Joins.Packing.parcel_at, specs.Joins.Spans.span_parcels, specs.Joins.Filling.{AreWords, FillWords, IsGathered, IsOpenWord, found, is_none_there, value_in, value_of_parcels}, specs.declared.gathering.OpenWord.OpenWord, specs.declared.spans.Span.Span, specs.declared.word_spans.WordSpan.WordSpan, proofs.GatherLaws.{no_parcels, word_four}, proofs.PackingLaws.cut-length, proofs.RiseLaws.{none-option_or, spans-push, found-append, found-above, found-here, found-before, order_of, units_le}}
-
--- parcels of zeros that are no instruction's
-abbrev AreZero : List Parcel → Type 0
-AreZero [] = Unit {0}
-AreZero (parcel ∷ parcels) = (parcel.bits ≡ 0) × (parcel.is_instruction ≡ false) × AreZero parcels
-
-no_instruction : (parcels : List Parcel) → AreZero parcels → list_any (λ (p : Parcel). p.is_instruction) parcels ≡ false
-no_instruction [] h = refl
-no_instruction (p ∷ parcels) h = rw h.1 (no_instruction parcels h.2)
-
-zero-filling : (kind : DeckKind) (parcels : List Parcel) → AreZero parcels → filling_of kind parcels ≡ 0
-zero-filling Rel parcels zeros = rw (no_instruction parcels zeros) refl
-zero-filling Abs parcels zeros = rw (no_instruction parcels zeros) refl
-zero-filling Periph parcels zeros = refl
-
-zero-bits : (kind : DeckKind) (place : ℕ) (parcels : List Parcel) → AreZero parcels → bits_at kind 0 place parcels ≡ 0
-zero-bits kind place [] zeros = refl
-zero-bits kind place (parcel ∷ parcels) zeros = elim (eqb_tells (parcel.place % units kind) place) [
-  | inl h ↦ rw h.0 zeros.0
-  | inr h ↦ rw h.0 (zero-bits kind place parcels zeros.2)
-]
-
-zero-place : (kind : DeckKind) (parcels : List Parcel) (place : ℕ) → AreZero parcels → bits_at kind (filling_of kind parcels) place parcels ≡ 0
-zero-place kind parcels place zeros = rw (zero-filling kind parcels zeros) (zero-bits kind place parcels zeros)
-
-zero-word : (kind : DeckKind) (parcels : List Parcel) → AreZero parcels → word_of_parcels kind parcels ≡ 0
-zero-word Rel parcels zeros = omega (arith, zero-place Rel parcels 0 zeros, zero-place Rel parcels 1 zeros, zero-place Rel parcels 2 zeros, zero-place Rel parcels 3 zeros)
-zero-word Abs parcels zeros = omega (arith, zero-place Abs parcels 0 zeros, zero-place Abs parcels 1 zeros, zero-place Abs parcels 2 zeros, zero-place Abs parcels 3 zeros)
-zero-word Periph parcels zeros = omega (arith, zero-place Periph parcels 0 zeros)
-
--- the word of some zeros
-zero-value : (kind : DeckKind) (parcels : List Parcel) → AreZero parcels → is_none_there parcels ≡ false → value_of_parcels kind parcels ≡ Some 0
-zero-value kind [] zeros some = cc
-zero-value kind (parcel ∷ parcels) zeros some = ap Some (zero-word kind (parcel ∷ parcels) zeros)
+use Rattle.parcel_packer.{specs.Joins.Packing.parcel_at, specs.Joins.Spans.span_parcels, specs.Joins.Filling.{AreWords, FillWords, IsGathered, IsOpenWord, found, value_in, value_of_parcels}, specs.declared.gathering.OpenWord.OpenWord, specs.declared.spans.Span.Span, specs.declared.word_spans.WordSpan.WordSpan, proofs.GatherLaws.{no_parcels, word_four}, proofs.PackingLaws.{cut-length, parcels_from-append}, proofs.RiseLaws.{none-option_or, spans-push, found-append, found-above, found-here, found-before, order_of, units_le}}
 
 cut-zero : (size count : ℕ) → cut size count 0 ≡ replicate count 0
 cut-zero size zero = refl
@@ -44,13 +10,6 @@ cut-zero size (suc count) =
     let rest : 0 % 2 ^ size ≡ 0 = let split = shr_split 0 size in omega arith in
     let more : count + 1 ≡ suc count = omega arith in
     rw (none, rest) (ap (λ ns. ns ++ 0 ∷ []) (cut-zero size count) ∙ replicate_more count 0 ∙ ap (λ n. replicate n 0) more)
-
-zero-held : (kind : DeckKind) (word place count : ℕ) → AreZero (in_word kind word (parcels_from false place (replicate count 0)))
-zero-held kind word place zero = tt
-zero-held kind word place (suc count) = elim (eqb_tells (place / units kind) word) [
-  | inl h ↦ rw h.0 (refl, refl, zero-held kind word (place + 1) count)
-  | inr h ↦ rw h.0 (zero-held kind word (place + 1) count)
-]
 
 -- parcels of other words
 held-none : (kind : DeckKind) (word : ℕ) (instruction : Bool) (place : ℕ) (bits : List ℕ) → ((n : ℕ) → place ≤ n → n < place + length bits → n / units kind ≢ word) → in_word kind word (parcels_from instruction place bits) ≡ []
@@ -69,20 +28,6 @@ held-all kind word instruction place (first ∷ bits) same = elim (eqb_tells (pl
   | inr h ↦ absurd (h.1 (same place (omega arith) (omega arith)))
 ]
 
--- a parcel of this word
-held-some : (kind : DeckKind) (word : ℕ) (instruction : Bool) (place : ℕ) (bits : List ℕ) (n : ℕ) → place ≤ n → n < place + length bits → n / units kind ≡ word → is_none_there (in_word kind word (parcels_from instruction place bits)) ≡ false
-held-some kind word instruction place [] n a b at = absurd (omega arith)
-held-some kind word instruction place (first ∷ bits) n a b at = elim (eqb_tells (place / units kind) word) [
-  | inl h ↦ rw h.0 refl
-  | inr h ↦ rw h.0 (held-some kind word instruction (place + 1) bits n (past n a at h.1) (omega arith) at)
-]
-  where
-    past : (m : ℕ) → place ≤ m → m / units kind ≡ word → place / units kind ≢ word → place + 1 ≤ m
-    past m c e other = elim (leb_tells (place + 1) m) [
-      | inl k ↦ k.1
-      | inr k ↦ let over = k.1 in let same : place ≡ m = omega arith in absurd (other (ap (λ i. i / units kind) same ∙ e))
-    ]
-
 in_word-both : (kind : DeckKind) (word : ℕ) (xs ys : List Parcel) → in_word kind word (xs ++ ys) ≡ in_word kind word xs ++ in_word kind word ys
 in_word-both kind word xs ys = filter-append (λ (p : Parcel). nat_eq (p.place / units kind) word) xs ys
 
@@ -93,10 +38,34 @@ word_past Abs place count n a b h = omega arith
 word_past Periph place count n a b h = omega arith
 
 word_there : (kind : DeckKind) (place count word : ℕ) → place % units kind ≡ 0 → count % units kind ≡ 0 → place / units kind ≤ word → word < place / units kind + count / units kind →
-    (place ≤ units kind * word) × (units kind * word < place + count) × (units kind * word / units kind ≡ word)
+    (place + (units kind * word - place) ≡ units kind * word) × (count ≡ (units kind * word - place) + (units kind + (place + count - (units kind * word + units kind)))) × (units kind * word % units kind ≡ 0)
 word_there Rel place count word a b h k = (omega arith, omega arith, omega arith)
 word_there Abs place count word a b h k = (omega arith, omega arith, omega arith)
 word_there Periph place count word a b h k = (omega arith, omega arith, omega arith)
+
+-- places before a word, in it and behind it
+word_of : (kind : DeckKind) (word n : ℕ) →
+    (n < units kind * word → n / units kind < word) × (units kind * word ≤ n → n < units kind * word + units kind → n / units kind ≡ word) × (units kind * word + units kind ≤ n → word < n / units kind)
+word_of Rel word n = (λ a. omega arith, λ a b. omega arith, λ a. omega arith)
+word_of Abs word n = (λ a. omega arith, λ a b. omega arith, λ a. omega arith)
+word_of Periph word n = (λ a. omega arith, λ a b. omega arith, λ a. omega arith)
+
+-- parcels before a word, those of it and those behind it
+held_middle : (kind : DeckKind) (word : ℕ) (instruction : Bool) (place : ℕ) (front middle back : List ℕ) → place + length front ≡ units kind * word → length middle ≡ units kind →
+    in_word kind word (parcels_from instruction place (front ++ (middle ++ back))) ≡ parcels_from instruction (units kind * word) middle
+held_middle kind word instruction place front middle back h k =
+    let first = units kind * word in
+    let xs = parcels_from instruction place front in
+    let ys = parcels_from instruction first middle in
+    let zs = parcels_from instruction (first + length middle) back in
+    ap (in_word kind word)
+    (parcels_from-append instruction place front (middle ++ back) ∙ ap (λ p. xs ++ parcels_from instruction p (middle ++ back)) h ∙ ap (λ ps. xs ++ ps) (parcels_from-append instruction first middle back))
+    ∙ in_word-both kind word xs (ys ++ zs)
+    ∙ ap (λ ps. ps ++ in_word kind word (ys ++ zs)) (held-none kind word instruction place front (λ n a b e. let lt = (word_of kind word n).0 (rw h at b) in absurd (omega arith)))
+    ∙ in_word-both kind word ys zs
+    ∙ ap (λ ps. ps ++ in_word kind word zs) (held-all kind word instruction first middle (λ n a b. (word_of kind word n).1 a (rw k at b)))
+    ∙ ap (λ ps. ys ++ ps) (held-none kind word instruction (first + length middle) back (λ n a b e. let lt = (word_of kind word n).2 (rw k at a) in absurd (omega arith)))
+    ∙ append-nil ys
 
 one_word : (kind : DeckKind) → units kind / units kind ≡ 1
 one_word Rel = refl
@@ -131,7 +100,7 @@ pub span_fills : (kind : DeckKind) (span : Span) (first again size width word va
 span_fills kind span first again size width word value h f a s w e v = rw (e, v, f, a, s, w) (record {
   has = λ at from to. elim h.of [
     | inl one ↦ whole at from to one
-    | inr zeros ↦ none at from to zeros.0 zeros.1
+    | inr empty ↦ none at from to empty
   ];
   before = λ at below. held-none kind at span.is_instruction span.place bits (λ n c d same. let le = units_le kind span.place n c in absurd (omega arith));
   past = λ at above. held-none kind at span.is_instruction span.place bits (λ n c d same. let lt = word_past kind span.place span.count n h.from_word h.to_word (rw many at d) in absurd (omega arith));
@@ -152,17 +121,24 @@ span_fills kind span first again size width word value h f a s w e v = rw (e, v,
         ∙ ap (λ n. value_of_parcels kind (parcels_from span.is_instruction span.place (cut (unit_bits kind) n span.bits))) one
         ∙ word_cut kind span.is_instruction span.place span.bits h.from_word
 
-    none : (at : ℕ) → span.place / units kind ≤ at → at < span.place / units kind + span.count / units kind → span.bits ≡ 0 → span.is_instruction ≡ false →
+    none : (at : ℕ) → span.place / units kind ≤ at → at < span.place / units kind + span.count / units kind → span.bits ≡ 0 →
         value_in kind (span_parcels (unit_bits kind) span) at ≡ Some (span.bits % 2 ^ (unit_bits kind * units kind))
-    none at from to empty plain =
-        let there = word_there kind span.place span.count at h.from_word h.to_word from to in
-        let value : 0 ≡ span.bits % 2 ^ (unit_bits kind * units kind) = rw empty (let split = shr_split 0 (unit_bits kind * units kind) in omega arith) in
-        let All : List ℕ → Type 0 = λ ns. AreZero (in_word kind at (parcels_from false span.place ns)) in
-        let zeros : bits ≡ replicate span.count 0 = ap (λ n. cut (unit_bits kind) span.count n) empty ∙ cut-zero (unit_bits kind) span.count in
-        ap (λ i. value_of_parcels kind (in_word kind at (parcels_from i span.place bits))) plain
-        ∙ zero-value kind (in_word kind at (parcels_from false span.place bits)) (subst All (sym zeros) (zero-held kind at span.place span.count))
-        (held-some kind at false span.place bits (units kind * at) there.0 (rw many there.1) there.2)
-        ∙ ap Some value
+    none at from to empty =
+        let i = span.is_instruction in
+        let first = units kind * at in
+        let before = first - span.place in
+        let behind = span.place + span.count - (first + units kind) in
+        let parts = word_there kind span.place span.count at h.from_word h.to_word from to in
+        let front = replicate before 0 in
+        let zeros : bits ≡ front ++ (replicate (units kind) 0 ++ replicate behind 0) =
+        ap (λ n. cut (unit_bits kind) span.count n) empty ∙ cut-zero (unit_bits kind) span.count ∙ ap (λ n. replicate n 0) parts.1
+        ∙ sym (replicate-append-replicate before (units kind + behind) 0) ∙ ap (λ ns. front ++ ns) (sym (replicate-append-replicate (units kind) behind 0)) in
+        ap (λ ns. value_of_parcels kind (in_word kind at (parcels_from i span.place ns))) zeros
+        ∙ ap (value_of_parcels kind)
+        (held_middle kind at i span.place front (replicate (units kind) 0) (replicate behind 0) (ap (λ n. span.place + n) (length-replicate before 0) ∙ parts.0) (length-replicate (units kind) 0))
+        ∙ ap (λ ns. value_of_parcels kind (parcels_from i first ns)) (sym (cut-zero (unit_bits kind) (units kind)))
+        ∙ word_cut kind i first 0 parts.2
+        ∙ ap (λ n. Some (n % 2 ^ (unit_bits kind * units kind))) (sym empty)
 
 -- nothing lies from the open word on
 none-behind : (kind : DeckKind) (parcels : List Parcel) (spans : List WordSpan) (next : OpenWord) (offset : ℕ) → IsGathered kind parcels spans next → next.is_empty ≡ true → next.word ≤ offset → in_word kind offset parcels ≡ []

@@ -38,7 +38,8 @@ fn joined_bits(next: OpenParcel, width: u32, bits: u64) -> u64
     (next.bits << width) + bits
 }
 
-/// Puts a field that makes the open parcel whole; all the parcels that it makes whole are one span.
+/// Puts a field that makes the open parcel whole. All parcels that it makes whole, which have at most 60
+/// bits together, are one span.
 #[inline(always)]
 fn put_span(
     spans: &mut Vec<Span>,

@@ -44,8 +44,7 @@ fn are_words(kind: DeckKind, span: Span) -> bool
 {
     let units = kind.units();
     span.place % units == 0
-        && (span.count == units
-            || span.bits == 0 && span.count != 0 && span.count % units == 0 && !span.is_instruction)
+        && (span.count == units || span.bits == 0 && span.count != 0 && span.count % units == 0)
 }
 
 /// The bits of a parcel of a span behind which there are so many others.

@@ -67,7 +67,7 @@ pub record AreWords (kind : DeckKind) (span : Span) : Type 0 where
   pub from_word : span.place % units kind ≡ 0
   pub to_word : span.count % units kind ≡ 0
   pub some : 0 < span.count
-  pub of : (span.count ≡ units kind) ⊎ ((span.bits ≡ 0) × (span.is_instruction ≡ false))
+  pub of : (span.count ≡ units kind) ⊎ (span.bits ≡ 0)
 
 -- parcels fill so many words, each with one value, and lie in no other
 pub record FillWords (kind : DeckKind) (first count value : ℕ) (parcels : List Parcel) : Type 0 where
