@@ -1,6 +1,6 @@
 -- The steps of reading a variable field.
-use Rattle.std.proofs.{Common.{ℕ, zero, suc, ◌≡◌, ◌≢◌, ◌==◌, ◌+◌, ◌-◌, ◌<◌, ◌≤◌, inl, inr, List, [], ◌∷◌, Bool, false, true≢false, Option, Some, None, is_some, if◌then◌else◌, length, take, drop, refl, sym, ◌∙◌, ap, subst, arith, codes}, lemmas.Bool.Decides.eqb_tells}
-use Rattle.definitions.{specs.Characters.{blank, same_text}, specs.CountedItems.{CountedSpan, counted_item_at}, specs.Pieces.{Spot, AtStart, AtEquals, Inside, begun_by_counted_item, begun_at, spot_behind, left_of, field_at}, specs.Fields.variable_of, proofs.FieldLaws.{field_at-blank, field_at-other}}
+use Rattle.std.{proofs.Common.{ℕ, zero, suc, ◌≡◌, ◌≢◌, ◌==◌, ◌+◌, ◌-◌, ◌<◌, ◌≤◌, inl, inr, List, [], ◌∷◌, Bool, false, true≢false, Option, Some, None, is_some, if◌then◌else◌, length, take, drop, refl, sym, ◌∙◌, ap, subst, arith, codes, cond, true, nat_le}, specs.List.prefix_len, proofs.lemmas.Bool.Decides.eqb_tells, proofs.lemmas.List.Folds.length-prefix_len}
+use Rattle.definitions.{specs.Characters.{blank, is_digit, same_text}, specs.CountedItems.{CountedSpan, counted_item_at, counted_item_behind}, specs.Numerals.number_of, specs.Pieces.{Mark, mark_of, begun_by, Spot, AtStart, AtEquals, Inside, begun_by_counted_item, begun_at, spot_behind, left_of, field_at}, specs.Fields.variable_of, proofs.FieldLaws.{field_at-blank, field_at-other}}
 
 -- a field begins its text
 pub take-field_at : (spot : Spot) (left : ℕ) (text : List ℕ) → take (length (field_at spot left text)) text ≡ field_at spot left text
@@ -49,11 +49,53 @@ item-begins (c ∷ cs) counted e some within =
     ∙ item-rest counted.taken (counted.taken - 1) c cs (omega (arith, some)) (omega (arith, some, within))
 
 -- a field that no item begins
-pub no-item-begins : (text : List ℕ) → counted_item_at text ≡ None → length (field_at AtEquals 0 text) ≡ 0 + length (field_at Inside 0 text)
+no-item-begins : (text : List ℕ) → counted_item_at text ≡ None → length (field_at AtEquals 0 text) ≡ length (field_at Inside 0 text)
 no-item-begins [] e = refl
 no-item-begins (c ∷ cs) e =
     ap (λ (o : Option CountedSpan). length (if c == blank then [] else c ∷ field_at (spot_behind (begun_by_counted_item c o)) (left_of (begun_by_counted_item c o)) cs)) e
-    ∙ nothing-more (length (field_at Inside 0 (c ∷ cs)))
+
+-- no item begins a text where no letter is behind its digits
+pub no-item-behind : (text rest : List ℕ) (count : ℕ) → count ≡ prefix_len is_digit text → rest ≡ drop count text →
+    ((digits number : ℕ) → counted_item_behind digits number rest ≡ None) → counted_item_at text ≡ None
+no-item-behind text rest count e behind none = by (nat_le 1 (length digits))
+  where
+    digits : List ℕ
+    digits = take (prefix_len is_digit text) text
+
+    same : rest ≡ drop (length digits) text
+    same = behind ∙ ap (λ (n : ℕ). drop n text) (e ∙ sym (length-prefix_len is_digit text))
+
+    by : (b : Bool) → (if b then counted_item_behind (length digits) (number_of 10 digits) (drop (length digits) text) else None) ≡ None
+    by true = ap (counted_item_behind (length digits) (number_of 10 digits)) (sym same) ∙ none (length digits) (number_of 10 digits)
+    by false = refl
+
+-- a digit is neither a blank nor a mark
+digit-other : (c : ℕ) → is_digit c ≡ true → mark_of c ≡ None
+digit-other c e = grind arith
+
+digit-no_blank : (c : ℕ) → is_digit c ≡ true → (c == blank) ≡ false
+digit-no_blank c e = grind arith
+
+-- the digits within a field are passed over by their number
+digits-inside : (text : List ℕ) → length (field_at Inside 0 text) ≡ prefix_len is_digit text + length (field_at Inside 0 (drop (prefix_len is_digit text) text))
+digits-inside [] = refl
+digits-inside (c ∷ cs) = by (is_digit c) refl (digits-inside cs)
+  where
+    by : (b : Bool) → is_digit c ≡ b → length (field_at Inside 0 cs) ≡ prefix_len is_digit cs + length (field_at Inside 0 (drop (prefix_len is_digit cs) cs)) →
+        length (field_at Inside 0 (c ∷ cs)) ≡ cond b (1 + prefix_len is_digit cs) 0 + length (field_at Inside 0 (drop (cond b (1 + prefix_len is_digit cs) 0) (c ∷ cs)))
+    by true e before =
+        let more : suc (prefix_len is_digit cs) ≡ 1 + prefix_len is_digit cs = omega arith in
+        ap (λ (t : Bool). length (if t then [] else c ∷ field_at (spot_behind (begun_at Inside c cs)) (left_of (begun_at Inside c cs)) cs)) (digit-no_blank c e)
+        ∙ ap (λ (m : Option Mark). suc (length (field_at (spot_behind (begun_by c m)) (left_of (begun_by c m)) cs))) (digit-other c e)
+        ∙ subst (λ (n : ℕ). suc (length (field_at Inside 0 cs)) ≡ n + length (field_at Inside 0 (drop n (c ∷ cs)))) more (behind-one _ _ _ before)
+    by false e before = nothing-more (length (field_at Inside 0 (c ∷ cs)))
+
+pub digits-begin : (text : List ℕ) (count : ℕ) → count ≡ prefix_len is_digit text → counted_item_at text ≡ None →
+    length (field_at AtEquals 0 text) ≡ count + length (field_at Inside 0 (drop count text))
+digits-begin text count e none =
+    no-item-begins text none
+    ∙ digits-inside text
+    ∙ ap (λ (n : ℕ). n + length (field_at Inside 0 (drop n text))) (sym e)
 
 -- the variable field of any operation but DIS
 pub variable-other : (operation rest part : List ℕ) (len : ℕ) → same_text operation (codes "DIS") ≡ false → part ≡ rest →

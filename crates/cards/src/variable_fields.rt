@@ -1,8 +1,9 @@
 //! Where a variable field ends: at the first blank that lies in no counted item.
-ghost use Rattle.std.specs.Prelude.{◌≡◌, ◌≤◌, ◌+◌, length, drop, is_some};
+ghost use Rattle.std.specs.Prelude.{◌≡◌, ℕ, ◌≤◌, ◌+◌, length, drop, is_some, false, None};
+ghost use Rattle.definitions.specs.CountedItems.{counted_item_behind};
 ghost use Rattle.definitions.specs.Pieces.{AtStart, AtEquals, Inside, field_at, mark_of};
 
-use definitions::item_at;
+use definitions::{digit_count, item_at};
 
 /// The five marks that separate. No mark has a greater code than `/`, and most characters have.
 fn is_mark(c: u8) -> bool
@@ -11,19 +12,34 @@ fn is_mark(c: u8) -> bool
     c <= b'/' && (c == b',' || c == b'+' || c == b'-' || c == b'*' || c == b'/')
 }
 
-/// How many characters the counted item has that begins a text, if one does.
+/// Whether the letter of an item may begin a text: no digit and no mark has as great a code.
+#[inline(always)]
+fn may_be_letter(text: &[u8]) -> bool
+    ensures { result ≡ false → (digits count : ℕ) → counted_item_behind digits count text.now ≡ None }
+{
+    match text.split_first() {
+        None => false,
+        Some((c, _)) => *c > b'9',
+    }
+}
+
+/// How many characters the counted item has that begins a text; where none does, how many digits.
 #[inline(always)]
 fn item_len(text: &[u8]) -> usize
     ensures within { result ≤ length text.now }
     ensures len { length (field_at AtEquals 0 text.now) ≡ result + length (field_at Inside 0 (drop result text.now)) }
 {
-    match item_at(text) {
-        Some(span) => span.taken,
-        None => 0,
+    let digits = digit_count(text);
+    if may_be_letter(text.split_at(digits).1) {
+        match item_at(text) {
+            Some(span) => return span.taken,
+            None => {}
+        }
     }
+    digits
 }
 
-/// How many characters an equals sign and a counted item have that begin a text.
+/// How many characters an equals sign and a counted item have that begin a text, or digits in its place.
 #[inline(always)]
 fn front_len(text: &[u8]) -> usize
     ensures within { result ≤ length text.now }
