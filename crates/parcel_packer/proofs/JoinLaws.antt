@@ -1,7 +1,7 @@
 -- Equal words one behind the other as one span.
 use Rattle.std.proofs.Common.{◌≡◌, ℕ, zero, suc, ◌+◌, ◌^◌, ◌≤◌, List, [], ◌∷◌, ◌++◌, refl, sym, ap, subst, ◌∙◌, arith, append_assoc}
 use Rattle.definitions.specs.Words.{StoredWord}
-use Rattle.parcel_packer.{specs.Joins.Filling.{DoSpansRise, as_stored, words_from}, specs.Joins.Joining.{AreJoined, IsJoining}, specs.declared.word_spans.WordSpan.WordSpan, proofs.RiseLaws.spans-order}
+use Rattle.parcel_packer.{specs.Joins.Filling.{DoSpansRise, as_stored, words_from}, specs.Joins.Joining.{AreJoined, IsJoining, IsPushed}, specs.declared.word_spans.WordSpan.WordSpan, proofs.RiseLaws.spans-order}
 
 -- so many words, and so many behind them
 words-both : (offset first second value : ℕ) → words_from offset (first + second) value ≡ words_from offset first value ++ words_from (offset + first) second value
@@ -38,30 +38,42 @@ module _ (first second both : WordSpan) (joined : AreJoined first second both) w
       (omega arith, omega arith, subst (λ (n : ℕ). DoSpansRise n left high) end rise.2.2)
   joined-rise low (span ∷ made) left high rise = (rise.0, rise.1, joined-rise (span.offset + span.count) made left high rise.2)
 
-  -- one more that goes on with the words of the last
-  pub joining-same : (spans made left : List WordSpan) → IsJoining spans made first (second ∷ left) → IsJoining spans made both left
-  joining-same spans made left h = record {
-    words = joined-words made left ∙ h.words;
-    rise = joined-rise 0 made left (2 ^ 20) h.rise;
-  }
+-- a span that is one with the last of those before it
+pub pushed-joined : (old made new : List WordSpan) (last next both : WordSpan) → old ≡ made ++ last ∷ [] → new ≡ made ++ both ∷ [] → AreJoined last next both → IsPushed old next new
+pushed-joined old made new last next both o n joined = record {
+  words = λ left. ap as_stored (new-is left) ∙ joined-words last next both joined made left ∙ ap as_stored (old-is left);
+  rise = λ left high h.
+      subst (λ (l : List WordSpan). DoSpansRise 0 l high) (sym (new-is left))
+      (joined-rise last next both joined 0 made left high (subst (λ (l : List WordSpan). DoSpansRise 0 l high) (sym (old-is left)) h));
+}
+  where
+    new-is : (left : List WordSpan) → new ++ left ≡ made ++ both ∷ left
+    new-is left = ap (λ (l : List WordSpan). l ++ left) n ∙ append_assoc made (both ∷ []) left
 
--- one more that does not
-pub joining-next : (spans made made_more : List WordSpan) (last next : WordSpan) (left : List WordSpan) → made_more ≡ made ++ last ∷ [] → IsJoining spans made last (next ∷ left) → IsJoining spans made_more next left
-joining-next spans made made_more last next left more h =
-    let same : made ++ last ∷ next ∷ left ≡ made_more ++ next ∷ left = sym (ap (λ (l : List WordSpan). l ++ next ∷ left) more ∙ append_assoc made (last ∷ []) (next ∷ left)) in
-    record {
-      words = subst (λ (l : List WordSpan). as_stored l ≡ as_stored spans) same h.words;
-      rise = subst (λ (l : List WordSpan). DoSpansRise 0 l (2 ^ 20)) same h.rise;
-    }
+    old-is : (left : List WordSpan) → made ++ last ∷ next ∷ left ≡ old ++ next ∷ left
+    old-is left = sym (ap (λ (l : List WordSpan). l ++ next ∷ left) o ∙ append_assoc made (last ∷ []) (next ∷ left))
+
+-- and one that is not
+pub pushed-behind : (old new : List WordSpan) (next : WordSpan) → new ≡ old ++ next ∷ [] → IsPushed old next new
+pushed-behind old new next e = record {
+  words = λ left. ap as_stored (is left);
+  rise = λ left high h. subst (λ (l : List WordSpan). DoSpansRise 0 l high) (sym (is left)) h;
+}
+  where
+    is : (left : List WordSpan) → new ++ left ≡ old ++ next ∷ left
+    is left = ap (λ (l : List WordSpan). l ++ left) e ∙ append_assoc old (next ∷ []) left
+
+-- one more
+pub joining-more : (spans made new left : List WordSpan) (next : WordSpan) → IsPushed made next new → IsJoining spans made (next ∷ left) → IsJoining spans new left
+joining-more spans made new left next pushed h = record { words = pushed.words left ∙ h.words; rise = pushed.rise left (2 ^ 20) h.rise }
 
 -- those that rise behind others
 rise-behind : (low : ℕ) (made rest : List WordSpan) (high : ℕ) → DoSpansRise low (made ++ rest) high → (from : ℕ) × DoSpansRise from rest high
 rise-behind low [] rest high rise = (low, rise)
 rise-behind low (span ∷ made) rest high rise = rise-behind (span.offset + span.count) made rest high rise.2
 
--- the last and the next stand one behind the other, within the block
-pub joining-order : (spans made : List WordSpan) (last next : WordSpan) (left : List WordSpan) → IsJoining spans made last (next ∷ left) →
-    (last.offset + last.count ≤ next.offset) × (next.offset + next.count ≤ 2 ^ 20)
-joining-order spans made last next left h =
-    let rise = (rise-behind 0 made (last ∷ next ∷ left) (2 ^ 20) h.rise).1 in
-    (rise.2.0, spans-order (next.offset + next.count) left (2 ^ 20) rise.2.2)
+-- the next stands within the block
+pub joining-within : (spans made left : List WordSpan) (next : WordSpan) → IsJoining spans made (next ∷ left) → next.offset + next.count ≤ 2 ^ 20
+joining-within spans made left next h =
+    let rise = (rise-behind 0 made (next ∷ left) (2 ^ 20) h.rise).1 in
+    spans-order (next.offset + next.count) left (2 ^ 20) rise.2

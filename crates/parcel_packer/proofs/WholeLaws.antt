@@ -1,7 +1,7 @@
 -- A whole word, and whole words of zeros, gathered at once.
 use Rattle.std.{proofs.Common.{◌≡◌, ◌≢◌, ℕ, zero, suc, ◌+◌, ◌-◌, ◌*◌, ◌/◌, ◌%◌, ◌^◌, ◌<◌, ◌≤◌, Bool, true, nat_eq, List, [], ◌∷◌, ◌++◌, Some, length, replicate, refl, sym, ap, subst, ◌∙◌, arith, inl, inr, append-nil}, proofs.lemmas.Bool.Decides.eqb_tells, proofs.lemmas.Nat.{shr_le, shr_split}, proofs.lemmas.List.{Elements.filter-append, length-replicate, replicate_more, replicate-append-replicate}}
-use Rattle.definitions.{specs.Kinds.{units, unit_bits}, specs.Words.{Parcel, bits_at, cut, filling_of, in_word, parcels_from, word_of_parcels}, specs.declared.deck_kind.DeckKind.DeckKind, specs.declared.deck_kind.DeckKind.TheVariants.{Rel, Abs, Periph}, proofs.TestLaws.option_or-none}
-use Rattle.parcel_packer.{specs.Joins.Packing.parcel_at, specs.Joins.Spans.span_parcels, specs.Joins.Filling.{AreWords, FillWords, IsGathered, IsOpenWord, found, value_in, value_of_parcels}, specs.declared.gathering.OpenWord.OpenWord, specs.declared.spans.Span.Span, specs.declared.word_spans.WordSpan.WordSpan, proofs.GatherLaws.{no_parcels, word_four}, proofs.PackingLaws.{cut-length, parcels_from-append}, proofs.RiseLaws.{none-option_or, spans-push, found-append, found-above, found-here, found-before, order_of, units_le}}
+use Rattle.definitions.{specs.Image.stored_at, specs.Kinds.{units, unit_bits}, specs.Words.{Parcel, bits_at, cut, filling_of, in_word, parcels_from, word_of_parcels}, specs.declared.deck_kind.DeckKind.DeckKind, specs.declared.deck_kind.DeckKind.TheVariants.{Rel, Abs, Periph}, proofs.TestLaws.option_or-none}
+use Rattle.parcel_packer.{specs.Joins.Packing.parcel_at, specs.Joins.Spans.span_parcels, specs.Joins.Filling.{AreWords, DoSpansRise, FillWords, IsGathered, IsOpenWord, as_stored, found, value_in, value_of_parcels}, specs.Joins.Joining.IsPushed, specs.declared.gathering.OpenWord.OpenWord, specs.declared.spans.Span.Span, specs.declared.word_spans.WordSpan.WordSpan, proofs.FillLaws.spans-found, proofs.GatherLaws.{no_parcels, word_four}, proofs.PackingLaws.{cut-length, parcels_from-append}, proofs.RiseLaws.{none-option_or, spans-push, found-append, found-above, found-here, found-before, order_of, units_le}}
 
 cut-zero : (size count : ℕ) → cut size count 0 ≡ replicate count 0
 cut-zero size zero = refl
@@ -148,14 +148,14 @@ none-behind kind parcels spans next offset h empty from = elim (order_of next.wo
 ]
 
 -- so many words of one value from the open word on, in which nothing lies
-pub words_gathered : (kind : DeckKind) (parcels more : List Parcel) (old new : List WordSpan) (next : OpenWord) (count value : ℕ) → next.is_empty ≡ true → 0 < count → next.word + count < 2 ^ 20 →
-    new ≡ old ++ (let s : WordSpan = record { offset = next.word; count = count; value = value } in s) ∷ [] → FillWords kind next.word count value more → IsGathered kind parcels old next →
-    IsGathered kind (parcels ++ more) new (record next { word = next.word + count })
-words_gathered kind parcels more old new next count value empty some small pushed fill h =
+pub words_gathered : (kind : DeckKind) (parcels more : List Parcel) (old : List WordSpan) (next : OpenWord) (count value : ℕ) → next.is_empty ≡ true → 0 < count → next.word + count < 2 ^ 20 →
+    FillWords kind next.word count value more → IsGathered kind parcels old next →
+    IsGathered kind (parcels ++ more) (old ++ (let s : WordSpan = record { offset = next.word; count = count; value = value } in s) ∷ []) (record next { word = next.word + count })
+words_gathered kind parcels more old next count value empty some small fill h =
     record {
       small = small;
-      rise = rw pushed (spans-push 0 old span (next.word + count) h.rise some (omega arith));
-      has = λ offset below. ap (found offset) pushed ∙ found-append offset old (span ∷ []) ∙ elim (order_of offset next.word) [
+      rise = spans-push 0 old span (next.word + count) h.rise some (omega arith);
+      has = λ offset below. found-append offset old (span ∷ []) ∙ elim (order_of offset next.word) [
         | inl before ↦
             option_or-none (found offset old) (found offset (span ∷ [])) (found-before offset span [] before)
             ∙ h.has offset before
@@ -180,3 +180,17 @@ words_gathered kind parcels more old new next count value empty some small pushe
         in_word-both kind offset parcels more
         ∙ ap (λ ps. ps ++ in_word kind offset more) (none-behind kind parcels old next offset h empty (omega arith))
         ∙ fill.past offset past
+
+-- the same where they join the last span
+pub gathered_pushed : (kind : DeckKind) (parcels : List Parcel) (old new : List WordSpan) (span : WordSpan) (next : OpenWord) → IsPushed old span new → IsGathered kind parcels (old ++ span ∷ []) next → IsGathered kind parcels new next
+gathered_pushed kind parcels old new span next pushed h = record {
+  small = h.small;
+  rise = subst (λ (l : List WordSpan). DoSpansRise 0 l next.word) (append-nil new) (pushed.rise [] next.word h.rise);
+  has = λ offset below.
+      sym (ap (λ (l : List WordSpan). stored_at offset (as_stored l)) (append-nil new) ∙ spans-found offset new)
+      ∙ ap (stored_at offset) (pushed.words [])
+      ∙ spans-found offset (old ++ span ∷ [])
+      ∙ h.has offset below;
+  holds = h.holds;
+  behind = h.behind;
+}

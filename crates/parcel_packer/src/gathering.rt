@@ -8,6 +8,7 @@ ghost use Rattle.parcel_packer.specs.Joins.Spans.{RiseWithin, places, parcels_in
 ghost use Rattle.parcel_packer.specs.Joins.Filling.{AreWords, FillWords, IsFilled, IsOpenWord, IsGathered, value_in, word_made};
 
 use crate::fields::{last_bits, parcel_bits};
+use crate::joining::push_joined;
 use crate::spans::Span;
 use crate::word_spans::WordSpan;
 use definitions::DeckKind;
@@ -218,11 +219,14 @@ impl Gathered {
         ensures word { OnOk result (self.new.next.word ≡ self.old.next.word + count) }
     {
         let offset = self.next.word;
-        self.words.push(WordSpan {
-            offset,
-            count,
-            value,
-        })?;
+        push_joined(
+            &mut self.words,
+            WordSpan {
+                offset,
+                count,
+                value,
+            },
+        )?;
         self.next.word = offset + count;
         Ok(())
     }

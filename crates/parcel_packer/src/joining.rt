@@ -1,18 +1,18 @@
 //! Equal words one behind the other as one span.
-ghost use Rattle.std.specs.Prelude.{◌≡◌, ◌+◌, ◌^◌, ◌≤◌, IfOk, IfSome};
+ghost use Rattle.std.specs.Prelude.{◌≡◌, ◌+◌, ◌^◌, ◌≤◌, IfOk, IfSome, OnOk};
 ghost use Rattle.parcel_packer.specs.Joins.Filling.{DoSpansRise, as_stored};
-ghost use Rattle.parcel_packer.specs.Joins.Joining.{AreJoined};
+ghost use Rattle.parcel_packer.specs.Joins.Joining.{AreJoined, IsPushed};
 
 use crate::word_spans::WordSpan;
 use std::alloc::{AllocError, Global};
 
 /// Both spans as one, where the second goes on with the words of the first.
 fn both(first: WordSpan, second: WordSpan) -> Option<WordSpan>
-    requires order { first.offset + first.count ≤ second.offset }
-    requires small { second.offset + second.count ≤ 2 ^ 20 }
+    requires { second.offset + second.count ≤ 2 ^ 20 }
     ensures { IfSome result (λ span. AreJoined first second span) }
 {
-    if first.value == second.value && first.offset + first.count == second.offset {
+    let end = u64::from(first.offset) + u64::from(first.count);
+    if first.value == second.value && end == u64::from(second.offset) {
         Some(WordSpan {
             offset: first.offset,
             count: first.count + second.count,
@@ -21,6 +21,22 @@ fn both(first: WordSpan, second: WordSpan) -> Option<WordSpan>
     } else {
         None
     }
+}
+
+/// Appends a span; where it goes on with the words of the last one, both are one.
+pub(crate) fn push_joined(spans: &mut Vec<WordSpan>, next: WordSpan) -> Result<(), AllocError>
+    requires { next.offset + next.count ≤ 2 ^ 20 }
+    ensures { OnOk result (IsPushed spans.old.items next spans.new.items) }
+{
+    let len = spans.len();
+    if len > 0 {
+        if let Some(more) = both(spans[len - 1], next) {
+            spans[len - 1] = more;
+            return Ok(());
+        }
+    }
+    spans.push(next)?;
+    Ok(())
 }
 
 /// Whether a span has the value of the one before it. It saves work, and nothing rests on it: where none
@@ -53,19 +69,8 @@ fn joined_spans(alloc: Global, spans: &[WordSpan]) -> Result<Vec<WordSpan>, Allo
     ensures rise { IfOk result (λ joined. DoSpansRise 0 joined.items (2 ^ 20)) }
 {
     let mut joined = Vec::new(alloc);
-    let Some((first, rest)) = spans.split_first() else {
-        return Ok(joined);
-    };
-    let mut last = *first;
-    for span in rest {
-        match both(last, *span) {
-            Some(more) => last = more,
-            None => {
-                joined.push(last)?;
-                last = *span;
-            }
-        }
+    for span in spans {
+        push_joined(&mut joined, *span)?;
     }
-    joined.push(last)?;
     Ok(joined)
 }

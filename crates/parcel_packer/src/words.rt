@@ -64,12 +64,12 @@ impl Words {
         }
     }
 
-    /// Asks for memory for so many parcels more of the run at once. Where there is none, it is asked for again as
-    /// they are put.
-    pub fn make_room(&mut self, parcels: usize)
+    /// Asks for memory for so many spans more of the run at once: a field makes one at most. Where there is none, it is
+    /// asked for again as they are put.
+    pub fn make_room(&mut self, spans: usize)
         ensures { self.new ≡ self.old }
     {
-        match self.run.reserve(parcels) {
+        match self.run.reserve(spans) {
             Ok(()) => {}
             Err(_) => {}
         }
