@@ -1,2 +1,1 @@
-pub mod PeripheralLaws
 pub mod ShapeLaws

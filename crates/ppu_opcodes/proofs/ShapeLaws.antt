@@ -1,9 +1,9 @@
 -- Instructions that were found are those of the definitions.
-use Rattle.std.{proofs.Common.{◌≡◌, ℕ, true, false, not, cond, List, [], ◌∷◌, Option, Some, map, codes, drop, refl, sym, ap, ◌∙◌, subst}, specs.List.list_all, proofs.lemmas.Bool.{and_parts, not-true}}
-use Rattle.definitions.specs.{Characters.same_text, Pieces.Piece, PeripheralTable.{PeripheralRow, peripheral_row, peripheral_rows, row_among}, Operands.{plain_of, by_form, peripheral_operand}, declared.number_base.NumberBase.NumberBase}
+use Rattle.std.{proofs.Common.{◌≡◌, ℕ, false, List, Option, Some, map, sym, ap, ◌∙◌, subst}}
+use Rattle.definitions.specs.{Pieces.Piece, PeripheralTable.{PeripheralRow}, Operands.{plain_of, by_form, peripheral_operand}, declared.number_base.NumberBase.NumberBase}
 use Rattle.definitions.specs.Operands as operand
 use Rattle.expr_forms.specs.{declared.shapes.Shape.Shape, Joins.Shapes.HasForm}
-use Rattle.ppu_opcodes.specs.{declared.code.Code.Code, Joins.PeripheralCodes.{row_as, form_as, found_row}, Joins.PeripheralShapes.{IsFieldOf, IsFound, is_ignored, is_ignoring}}
+use Rattle.ppu_opcodes.specs.{declared.code.Code.Code, Joins.PeripheralCodes.{row_as, form_as, found_row}, Joins.PeripheralShapes.{IsFieldOf, IsFound}}
 
 -- the digits of a row, and its field
 is_found-operand : (shape : Shape) (row : PeripheralRow) (found : operand.Operand) → shape.digits ≡ row.code → shape.digit_count ≡ 2 →
@@ -20,17 +20,3 @@ pub is_found : (operation : List ℕ) (code : Code) (shape : Shape) (base : Numb
 is_found operation code shape base subfields row found digits count field =
     subst (λ r. IsFound shape (peripheral_operand base r subfields)) found
     (is_found-operand shape (row_as operation code) (by_form (row_as operation code) (form_as code.form) (map (plain_of false base) subfields)) digits count field)
-
--- where each row reads something, none is found that does not
-none_ignored : (operation : List ℕ) (rows : List PeripheralRow) → list_all (λ (row : PeripheralRow). not (is_ignored row.form)) rows ≡ true → is_ignoring (row_among operation rows) ≡ false
-none_ignored operation [] all = refl
-none_ignored operation (row ∷ rows) all =
-    let parts = and_parts (not (is_ignored row.form)) (list_all (λ (row : PeripheralRow). not (is_ignored row.form)) rows) all in
-    elim (same_text row.operation operation) as (λ b. is_ignoring (cond b (Some row) (row_among operation rows)) ≡ false) [
-      | true ↦ not-true (is_ignored row.form) parts.0
-      | false ↦ none_ignored operation rows parts.1
-    ]
-
--- every operation but PSN, which is the first of the table, reads its operand
-pub reads-other : (operation : List ℕ) → same_text (codes "PSN") operation ≡ false → is_ignoring (peripheral_row operation) ≡ false
-reads-other operation other = rw other (none_ignored operation (drop 1 peripheral_rows) refl)

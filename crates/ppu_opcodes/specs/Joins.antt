@@ -1,4 +1,3 @@
 -- What inner functions promise, so that the proofs of the outer ones join: no promise of the documents leads here.
 pub mod PeripheralCodes
-pub mod PeripheralTables
 pub mod PeripheralShapes

@@ -1,7 +1,6 @@
 //! The instruction that an operation and its operand make (6600 reference 60100000, peripheral
 //! instructions; COMPASS 60492600, PPU instructions).
-ghost use Rattle.std.specs.Prelude.{◌≡◌, List, MatchOption, MatchResult, false, map, codes};
-ghost use Rattle.definitions.specs.Characters.{same_text};
+ghost use Rattle.std.specs.Prelude.{◌≡◌, List, MatchOption, MatchResult, false, map};
 ghost use Rattle.definitions.specs.Pieces.{Piece};
 ghost use Rattle.definitions.specs.PeripheralTable as form;
 ghost use Rattle.definitions.specs.PeripheralTable.{PeripheralRow, peripheral_row};
@@ -85,8 +84,7 @@ fn shape_of<'a>(digits: u8, field: Field<'a>) -> Shape<'a>
 }
 
 /// The instruction of an operation with an operand: O where the table has not the operation, V where
-/// the operand has a register or a literal, or another number of subfields than the operation. The
-/// operation is compared with at most seven names.
+/// the operand has a register or a literal, or another number of subfields than the operation.
 pub fn find<'a>(operation: &[u8], operand: &Operand<'a>) -> Result<Shape<'a>, Letter>
     ensures { MatchResult result
         (λ shape. (base : NumberBase) (subfields : List (List Piece)) → IsOperand base subfields operand.now →
@@ -103,27 +101,15 @@ pub fn find<'a>(operation: &[u8], operand: &Operand<'a>) -> Result<Shape<'a>, Le
     }
 }
 
-fn is_psn(operation: &[u8]) -> bool
-    ensures { result ≡ same_text (codes "PSN") operation.now }
-{
-    b"PSN".as_slice() == operation
-}
-
-/// The instruction of an operation whose operand is not read, whatever it is: PSN. Every operation is
-/// compared with this name; PSN is then looked up, by seven comparisons more.
+/// The instruction of an operation whose operand is not read, whatever it is: PSN.
 pub fn ignoring<'a>(operation: &[u8]) -> Option<Shape<'a>>
     ensures { MatchOption result
         (is_ignoring (peripheral_row operation.now) ≡ false)
         (λ shape. (base : NumberBase) (subfields : List (List Piece)) → IsFound shape (peripheral_operand base (peripheral_row operation.now) subfields)) }
 {
-    if !is_psn(operation) {
-        return None;
-    }
-    match row_of(operation) {
-        None => None,
-        Some(code) => match code.form {
-            Form::Ignored => Some(shape_of(code.digits, Field::Zero)),
-            _ => None,
-        },
+    let code = row_of(operation)?;
+    match code.form {
+        Form::Ignored => Some(shape_of(code.digits, Field::Zero)),
+        _ => None,
     }
 }
