@@ -1,17 +1,10 @@
 -- The decks that begin behind END by the lines of an object are those by its statements.
-use Rattle.std.{proofs.Common.{◌≡◌, ℕ, ◌+◌, ◌<◌, Bool, true, false, List, [], ◌∷◌, length, take, drop, get_or, reverse, refl, sym, ap, ap₂, ◌∙◌, arith, ◌++◌, append-nil}, specs.Prelude.{◌&&◌, Option, None, Some, filter, is_none, if◌then◌else◌, map}, proofs.lemmas.List.drop_more, proofs.lemmas.List.Elements.filter-append}
-use Rattle.definitions.specs.{Cards.Card, DeckInput.Deck, DeckKinds.{behind_end, kind_of_statements, up_to_end}, Lengths.BlockRow, Objects.{Object, Shown, context_of, object_of, only_listed, shown_of}, Settled.Settled, Settling.settled_all, StatementItems.Context, Statements.{Statement, statements_of}, Words.Coded, declared.deck_kind.DeckKind.DeckKind}
+use Rattle.std.{proofs.Common.{◌≡◌, ℕ, ◌+◌, Bool, true, false, List, [], ◌∷◌, length, drop, reverse, refl, ap, ap₂, ◌∙◌, arith, ◌++◌, append-nil}, specs.Prelude.{◌&&◌, Option, None, Some, filter, is_none, if◌then◌else◌, map}, proofs.lemmas.List.Elements.filter-append}
+use Rattle.definitions.specs.{Cards.Card, DeckInput.Deck, DeckKinds.{behind_end, kind_of_statements, up_to_end}, Lengths.BlockRow, Objects.{Shown, context_of, object_of, only_listed, shown_of}, Settled.Settled, Settling.settled_all, StatementItems.Context, Statements.{Statement, statements_of}, Words.Coded, declared.deck_kind.DeckKind.DeckKind}
 use Rattle.statement_coder.specs.declared.items.Item as code
 use Rattle.deck_objects.specs.{Joins.CodedLines.{AreShown, IsStored}, Joins.PartsOf.ArePartsOf, declared.lines.CodedLine.CodedLine, declared.lines.Line.Line, declared.object.ObjectParts.ObjectParts}
 use Rattle.deck_cuts.specs.Cuts.{begins_deck}
 use Rattle.deck_listing.{specs.DecksBehind.{begins_with_deck, decks_behind, do_begin}, specs.Joins.LinesBehind.{begins_behind, begun_by, begun_in}, proofs.ListingLaws.{filter-reverse, one_more}}
-
--- the next statement, and those behind it
-pub begun-next : (cards : List Card) (lines : List Line) (i : ℕ) (shown : Line) → i < length lines → shown ≡ get_or lines i shown →
-    begun_in cards (drop i lines) ≡ begun_by (take shown.cards cards) (is_none shown.coded) + begun_in (drop shown.cards cards) (drop (i + 1) lines)
-begun-next cards lines i shown within is =
-    ap (begun_in cards) (drop_more lines i shown within)
-    ∙ ap (λ (line : Line). begun_in cards (line ∷ drop (i + 1) lines)) (sym is)
 
 -- a line stores nothing where its statement stands behind END
 pub behind-same : (kind : DeckKind) (rows : List BlockRow) (items : List code.Item) (line : Option CodedLine) (shown : Option Coded) → IsStored kind rows items line shown → is_none line ≡ is_none shown

@@ -1,28 +1,7 @@
 -- The lines of literals, one after the other.
-use Rattle.std.{proofs.Common.{◌≡◌, ℕ, ◌+◌, ◌<◌, ◌≤◌, false, List, [], ◌∷◌, ◌++◌, length, drop, get_or, refl, sym, ap, ◌∙◌, append_assoc, append-nil, Some, None, nat_le, arith, inl, inr, true≢false}, specs.Prelude.if◌then◌else◌, proofs.lemmas.Bool.Decides.leb_tells, proofs.lemmas.List.drop_more}
-use Rattle.definitions.specs.{Image.word_line, Kinds.memory_end, declared.deck_kind.DeckKind.DeckKind}
-use Rattle.deck_listing.{specs.Joins.ImageWordLines.literal_lines, proofs.ImageLineSteps.{is_within, is_beyond_end}}
-
--- the lines of literals, the first of which lies within the memory
-first_literal : (kind : DeckKind) (base offset value : ℕ) (literals : List ℕ) → nat_le (memory_end kind) (base + offset) ≡ false →
-    literal_lines kind base offset (value ∷ literals) ≡ word_line kind (record { address = base + offset; value = value }) ++ literal_lines kind base (offset + 1) literals
-first_literal kind base offset value literals e = rw e refl
-
--- one literal
-pub literal_more : (kind : DeckKind) (base : ℕ) (literals : List ℕ) (i address : ℕ) (before after all : List ℕ) → i < length literals →
-    before ++ literal_lines kind base i (drop i literals) ≡ all →
-    (if nat_le (memory_end kind) (base + i) then None else Some (base + i)) ≡ Some address →
-    after ≡ before ++ word_line kind (record { address = address; value = get_or literals i 0 }) → after ++ literal_lines kind base (i + 1) (drop (i + 1) literals) ≡ all
-literal_more kind base literals i address before after all h lines within a =
-    let value = get_or literals i 0 in
-    let behind = drop (i + 1) literals in
-    let rest = literal_lines kind base (i + 1) behind in
-    let inside = is_within (nat_le (memory_end kind) (base + i)) (base + i) address within in
-    ap (λ t. t ++ rest) (a ∙ ap (λ (m : ℕ). before ++ word_line kind (record { address = m; value = value })) (sym inside.1))
-    ∙ append_assoc before (word_line kind (record { address = base + i; value = value })) rest
-    ∙ ap (λ t. before ++ t) (sym (first_literal kind base i value behind inside.0))
-    ∙ ap (λ l. before ++ literal_lines kind base i l) (sym (drop_more literals i 0 h))
-    ∙ lines
+use Rattle.std.{proofs.Common.{◌≡◌, ℕ, ◌+◌, ◌≤◌, List, [], ◌∷◌, ◌++◌, drop, refl, sym, ap, ◌∙◌, append-nil, Some, None, nat_le, arith, inl, inr, true≢false}, specs.Prelude.if◌then◌else◌, proofs.lemmas.Bool.Decides.leb_tells}
+use Rattle.definitions.specs.{Kinds.memory_end, declared.deck_kind.DeckKind.DeckKind}
+use Rattle.deck_listing.{specs.Joins.ImageWordLines.literal_lines, proofs.ImageLineSteps.{is_beyond_end}}
 
 -- literals beyond the memory have no lines
 beyond_none : (kind : DeckKind) (base offset : ℕ) (literals : List ℕ) → memory_end kind ≤ base + offset → literal_lines kind base offset literals ≡ []

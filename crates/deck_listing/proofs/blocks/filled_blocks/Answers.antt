@@ -1,12 +1,6 @@
-use Rattle.std.{proofs.Common.{◌∷◌, [], Some, ap, sym, subst, take, ◌∙◌, ◌++◌, arith}, specs.List.AllZip, proofs.lemmas.List.{take_all, take_more}, proofs.lemmas.Option.slice_get-get_or}
+use Rattle.std.{proofs.Common.{◌∷◌, [], ap, sym, subst, take, ◌∙◌, ◌++◌, arith}, specs.List.AllZip, proofs.lemmas.List.{take_more}}
 use Rattle.deck_listing.{specs.Joins.BlockWords.IsFilledWith, proofs.BlockSteps.zip-more}
 use Rattle.deck_listing.proofs.blocks.filled_blocks.Goals as goal
-
-pub fill-requires : goal.fill-requires
-fill-requires c =
-    let packed = c.args.packed.now in
-    let i = c.loop-words.words-index in
-    c.requires i c.words-item.result (slice_get-get_or packed i c.words-item.result (omega arith) ∙ ap Some (sym c.words-item.is))
 
 pub loop-words-preserved : goal.loop-words-preserved
 loop-words-preserved c =
@@ -17,6 +11,3 @@ loop-words-preserved c =
     subst (λ front. AllZip IsFilledWith front c.push.new.self.items) (sym more)
     (subst (AllZip IsFilledWith (take i packed ++ word ∷ [])) (sym c.in_ok-push.ensures.items)
     (zip-more IsFilledWith (take i packed) c.loop-words.blocks.items word c.in_ok-spans.spans c.loop-words.invariant (record { words = c.in_ok-spans.ensures.words; rise = c.in_ok-spans.ensures.rise })))
-
-pub returns : goal.returns
-returns c = subst (λ front. AllZip IsFilledWith front c.loop-words.blocks.items) (take_all c.loop-words.words-index c.args.packed.now (omega arith)) c.loop-words.invariant

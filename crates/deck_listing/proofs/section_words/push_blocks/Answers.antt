@@ -1,6 +1,6 @@
-use Rattle.std.proofs.{Common.{◌<◌, ◌++◌, ◌∙◌, Some, ap, length, sym, arith}, lemmas.List.take_all, lemmas.Option.slice_get-get_or}
+use Rattle.std.proofs.{Common.{◌<◌, ◌∙◌, Some, ap, length, sym, arith}, lemmas.Option.slice_get-get_or}
 use Rattle.parcel_packer.specs.Joins.Filling.{as_stored}
-use Rattle.deck_listing.{specs.Joins.BlockWords.AreWordsOf, specs.Joins.ImageWordLines.{lines_of, rows_words}, proofs.BlockSteps.zip-at, proofs.ImageLineSteps.{row_more, row_put}}
+use Rattle.deck_listing.{specs.Joins.BlockWords.AreWordsOf, proofs.BlockSteps.zip-at, proofs.ImageLineSteps.{row_more, row_put}}
 use Rattle.deck_listing.proofs.section_words.push_blocks.Goals as goal
 
 pub loop-index-preserved : goal.loop-index-preserved
@@ -17,8 +17,3 @@ loop-index-preserved c = λ linking cards object are_parts words.
     (c.loop-index.invariant linking cards object are_parts words)
     (row_put object.kind linking object c.args.base row _ c.loop-index.text c.push_block.new.text c.index-rows-index.is
     (c.push_block.ensures linking cards object are_parts (ap as_stored c.as_slice.ensures.value ∙ of_row.words)))
-
-pub returns : goal.returns
-returns c = λ linking cards object are_parts words.
-    c.loop-index.invariant linking cards object are_parts words
-    ∙ ap (λ rows. c.args.text.now ++ lines_of object.kind (rows_words linking object c.args.base rows)) (take_all c.loop-index.index c.args.rows.now (omega arith))

@@ -1,10 +1,7 @@
-use Rattle.std.{proofs.Common.{◌++◌, ◌∙◌, List, ap, length, subst, sym}, specs.List.AllZip}
+use Rattle.std.{proofs.Common.{◌++◌, ◌∙◌, List, ap, subst, sym}, specs.List.AllZip}
 use Rattle.definitions.specs.Lengths.{BlockRow}
 use Rattle.deck_listing.{specs.Joins.BlockWords.AreWordsOf, specs.Joins.ImageWordLines.{lines_of, rows_words}, proofs.ImageLineSteps.all_rows}
 use Rattle.deck_listing.proofs.section_words.push_object_words.Goals as goal
-
-pub push_blocks-requires : goal.push_blocks-requires
-push_blocks-requires c = c.requires ∙ sym (ap length c.rows.ensures)
 
 pub returns : goal.returns
 returns c = λ linking cards object are_parts words.

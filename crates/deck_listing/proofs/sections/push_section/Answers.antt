@@ -1,10 +1,7 @@
-use Rattle.std.proofs.Common.{◌∙◌, ap, length, sym}
+use Rattle.std.proofs.Common.{◌∙◌}
 use Rattle.definitions.specs.{LinkValues.linking_of, Objects.object_of}
 use Rattle.deck_listing.proofs.SectionSteps.{section_put}
 use Rattle.deck_listing.proofs.sections.push_section.Goals as goal
-
-pub push_object_words-requires : goal.push_object_words-requires
-push_object_words-requires c = c.requires ∙ sym (ap length c.parts-parts.ensures.rows)
 
 pub returns : goal.returns
 returns c = λ layout based words same placed.

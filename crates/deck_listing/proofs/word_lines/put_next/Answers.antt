@@ -3,18 +3,8 @@ use Rattle.definitions.{specs.Kinds.unit_bits, specs.Operations.is_instruction, 
 use Rattle.statement_coder.specs.declared.items.Item as code
 use Rattle.operations.specs.Joins.OperationsAs.{operation_as}
 use Rattle.deck_objects.specs.Joins.LineItems.{kept_items}
-use Rattle.deck_listing.{specs.Joins.Putting.{ArePut, IsReady}, proofs.LineSteps.follows-ready, proofs.RunSteps.{begun-runs, joined-runs, on_ok_by}}
+use Rattle.deck_listing.{specs.Joins.Putting.{ArePut}, proofs.RunSteps.{begun-runs, joined-runs, on_ok_by}}
 use Rattle.deck_listing.proofs.word_lines.put_next.Goals as goal
-
-pub put_line-requires : goal.put_line-requires
-put_line-requires g c =
-    let parts = c.args.parts.now in
-    let coded = c.requires.coded in
-    let line = c.args.line.now in
-    let Ready : List code.Item → Type 0 = λ items. IsReady parts.kind items line c.args.words.now in
-    subst Ready (sym c.as_slice.ensures.value)
-    (follows-ready parts.kind parts.bases parts.items.items (g.L.Linking.linking c.args.linking.now) coded.settled.block line c.args.words.now coded c.requires.earlier c.requires.follows
-    (same_text-refl coded.settled.block) c.if-line.false)
 
 pub returns-then-line : goal.returns-then-line
 returns-then-line g c =
