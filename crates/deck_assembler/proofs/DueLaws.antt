@@ -2,7 +2,7 @@
 use Rattle.std.{proofs.Common.{◌≡◌, ℕ, suc, ◌+◌, ◌-◌, ◌<◌, ◌≤◌, inl, inr, ◌⊎◌, List, [], ◌∷◌, ◌++◌, drop, get_or, false, length, refl, sym, ap, ap₂, ◌∙◌, subst, arith, append_assoc, length-append, length-take-le}, specs.List.AllByRecursion, specs.Prelude.{reverse, map}, proofs.lemmas.Bool.cases_lt, proofs.lemmas.List.{length-drop, length-reverse, reverse-append, reverse-reverse, map-append}}
 use Rattle.cards.specs.{Joins.Spans.statement_at, declared.statement_list.Span.Span}
 use Rattle.definitions.{specs.Cards.Card, specs.DeckKinds.{has_end, up_to_end}, specs.Settled.defined, specs.Settling.{View, settled_all}, specs.Statements.{Statement, cards_in, statements_of}, specs.Laws.States.state_after, specs.Laws.Agreement.HaveSameCards, specs.declared.deck_kind.DeckKind.DeckKind, proofs.EditLaws.cards_in-append}
-use Rattle.deck_assembler.{specs.Joins.Agreements.{left, DoesAgree, HasFront, StandAlike}, specs.Joins.DeckParts.{DeckPiece, sized_in}, specs.Joins.FirstSymbols.symbol_in, specs.Joins.FirstStatements.first_statements, specs.Joins.Formers.known_in, specs.Joins.Meetings.{cards_of, IsBounded, IsNextOf, IsShort, HasPiece, AreMeeting, AgreeFrom, WillAgreeLater, WillMeet, IsCutAlike, IsNextKnown}, specs.Joins.OldDecks.IsInFront, specs.Joins.SizedDecks.{AreFilled, AreSizedFrom}, specs.Joins.Sizers.{stood, ahead, IsSizer}, specs.declared.old_deck.OldDeck.OldDeck, specs.declared.sized_statement.SizedStatement.SizedStatement, specs.declared.sizer.Sizer.Sizer, proofs.AlikeLaws.sized_in-append, proofs.CutLaws.{behind-same, cut-alike, known-open}, proofs.EndLaws.open-at, proofs.FrontLaws.IsFrontTaken, proofs.PieceMeetings.{at-piece, chosen, left-piece, sized-cut, sized-length, sized-some}}
+use Rattle.deck_assembler.{specs.Joins.Agreements.{left, DoesAgree, HasFront, StandAlike}, specs.Joins.DeckParts.{DeckPiece, sized_in}, specs.Joins.FirstSymbols.symbol_in, specs.Joins.FirstStatements.first_statements, specs.Joins.Formers.known_in, specs.Joins.Meetings.{cards_of, IsBounded, IsNextOf, IsShort, HasPiece, AreMeeting, AgreeFrom, WillAgreeLater, WillMeet, IsCutAlike, IsNextKnown}, specs.Joins.OldDecks.IsInFront, specs.Joins.SizedDecks.{AreFilled, AreSizedFrom}, specs.Joins.Sizers.{stood, ahead, IsNext, IsSizer}, specs.declared.old_deck.OldDeck.OldDeck, specs.declared.sized_statement.SizedStatement.SizedStatement, specs.declared.sizer.Sizer.Sizer, proofs.AlikeLaws.sized_in-append, proofs.CutLaws.{behind-same, cut-alike, known-open}, proofs.EndLaws.open-at, proofs.FrontLaws.IsFrontTaken, proofs.PieceMeetings.{at-piece, chosen, left-piece, sized-cut, sized-length, sized-some}}
 
 -- so many statements of the edited deck are left behind these
 pub next-count : (cards : List Card) (earlier : List Statement) (span : Span) (limit : ℕ) (next : IsNextKnown cards earlier span limit) → length (known_in cards) ≡ suc (length next.others) + length earlier
@@ -272,6 +272,21 @@ next-same cards earlier span sized deck next = (
     counts = rest-of sized.cards (length (statement_at cards span).cards) (map sized_count (left deck)) (map count_of next.later) next.counts;
   },
 )
+
+-- it is the first of the piece that was begun
+pub next-first : (cards : List Card) (earlier : List Statement) (span : Span) (limit : ℕ) (deck begun : OldDeck) → IsNext cards earlier span.count (statement_at cards span) → IsNextKnown cards earlier span limit → IsCutAlike cards earlier deck →
+    left begun ≡ left deck → (begun.statements.items ≡ [] → left begun ≡ []) → ((sized : SizedStatement) (rest : List SizedStatement) → begun.statements.items ≡ sized ∷ rest → sized.cards ≡ span.count → ⊥) → ⊥
+next-first cards earlier span limit deck begun is known cut same last other = by begun.statements.items refl
+  where
+    alike : IsNextAlike cards earlier span (left begun)
+    alike = subst (IsNextAlike cards earlier span) (sym same) (next-cut cards earlier span limit deck known cut)
+
+    by : (items : List SizedStatement) → begun.statements.items ≡ items → ⊥
+    by [] e = next-some cards earlier span (subst (IsNextAlike cards earlier span) (last e) alike)
+    by (sized ∷ rest) e =
+        let here : IsNextAlike cards earlier span (sized ∷ (rest ++ sized_in begun.pieces.items)) = subst (IsNextAlike cards earlier span) (λ i. e i ++ sized_in begun.pieces.items) alike in
+        let own = ap length (sym is.cards) ∙ length-take-le span.count (ahead cards earlier) is.within in
+        other sized rest e (first-of sized.cards (length (statement_at cards span).cards) (map sized_count (rest ++ sized_in begun.pieces.items)) (map count_of here.later) here.counts ∙ own)
 
 -- as short in a deck that has the same left
 pub short-same : (next new : OldDeck) → new.statements.items ≡ next.statements.items → new.pieces.items ≡ next.pieces.items → IsShortBehind next → IsShortBehind new

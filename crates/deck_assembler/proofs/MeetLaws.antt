@@ -1,8 +1,8 @@
 -- Where an old deck and an edited one agree, all that is left of the old one stays.
-use Rattle.std.{proofs.Common.{◌≡◌, ℕ, ◌+◌, ◌-◌, ◌<◌, ◌≤◌, ◌⊎◌, inl, inr, List, [], ◌∷◌, ◌++◌, drop, length, refl, sym, ap, ◌∙◌, subst, arith, length-append}, specs.Prelude.{Option, Some, None, Result, Ok, Err, IfOk, IfSome, reverse}, proofs.lemmas.List.length-drop}
+use Rattle.std.{proofs.Common.{◌≡◌, ℕ, ◌+◌, ◌-◌, ◌<◌, ◌≤◌, ◌⊎◌, inl, inr, Bool, true, false, List, [], ◌∷◌, ◌++◌, drop, length, refl, sym, ap, ◌∙◌, subst, arith, length-append}, specs.Prelude.{Option, Some, None, reverse}, proofs.lemmas.List.length-drop}
 use Rattle.cards.specs.{Joins.Spans.statement_at, declared.statement_list.Span.Span}
 use Rattle.definitions.specs.{Cards.Card, Settling.{View, settled_all}, Statements.Statement, declared.deck_kind.DeckKind.DeckKind}
-use Rattle.deck_assembler.{specs.Joins.Agreements.{left, AreAlikeFrom, HasFront, HaveSameEnd, IsAgreeing, IsOfSameDeck}, specs.Joins.Formers.known_in, specs.Joins.Meetings.{IsSoon, WillAgreeAt}, specs.Joins.OldDecks.{AreKeptFrom, IsAtStage, IsInTail, IsKeptOn, IsOnSpan}, specs.Joins.SizedDecks.{IsSizedStatement, AreSizedFrom}, specs.Joins.Sizers.{stood, ahead, IsNext, IsSizer}, specs.Joins.Tails.{AreKeptAlike, HasTailIfAny, HasTailWithin, HaveOneTail, IsSettledAlike}, specs.Stays.IsAsBefore, specs.declared.old_deck.OldDeck.OldDeck, specs.declared.old_deck.Stage.Stage, specs.declared.sized_statement.SizedStatement.SizedStatement, specs.declared.sizer.Sizer.Sizer, proofs.AgreeLaws.tail-kept, proofs.ForwardLaws.stood-more, proofs.OldLaws.same-ahead, proofs.OntoLaws.{reverse-onto, rest-of}}
+use Rattle.deck_assembler.{specs.Joins.Agreements.{left, AreAlikeFrom, HasFront, HaveSameEnd, IsAgreeing, IsOfSameDeck}, specs.Joins.Formers.known_in, specs.Joins.Meetings.{GoesBehind, IsNextKnown, IsSoon, KeepsIf, WillAgree, WillAgreeAt}, specs.Joins.OldDecks.{AreKeptFrom, IsAtStage, IsInTail, IsKeptOn, IsOnSpan}, specs.Joins.SizedDecks.{IsSizedStatement, AreSizedFrom}, specs.Joins.Sizers.{stood, ahead, IsNext, IsSizer}, specs.Joins.Tails.{AreKeptAlike, HasTailIfAny, HasTailWithin, HaveOneTail, IsSettledAlike}, specs.Stays.IsAsBefore, specs.declared.old_deck.OldDeck.OldDeck, specs.declared.old_deck.Stage.Stage, specs.declared.sized_statement.SizedStatement.SizedStatement, specs.declared.sizer.Sizer.Sizer, proofs.AgreeLaws.tail-kept, proofs.ForwardLaws.stood-more, proofs.OldLaws.same-ahead, proofs.OntoLaws.{reverse-onto, rest-of}}
 use Rattle.deck_assembler.specs.declared.old_deck.Stage.TheVariants as stages
 
 pub meet-kept : (kind : DeckKind) (old cards : List Card) (earlier : List Statement) (sizer : Sizer) (deck : OldDeck) →
@@ -35,7 +35,7 @@ next-in-tail kind cards earlier span sized later next kept count =
 -- and each since the decks agree is settled as it was
 pub tail-next : (kind : DeckKind) (old cards : List Card) (earlier : List Statement) (span : Span) (deck new : OldDeck) (sized : SizedStatement) →
     IsNext cards earlier span.count (statement_at cards span) → IsInTail kind old cards earlier deck → left deck ≡ sized ∷ left new → new.ahead.now ≡ deck.ahead.now → sized.cards ≡ span.count →
-    IsSizedStatement kind earlier (stood earlier) (ahead cards earlier) sized (statement_at cards span) × IsInTail kind old cards (statement_at cards span ∷ earlier) new
+    IsInTail kind old cards (statement_at cards span ∷ earlier) new
 tail-next kind old cards earlier span deck new sized next is e same count = by is.later is.all (subst (λ l. AreKeptAlike kind cards earlier (stood earlier) is.passed l is.later) e is.alike)
   where
     given : Statement
@@ -44,40 +44,38 @@ tail-next kind old cards earlier span deck new sized next is e same count = by i
     here : IsSizedStatement kind earlier (stood earlier) (ahead cards earlier) sized given × AreKeptFrom kind cards (given ∷ earlier) (stood (given ∷ earlier)) (left new)
     here = next-in-tail kind cards earlier span sized (left new) next (subst (AreKeptFrom kind cards earlier (stood earlier)) e is.kept) count
 
-    by : (later : List Statement) → reverse later ++ is.passed ≡ known_in old → AreKeptAlike kind cards earlier (stood earlier) is.passed (sized ∷ left new) later →
-        IsSizedStatement kind earlier (stood earlier) (ahead cards earlier) sized given × IsInTail kind old cards (given ∷ earlier) new
+    by : (later : List Statement) → reverse later ++ is.passed ≡ known_in old → AreKeptAlike kind cards earlier (stood earlier) is.passed (sized ∷ left new) later → IsInTail kind old cards (given ∷ earlier) new
     by [] all h = absurd h
     by (other ∷ later) all h =
         let moved : IsSettledAlike kind is.passed other earlier given × AreKeptAlike kind cards (given ∷ earlier) (stood earlier + span.count) (other ∷ is.passed) (left new) later =
         subst (λ (s : Span). IsSettledAlike kind is.passed other earlier (statement_at cards s) × AreKeptAlike kind cards (statement_at cards s ∷ earlier) (stood earlier + s.count) (other ∷ is.passed) (left new) later)
         (λ i. record { start = sym next.before i; count = count i }) h in
         let more = stood-more earlier given (ahead cards earlier) span.count next.cards next.within in
-        let split = is.tail.split in (
-          here.0,
-          record {
-            kept = here.1;
-            passed = other ∷ is.passed;
-            later = later;
-            all = reverse-onto other later is.passed ∙ all;
-            tail = record {
-              split = record { old_front = split.old_front; old_tail = other ∷ split.old_tail; new_front = split.new_front; new_tail = given ∷ split.new_tail };
-              of_old = ap (λ l. other ∷ l) is.tail.of_old;
-              of_new = ap (λ l. given ∷ l) is.tail.of_new;
-              old_place = ap (λ (l : List Card). stood split.old_front + length l) same ∙ is.tail.old_place;
-              new_place = ap (λ (l : List Card). stood split.new_front + length l) same ∙ is.tail.new_place;
-              some = subst (λ (l : List Card). 0 < length l) (sym same) is.tail.some;
-              alike = (subst (λ (both : List Statement × List Statement). IsSettledAlike kind both.0 other both.1 given) (λ i. (is.tail.of_old i, is.tail.of_new i)) moved.0, is.tail.alike);
-            };
-            alike = subst (λ n. AreKeptAlike kind cards (given ∷ earlier) n (other ∷ is.passed) (left new) later) more moved.1;
-          },
-        )
+        let split = is.tail.split in
+        record {
+          kept = here.1;
+          passed = other ∷ is.passed;
+          later = later;
+          all = reverse-onto other later is.passed ∙ all;
+          tail = record {
+            split = record { old_front = split.old_front; old_tail = other ∷ split.old_tail; new_front = split.new_front; new_tail = given ∷ split.new_tail };
+            of_old = ap (λ l. other ∷ l) is.tail.of_old;
+            of_new = ap (λ l. given ∷ l) is.tail.of_new;
+            old_place = ap (λ (l : List Card). stood split.old_front + length l) same ∙ is.tail.old_place;
+            new_place = ap (λ (l : List Card). stood split.new_front + length l) same ∙ is.tail.new_place;
+            some = subst (λ (l : List Card). 0 < length l) (sym same) is.tail.some;
+            alike = (subst (λ (both : List Statement × List Statement). IsSettledAlike kind both.0 other both.1 given) (λ i. (is.tail.of_old i, is.tail.of_new i)) moved.0, is.tail.alike);
+          };
+          alike = subst (λ n. AreKeptAlike kind cards (given ∷ earlier) n (other ∷ is.passed) (left new) later) more moved.1;
+        }
 
 -- it is settled as one of the old deck
-pub tail-stays : (kind : DeckKind) (old cards : List Card) (earlier : List Statement) (span : Span) (deck new : OldDeck) (sized : SizedStatement) →
-    IsNext cards earlier span.count (statement_at cards span) → IsInTail kind old cards earlier deck → left deck ≡ sized ∷ left new → sized.cards ≡ span.count → IsAsBefore kind (known_in old) earlier (statement_at cards span)
-tail-stays kind old cards earlier span deck new sized next is e count = by is.later is.all (subst (λ l. AreKeptAlike kind cards earlier (stood earlier) is.passed l is.later) e is.alike)
+pub tail-stays : (kind : DeckKind) (old cards : List Card) (earlier : List Statement) (span : Span) (deck : OldDeck) (sized : SizedStatement) (left' : List SizedStatement) →
+    IsNext cards earlier span.count (statement_at cards span) → IsInTail kind old cards earlier deck → left deck ≡ sized ∷ left' → sized.cards ≡ span.count →
+    IsSizedStatement kind earlier (stood earlier) (ahead cards earlier) sized (statement_at cards span) × IsAsBefore kind (known_in old) earlier (statement_at cards span)
+tail-stays kind old cards earlier span deck sized left' next is e count = ((next-in-tail kind cards earlier span sized left' next (subst (AreKeptFrom kind cards earlier (stood earlier)) e is.kept) count).0, by is.later is.all (subst (λ l. AreKeptAlike kind cards earlier (stood earlier) is.passed l is.later) e is.alike))
   where
-    by : (later : List Statement) → reverse later ++ is.passed ≡ known_in old → AreKeptAlike kind cards earlier (stood earlier) is.passed (sized ∷ left new) later → IsAsBefore kind (known_in old) earlier (statement_at cards span)
+    by : (later : List Statement) → reverse later ++ is.passed ≡ known_in old → AreKeptAlike kind cards earlier (stood earlier) is.passed (sized ∷ left') later → IsAsBefore kind (known_in old) earlier (statement_at cards span)
     by [] all h = absurd h
     by (other ∷ later) all h = record {
       before = is.passed;
@@ -135,14 +133,29 @@ on-tail kind old cards earlier span sizer deck passed new on within has same the
       };
     }
 
--- what is stated of what was found, if anything was
-pub some-weaker : {T : Type 0} {P Q : T → Type 0} (found : Option T) → ((x : T) → P x → Q x) → IfSome found P → IfSome found Q
-some-weaker None f h = tt
-some-weaker (Some x) f h = f x h
+-- what is so behind a place where the decks meet is so of the deck between front and tail
+pub stays-met : (cards : List Card) (span : Span) (sizer : Sizer) (deck tail new : OldDeck) (stays : Bool) → deck.stage ≡ stages.Between →
+    ((kind : DeckKind) (old : List Card) (earlier : List Statement) → IsOnSpan kind old cards earlier span sizer deck → IsOnSpan kind old cards earlier span sizer tail) →
+    ((kind : DeckKind) (old : List Card) (earlier : List Statement) (limit : ℕ) → IsOnSpan kind old cards earlier span sizer deck → IsNextKnown cards earlier span limit → WillAgree kind old cards limit earlier deck → WillAgree kind old cards limit earlier tail) →
+    KeepsIf cards span sizer tail new stays → KeepsIf cards span sizer deck new stays
+stays-met cards span sizer deck tail new stays between met agree keeps = by stays keeps
+  where
+    behind : (next : OldDeck) (found : Option SizedStatement) → GoesBehind cards span sizer tail next found → GoesBehind cards span sizer deck next found
+    behind next found goes = record {
+      on = λ kind old earlier on. goes.on kind old earlier (met kind old earlier on);
+      front = λ kind old earlier on still.
+          let front = still.stands.stage in
+          absurd (cc);
+      due = λ kind old earlier limit on known will. goes.due kind old earlier limit (met kind old earlier on) known (agree kind old earlier limit on known will);
+    }
 
-pub found-weaker : {T E : Type 0} {P Q : T → Type 0} (r : Result (Option T) E) → ((x : T) → P x → Q x) → IfOk r (λ found. IfSome found P) → IfOk r (λ found. IfSome found Q)
-found-weaker (Ok found) f h = some-weaker found f h
-found-weaker (Err e) f h = tt
+    by : (stays : Bool) → KeepsIf cards span sizer tail new stays → KeepsIf cards span sizer deck new stays
+    by true first = record {
+      some = first.some;
+      that = λ sized rest e kind old earlier on. first.that sized rest e kind old earlier (met kind old earlier on);
+      behind = λ sized next e pieces same. behind next (Some sized) (first.behind sized next e pieces same);
+    }
+    by false goes = behind new None goes
 
 -- the tail that was kept, where the decks agree
 pub tail-taken : (kind : DeckKind) (old cards : List Card) (earlier : List Statement) (deck : OldDeck) (count : ℕ) → IsKeptOn kind old cards earlier deck → (deck.stage ≡ stages.Tail → count ≡ length deck.ahead.now) →

@@ -1,17 +1,37 @@
 -- A piece of the old deck that is left: how it is chosen, and that it stays ahead until the walk comes to it.
-use Rattle.std.{proofs.Common.{◌≡◌, ℕ, suc, ◌+◌, ◌<◌, ◌≤◌, inl, inr, ◌⊎◌, List, [], ◌∷◌, ◌++◌, drop, length, refl, sym, ap, ◌∙◌, subst, arith, append_assoc, length-append}, specs.List.AllByRecursion, specs.Prelude.reverse, proofs.lemmas.Bool.cases_lt, proofs.lemmas.List.{length-drop, reverse-append}}
+use Rattle.std.{proofs.Common.{◌≡◌, ℕ, suc, ◌+◌, ◌<◌, ◌≤◌, inl, inr, ◌⊎◌, List, [], ◌∷◌, ◌++◌, drop, length, slice_index_or, refl, sym, ap, ◌∙◌, subst, arith, append_assoc, length-append}, specs.List.AllByRecursion, specs.Prelude.reverse, proofs.lemmas.Bool.cases_lt, proofs.lemmas.List.{length-drop, reverse-append}}
 use Rattle.definitions.specs.{Cards.Card, Statements.{Statement, cards_in}, declared.deck_kind.DeckKind.DeckKind}
-use Rattle.deck_assembler.{specs.Joins.Agreements.left, specs.Joins.DeckParts.{DeckPiece, sized_in}, specs.Joins.Meetings.{cards_of, HasPiece, IsNextOf, IsShort}, specs.Joins.SizedDecks.AreSizedFrom, specs.declared.old_deck.OldDeck.OldDeck, specs.declared.sized_statement.SizedStatement.SizedStatement, proofs.AlikeLaws.sized_in-append, proofs.ForwardLaws.stood-more, proofs.OntoLaws.drop-more}
+use Rattle.deck_assembler.{specs.Joins.Agreements.left, specs.Joins.DeckParts.{DeckPiece, sized_in}, specs.Joins.Meetings.{cards_of, HasPiece, IsBegunOf, IsNextOf, IsShort}, specs.Joins.SizedDecks.AreSizedFrom, specs.declared.old_deck.OldDeck.OldDeck, specs.declared.sized_statement.SizedStatement.SizedStatement, proofs.AlikeLaws.sized_in-append, proofs.ForwardLaws.stood-more, proofs.OntoLaws.drop-more}
 
 pub cards_of-append : (a b : List SizedStatement) → cards_of (a ++ b) ≡ cards_of a + cards_of b
 cards_of-append [] b = omega arith
 cards_of-append (sized ∷ a) b = let rest = cards_of-append a b in omega (arith, rest)
 
-first-of : {X : Type 0} (a b : X) (x y : List X) → a ∷ x ≡ b ∷ y → a ≡ b
+pub first-of : {X : Type 0} (a b : X) (x y : List X) → a ∷ x ≡ b ∷ y → a ≡ b
 first-of a b x y e = cc
 
 rest-of : {X : Type 0} (a b : X) (x y : List X) → a ∷ x ≡ b ∷ y → x ≡ y
 rest-of a b x y e = cc
+
+-- a list that is the rest of itself
+pub own-rest : (l : List SizedStatement) → l ≡ drop 1 l → l ≡ []
+own-rest [] e = refl
+own-rest (sized ∷ l) e = let n = ap length e in absurd (omega (arith, n))
+
+-- the first of a list that has some
+pub first-left : (l : List SizedStatement) (sized : SizedStatement) → 0 < length l → sized ≡ slice_index_or l 0 sized → l ≡ sized ∷ drop 1 l
+first-left [] sized some e = absurd (omega (arith, some))
+first-left (first ∷ l) sized some e = ap (λ (s : SizedStatement). s ∷ l) (sym e)
+
+-- the first statement of the piece that was begun is the next one
+pub begun-next : (old begun next : OldDeck) (sized : SizedStatement) → IsBegunOf old begun → begun.statements.items ≡ sized ∷ next.statements.items → begun.pieces.items ≡ next.pieces.items → IsNextOf old next sized
+begun-next old begun next sized (inl both) first pieces = inl (both.0 ∙ first, both.1 ∙ pieces)
+begun-next old begun next sized (inr none) first pieces = inr (none.0, (none.1.0, none.1.1 ∙ ap (λ (l : List DeckPiece). none.1.0 ∷ l) pieces, none.1.2 ∙ first))
+
+-- a piece that has nothing was not begun here
+pub none-begun : (old begun : OldDeck) → IsBegunOf old begun → begun.statements.items ≡ [] → (begun.statements.items ≡ old.statements.items) × (begun.pieces.items ≡ old.pieces.items)
+none-begun old begun (inl both) none = (sym both.0, sym both.1)
+none-begun old begun (inr piece) none = let some = piece.1.3 in let n = ap length none in absurd (omega (arith, some, n))
 
 -- so many cards less are left behind a statement
 less-left : (new before : List Card) (count rest : ℕ) → (count ≤ length before → new ≡ drop count before) → length before ≡ count + rest → length new ≡ rest

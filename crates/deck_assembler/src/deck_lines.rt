@@ -46,10 +46,10 @@ pub(crate) fn next_cards(cards: &[Card], stood: usize, count: u16) -> &[Card]
 }
 
 /// The cards behind the next so many.
-pub(crate) fn later_cards(cards: &[Card], count: u16) -> &[Card]
+pub(crate) fn later_cards(cards: &[Card], count: usize) -> &[Card]
     ensures { count ≤ length cards.now → result.now ≡ drop count cards.now }
 {
-    cards.split_at((count as usize).min(cards.len())).1
+    cards.split_at(count.min(cards.len())).1
 }
 
 impl DeckLines {

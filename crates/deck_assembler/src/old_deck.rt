@@ -1,6 +1,6 @@
 //! The deck that an edited one is made of: what is left of it, one statement after the other, and which
 //! of that stays as it was sized.
-ghost use Rattle.std.specs.Prelude.{ℕ, ◌≡◌, ◌≤◌, ◌+◌, ◌⊎◌, ◌∷◌, ◌++◌, true, false, [], List, Ok, None, IfOk, IfSome, OnOk, drop, length};
+ghost use Rattle.std.specs.Prelude.{ℕ, ◌≡◌, ◌≤◌, ◌+◌, ◌⊎◌, ◌∷◌, ◌++◌, ◌<◌, true, false, [], List, Ok, None, IfOk, IfSome, OnOk, drop, length};
 ghost use Rattle.std.specs.Option.{option_to_list};
 ghost use Rattle.cards.specs.Joins.Spans.{IsSpan};
 ghost use Rattle.definitions.specs.Cards as deck_cards;
@@ -8,8 +8,8 @@ ghost use Rattle.definitions.specs.Statements as statements;
 ghost use Rattle.definitions.specs.declared.deck_kind.DeckKind as kinds;
 ghost use Rattle.deck_assembler.specs.Joins.Agreements.{left, DoesAgree, HasFront, IsAgreeing, IsOfSameDeck, IsSameFront};
 ghost use Rattle.deck_assembler.specs.Joins.DeckParts.{sized_in};
-ghost use Rattle.deck_assembler.specs.Joins.Meetings.{HasPiece, IsNextOf, KeepsDue};
-ghost use Rattle.deck_assembler.specs.Joins.OldDecks.{IsInFront, IsOnSpan, IsThatOf, KeepsFront, KeepsOn};
+ghost use Rattle.deck_assembler.specs.Joins.Meetings.{HasPiece, IsBegunOf, IsNextOf, KeepsIf};
+ghost use Rattle.deck_assembler.specs.Joins.OldDecks.{IsInFront, IsOnSpan};
 ghost use Rattle.deck_assembler.specs.Joins.Sizers.{IsSizer};
 ghost use Rattle.deck_assembler.specs.declared.old_deck.Stage.TheVariants as stages;
 ghost use Rattle.deck_assembler.specs.declared.sized_statement.SizedStatement as code;
@@ -101,6 +101,22 @@ impl<'a> OldDeck<'a> {
         })
     }
 
+    /// Begins the next of its pieces, where nothing is left of the one that was begun.
+    #[inline(always)]
+    fn begin_piece(&mut self)
+        ensures begun { IsBegunOf self.old self.new }
+        ensures last { self.new.statements.items ≡ [] → left self.new ≡ [] }
+        ensures rest { left self.new ≡ left self.old }
+        ensures same { IsSameFront self.old self.new }
+    {
+        if !self.statements.is_empty() {
+            return;
+        }
+        if let Some(piece) = self.pieces.pop_front() {
+            self.statements = VecDeque::from_vec(piece.into_statements());
+        }
+    }
+
     /// The next of its statements.
     #[inline(always)]
     pub(crate) fn next(&mut self) -> Option<SizedStatement>
@@ -110,12 +126,21 @@ impl<'a> OldDeck<'a> {
         ensures none { result ≡ None → (self.new.statements.items ≡ self.old.statements.items) × (self.new.pieces.items ≡ self.old.pieces.items) }
         ensures same { IsSameFront self.old self.new }
     {
-        if let Some(sized) = self.statements.pop_front() {
-            return Some(sized);
-        }
-        let piece = self.pieces.pop_front()?;
-        self.statements = VecDeque::from_vec(piece.into_statements());
+        self.begin_piece();
         self.statements.pop_front()
+    }
+
+    /// Whether the next of its statements, in the piece that was begun, has as many cards as a span.
+    #[inline(always)]
+    fn is_next_as(&self, span: Span) -> bool
+        ensures some { result ≡ true → 0 < length self.now.statements.items }
+        ensures count { result ≡ true → (sized : code.SizedStatement) (rest : List code.SizedStatement) → self.now.statements.items ≡ sized ∷ rest → sized.cards ≡ span.count }
+        ensures all { (sized : code.SizedStatement) (rest : List code.SizedStatement) → self.now.statements.items ≡ sized ∷ rest → sized.cards ≡ span.count → result ≡ true }
+    {
+        match self.statements.front() {
+            None => false,
+            Some(sized) => sized.cards as usize == span.count,
+        }
     }
 
     /// Goes behind a statement, which was the next one. Its externals are not asked for.
@@ -145,7 +170,7 @@ impl<'a> OldDeck<'a> {
             defines,
         )?;
         self.state.advance(&sized.sizing.effect(&statement))?;
-        self.ahead = later_cards(self.ahead, sized.cards);
+        self.ahead = later_cards(self.ahead, sized.cards as usize);
         Ok(())
     }
 
@@ -276,50 +301,45 @@ impl<'a> OldDeck<'a> {
         self.pass(alloc, sized, room)
     }
 
-    /// The next of its statements, if it ends before the edited card and has the cards of a span.
-    fn kept_in_front(
+    /// Whether the next of its statements stays: it ends before the edited card and has the cards of a
+    /// span. Else the front is left with it.
+    fn stays_in_front(
         &mut self,
         alloc: Global,
         span: Span,
         sizer: &Sizer,
         room: &mut StatementRoom,
-    ) -> Result<Option<SizedStatement>, AllocError>
+    ) -> Result<bool, AllocError>
         requires stage { self.old.stage ≡ stages.Front }
         requires ready { (kind : kinds.DeckKind) × (old : List deck_cards.Card) × (cards : List deck_cards.Card) × (earlier : List statements.Statement) × IsOnSpan kind old cards earlier span sizer.now self.old }
-        ensures kept { OnOk result ((cards : List deck_cards.Card) → KeepsOn cards span sizer.now self.old self.new) }
-        ensures sized { IfOk result (λ found. IfSome found (λ sized. (cards : List deck_cards.Card) → IsThatOf cards span sizer.now self.old sized)) }
-        ensures front { IfOk result (λ found. (cards : List deck_cards.Card) → KeepsFront cards span sizer.now self.old self.new found) }
-        ensures due { IfOk result (λ found. (cards : List deck_cards.Card) → KeepsDue cards span sizer.now self.old self.new found) }
+        ensures { IfOk result (λ stays. (cards : List deck_cards.Card) → KeepsIf cards span sizer.now self.old self.new stays) }
     {
-        let Some(sized) = self.next() else {
-            self.stage = Stage::Over;
-            return Ok(None);
-        };
-        if is_within(&sized, span, self.before) {
-            self.ahead = later_cards(self.ahead, sized.cards);
-            return Ok(Some(sized));
+        self.begin_piece();
+        if self.is_next_as(span) && is_within(span, self.before) {
+            self.ahead = later_cards(self.ahead, span.count);
+            return Ok(true);
         }
+        let Some(sized) = self.statements.pop_front() else {
+            self.stage = Stage::Over;
+            return Ok(false);
+        };
         self.leave_front(alloc, sizer, &sized, room)?;
-        Ok(None)
+        Ok(false)
     }
 
-    /// The next of its statements, where all that is left stays, for a span of as many cards.
+    /// Whether the next of its statements stays, where all that is left does: it has as many cards as a
+    /// span.
     #[inline(always)]
-    fn kept_in_tail(&mut self, span: Span) -> Option<SizedStatement>
+    fn stays_in_tail(&mut self, span: Span) -> bool
         requires { self.old.stage ≡ stages.Tail }
-        ensures kept { (cards : List deck_cards.Card) (sizer : sizers.Sizer) → KeepsOn cards span sizer self.old self.new }
-        ensures sized { IfSome result (λ sized. (cards : List deck_cards.Card) (sizer : sizers.Sizer) → IsThatOf cards span sizer self.old sized) }
-        ensures due { (cards : List deck_cards.Card) (sizer : sizers.Sizer) → KeepsDue cards span sizer self.old self.new result }
+        ensures { (cards : List deck_cards.Card) (sizer : sizers.Sizer) → KeepsIf cards span sizer self.old self.new result }
     {
-        let Some(sized) = self.next() else {
-            self.stage = Stage::Over;
-            return None;
-        };
-        if sized.cards as usize == span.count {
-            return Some(sized);
+        self.begin_piece();
+        if self.is_next_as(span) {
+            return true;
         }
         self.stage = Stage::Over;
-        None
+        false
     }
 
     /// How many cards of both decks are left where they were found to agree, if all since stayed.
@@ -335,66 +355,60 @@ impl<'a> OldDeck<'a> {
         }
     }
 
-    /// The next of its statements, if the decks agree where as many cards are left of it as a span and
-    /// those behind it have.
+    /// Whether the next of its statements stays: the decks agree where as many cards are left of it as a
+    /// span and those behind it have.
     #[inline(never)]
-    fn kept_between(
+    fn stays_between(
         &mut self,
         alloc: Global,
         cards: &[Card],
         span: Span,
         sizer: &Sizer,
         room: &mut StatementRoom,
-    ) -> Result<Option<SizedStatement>, AllocError>
+    ) -> Result<bool, AllocError>
         requires span { IsSpan (length cards.now) span }
         requires stage { self.old.stage ≡ stages.Between }
         requires ready { (kind : kinds.DeckKind) × (old : List deck_cards.Card) × (earlier : List statements.Statement) × IsOnSpan kind old cards.now earlier span sizer.now self.old }
-        ensures kept { OnOk result (KeepsOn cards.now span sizer.now self.old self.new) }
-        ensures sized { IfOk result (λ found. IfSome found (IsThatOf cards.now span sizer.now self.old)) }
-        ensures due { IfOk result (KeepsDue cards.now span sizer.now self.old self.new) }
+        ensures { IfOk result (KeepsIf cards.now span sizer.now self.old self.new) }
     {
         let count = cards.len() - span.start;
         self.pass_to(alloc, count, room)?;
         if !self.is_met(count, sizer) {
-            return Ok(None);
+            return Ok(false);
         }
         self.stage = Stage::Tail;
-        Ok(self.kept_in_tail(span))
+        Ok(self.stays_in_tail(span))
     }
 
-    /// The next of its statements, if it stays as that of a span, which is the next one of the edited
-    /// deck.
-    pub(crate) fn kept(
+    /// Whether the next of its statements stays as that of a span, which is the next one of the edited
+    /// deck. Then it is the first of the piece that was begun.
+    pub(crate) fn stays(
         &mut self,
         alloc: Global,
         cards: &[Card],
         span: Span,
         sizer: &Sizer,
         room: &mut StatementRoom,
-    ) -> Result<Option<SizedStatement>, AllocError>
+    ) -> Result<bool, AllocError>
         requires span { IsSpan (length cards.now) span }
         requires ready { (kind : kinds.DeckKind) × (old : List deck_cards.Card) × (earlier : List statements.Statement) × IsOnSpan kind old cards.now earlier span sizer.now self.old }
-        ensures kept { OnOk result (KeepsOn cards.now span sizer.now self.old self.new) }
-        ensures sized { IfOk result (λ found. IfSome found (IsThatOf cards.now span sizer.now self.old)) }
-        ensures front { IfOk result (KeepsFront cards.now span sizer.now self.old self.new) }
-        ensures due { IfOk result (KeepsDue cards.now span sizer.now self.old self.new) }
-        ensures none { self.old.stage ≡ stages.Over → result ≡ Ok None }
+        ensures stays { IfOk result (KeepsIf cards.now span sizer.now self.old self.new) }
+        ensures none { self.old.stage ≡ stages.Over → result ≡ Ok false }
         ensures over { self.old.stage ≡ stages.Over → self.new.stage ≡ stages.Over }
     {
         match self.stage {
-            Stage::Front => self.kept_in_front(alloc, span, sizer, room),
-            Stage::Between => self.kept_between(alloc, cards, span, sizer, room),
-            Stage::Tail => Ok(self.kept_in_tail(span)),
-            Stage::Over => Ok(None),
+            Stage::Front => self.stays_in_front(alloc, span, sizer, room),
+            Stage::Between => self.stays_between(alloc, cards, span, sizer, room),
+            Stage::Tail => Ok(self.stays_in_tail(span)),
+            Stage::Over => Ok(false),
         }
     }
 }
 
-/// Whether a statement has as many cards as a span, and those of the span are among so many first ones.
-fn is_within(sized: &SizedStatement, span: Span, before: usize) -> bool
-    ensures count { result ≡ true → sized.now.cards ≡ span.count }
+/// Whether the cards of a span are among so many first ones.
+fn is_within(span: Span, before: usize) -> bool
     ensures within { result ≡ true → span.start + span.count ≤ before }
-    ensures all { sized.now.cards ≡ span.count → span.start + span.count ≤ before → result ≡ true }
+    ensures all { span.start + span.count ≤ before → result ≡ true }
 {
-    sized.cards as usize == span.count && span.count <= before && span.start <= before - span.count
+    span.count <= before && span.start <= before - span.count
 }

@@ -16,8 +16,7 @@ ghost use Rattle.use_blocks.specs.Joins.EffectsAs.{change_as, effect_as};
 ghost use Rattle.use_blocks.specs.Joins.BlockLengths.{block_names};
 ghost use Rattle.deck_assembler.specs.Joins.LiteralsRead.{IsBareOperand};
 ghost use Rattle.deck_assembler.specs.Joins.PieceSteps.{with_statement};
-ghost use Rattle.deck_assembler.specs.Joins.SizedDecks.{IsSizedStatement};
-ghost use Rattle.deck_assembler.specs.Joins.Sizers.{stood, ahead, IsNext, IsNoted, IsSizer};
+ghost use Rattle.deck_assembler.specs.Joins.Sizers.{IsNext, IsNoted, IsSizer};
 
 use crate::definitions_kept::{define, define_own};
 use crate::literal_words::add_literals;
@@ -101,30 +100,10 @@ impl Sizer {
         Ok(())
     }
 
-    /// Puts a statement behind the others that was sized behind these statements before: nothing of it
-    /// is sized again.
-    pub(crate) fn keep(
-        &mut self,
-        alloc: Global,
-        statement: &Statement<'_>,
-        sized: SizedStatement,
-    ) -> Result<(), AllocError>
-        requires blocks { block_names self.old.lengths ≡ names_of_blocks self.old.state.blocks }
-        requires accepted { IsAccepted (change_as sized.sizing.change) self.old.state }
-        ensures { OnOk result ((kind : kinds.DeckKind) (cards : List cards.Card) (earlier : List statements.Statement) (given : statements.Statement) →
-            IsRead kind given.cards statement.now → IsNext cards earlier sized.cards given → IsSizer kind cards earlier self.old →
-            IsSizedStatement kind earlier (stood earlier) (ahead cards earlier) sized given → IsSizer kind cards (given ∷ earlier) self.new) }
-    {
-        let effect = sized.sizing.effect(statement);
-        self.note_kept(statement, &sized, &effect)?;
-        self.put(alloc, sized, &effect)?;
-        Ok(())
-    }
-
     /// Puts a statement of this effect behind the others. Where memory runs out it may stand there
     /// without its effect.
     #[inline(always)]
-    fn put(
+    pub(crate) fn put(
         &mut self,
         alloc: Global,
         sized: SizedStatement,
@@ -145,7 +124,7 @@ impl Sizer {
 
     /// Takes in the literals of a statement that was sized before, what it defines, and the words that
     /// it reaches: its operand is not looked at where it is known to have neither literals nor names.
-    fn note_kept(
+    pub(crate) fn note_kept(
         &mut self,
         statement: &Statement<'_>,
         sized: &SizedStatement,

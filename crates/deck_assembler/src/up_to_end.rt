@@ -20,6 +20,7 @@ ghost use Rattle.deck_assembler.specs.Joins.SizedDecks.{IsSizedStatement};
 ghost use Rattle.deck_assembler.specs.Joins.Sizers.{stood, ahead, IsNext, IsSizer};
 ghost use Rattle.deck_assembler.specs.Joins.Takings.{AreTaken, CountsOne, CountsOneTaken, CountsTaken, CountsTaking, HasOld, TakesOne};
 ghost use Rattle.deck_assembler.specs.declared.old_deck.Stage.TheVariants as stages;
+ghost use Rattle.deck_assembler.specs.declared.sized_statement.SizedStatement as code;
 
 use crate::old_deck::{OldDeck, Stage};
 use crate::sized_statement::SizedStatement;
@@ -29,6 +30,7 @@ use definitions::DeckKind;
 use operations::{KindSearch, is_end};
 use statement_coder::{Meter, Statement, known_statement, read_operand};
 use std::alloc::{AllocError, Global};
+use std::collections::VecDeque;
 
 /// The kind that the operation field of the statement of these cards leaves a search with.
 fn read_kind(search: &mut KindSearch, cards: &[Card], room: &mut StatementRoom)
@@ -97,28 +99,37 @@ impl Sizer {
         Ok(ended)
     }
 
-    /// The statement of a span, which is the next one, as it was sized; and returns whether it is END.
+    /// The statement of a span, which is the next one, as it was sized: it is the first of those that are
+    /// left, and leaves them. Returns whether it is END. Nothing of it is sized again.
     fn keep_span(
         &mut self,
         alloc: Global,
         kind: DeckKind,
         cards: &[Card],
         span: Span,
+        left: &mut VecDeque<SizedStatement, Global>,
         room: &mut StatementRoom,
-        sized: SizedStatement,
     ) -> Result<bool, AllocError>
         requires blocks { block_names self.old.lengths ≡ names_of_blocks self.old.state.blocks }
         requires span { IsSpan (length cards.now) span }
-        requires accepted { IsAccepted (change_as sized.sizing.change) self.old.state }
-        requires operation { operation_as sized.operation ≡ operation_of kind (fields_of (statement_at cards.now span).cards).operation }
+        requires some { 0 < length left.old.items }
+        requires accepted { (sized : code.SizedStatement) (rest : List code.SizedStatement) → left.old.items ≡ sized ∷ rest → IsAccepted (change_as sized.sizing.change) self.old.state }
+        requires operation { (sized : code.SizedStatement) (rest : List code.SizedStatement) → left.old.items ≡ sized ∷ rest →
+            operation_as sized.operation ≡ operation_of kind (fields_of (statement_at cards.now span).cards).operation }
         ensures end { IfOk result (λ ended. ended ≡ is_end (fields_of (statement_at cards.now span).cards)) }
-        ensures kept { OnOk result ((earlier : List statements.Statement) → IsNext cards.now earlier sized.cards (statement_at cards.now span) → IsSizer kind cards.now earlier self.old →
-            IsSizedStatement kind earlier (stood earlier) (ahead cards.now earlier) sized (statement_at cards.now span) →
-            IsSizer kind cards.now (statement_at cards.now span ∷ earlier) self.new) }
+        ensures kept { OnOk result ((sized : code.SizedStatement) × (left.old.items ≡ sized ∷ left.new.items) × ((earlier : List statements.Statement) → IsNext cards.now earlier sized.cards (statement_at cards.now span) → IsSizer kind cards.now earlier self.old →
+            IsSizedStatement kind earlier (stood earlier) (ahead cards.now earlier) sized (statement_at cards.now span) → IsSizer kind cards.now (statement_at cards.now span ∷ earlier) self.new)) }
     {
+        let Some(sized) = left.front() else {
+            return Ok(false);
+        };
         let statement = known_statement(kind, sized.operation, span.of(cards), room);
         let ended = is_end(statement.name);
-        self.keep(alloc, &statement, sized)?;
+        let effect = sized.sizing.effect(&statement);
+        self.note_kept(&statement, sized, &effect)?;
+        if let Some(sized) = left.pop_front() {
+            self.put(alloc, sized, &effect)?;
+        }
         Ok(ended)
     }
 
@@ -145,10 +156,10 @@ impl Sizer {
         if let Stage::Over = old_deck.stage {
             return self.take_span(alloc, kind, cards, span, room, meter);
         }
-        let kept = old_deck.kept(alloc, cards, span, self, room)?;
-        match kept {
-            Some(sized) => self.keep_span(alloc, kind, cards, span, room, sized),
-            None => self.take_span(alloc, kind, cards, span, room, meter),
+        if old_deck.stays(alloc, cards, span, self, room)? {
+            self.keep_span(alloc, kind, cards, span, &mut old_deck.statements, room)
+        } else {
+            self.take_span(alloc, kind, cards, span, room, meter)
         }
     }
 

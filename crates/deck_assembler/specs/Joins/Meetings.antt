@@ -1,8 +1,8 @@
 -- Where an old deck and an edited one are found to agree again, found from a place where they do.
-use Rattle.std.specs.{Prelude.{ℕ, ◌≡◌, ◌+◌, ◌<◌, ◌≤◌, ◌⊎◌, List, [], ◌∷◌, ◌++◌, Option, None, false, length, map, reverse}, List.AllByRecursion}
+use Rattle.std.specs.{Prelude.{ℕ, ◌≡◌, ◌+◌, ◌<◌, ◌≤◌, ◌⊎◌, List, [], ◌∷◌, ◌++◌, Bool, Option, None, Some, true, false, length, map, reverse}, List.AllByRecursion}
 use Rattle.cards.specs.{Joins.Spans.statement_at, declared.statement_list.Span.Span}
 use Rattle.definitions.specs.{Cards.Card, DeckKinds.has_end, Laws.Edits.Edited, Settled.defined, Settling.settled_all, Statements.{Statement, statements_of}, Laws.States.state_after, declared.deck_kind.DeckKind.DeckKind}
-use Rattle.deck_assembler.specs.{Joins.Agreements.{left, HasFront, StandAlike}, Joins.DeckParts.{DeckPiece, sized_in}, Joins.FirstSymbols.symbol_in, Joins.FirstStatements.all_statements, Joins.Formers.known_in, Joins.OldDecks.IsOnSpan, Joins.Sizers.stood, declared.old_deck.OldDeck.OldDeck, declared.old_deck.Stage.Stage, declared.sized_statement.SizedStatement.SizedStatement, declared.sizer.Sizer.Sizer}
+use Rattle.deck_assembler.specs.{Joins.Agreements.{left, HasFront, IsSameFront, StandAlike}, Joins.DeckParts.{DeckPiece, sized_in}, Joins.FirstSymbols.symbol_in, Joins.FirstStatements.all_statements, Joins.Formers.known_in, Joins.OldDecks.{GoesOn, IsFrontOn, IsKeptOn, IsOnSpan}, Joins.SizedDecks.IsSizedStatement, Joins.Sizers.{stood, ahead}, Stays.IsAsBefore, declared.old_deck.OldDeck.OldDeck, declared.old_deck.Stage.Stage, declared.sized_statement.SizedStatement.SizedStatement, declared.sizer.Sizer.Sizer}
 use Rattle.deck_assembler.specs.declared.old_deck.Stage.TheVariants as stages
 
 -- how many cards statements have that were sized
@@ -19,6 +19,12 @@ abbrev pub IsNextOf : OldDeck → OldDeck → SizedStatement → Type 0
 IsNextOf old new sized =
     ((old.statements.items ≡ sized ∷ new.statements.items) × (old.pieces.items ≡ new.pieces.items))
     ⊎ ((old.statements.items ≡ []) × ((piece : DeckPiece) × (old.pieces.items ≡ piece ∷ new.pieces.items) × (piece.statements ≡ sized ∷ new.statements.items)))
+
+-- a piece is begun, if nothing was left of the one before and there is another
+abbrev pub IsBegunOf : OldDeck → OldDeck → Type 0
+IsBegunOf old new =
+    ((old.statements.items ≡ new.statements.items) × (old.pieces.items ≡ new.pieces.items))
+    ⊎ ((old.statements.items ≡ []) × ((piece : DeckPiece) × (old.pieces.items ≡ piece ∷ new.pieces.items) × (piece.statements ≡ new.statements.items) × (0 < length new.statements.items)))
 
 -- a piece of the old deck that is left, or its end: these statements and so many cards are left from there on
 pub record HasPiece (deck : OldDeck) (tail : List SizedStatement) (count : ℕ) : Type 0 where
@@ -111,11 +117,25 @@ pub record IsDue (kind : DeckKind) (old cards : List Card) (limit : ℕ) (earlie
   pub sized : found ≡ None → length earlier < limit
   pub will : WillAgree kind old cards limit (statement_at cards span ∷ earlier) new
 
--- wherever the decks are found to agree in time, they are so behind the statement of a span
-abbrev pub KeepsDue : List Card → Span → Sizer → OldDeck → OldDeck → Option SizedStatement → Type 0
-KeepsDue cards span sizer deck new found =
-    (kind : DeckKind) (old : List Card) (earlier : List Statement) (limit : ℕ) → IsOnSpan kind old cards earlier span sizer deck → IsNextKnown cards earlier span limit → WillAgree kind old cards limit earlier deck →
-    IsDue kind old cards limit earlier span new found
+-- wherever a span is the next one of these cards, the old deck goes on behind it, this one kept or none: that is kept where an untouched front goes on, and the decks are still found to agree in time
+pub record GoesBehind (cards : List Card) (span : Span) (sizer : Sizer) (deck new : OldDeck) (found : Option SizedStatement) : Type 0 where
+  pub on : (kind : DeckKind) (old : List Card) (earlier : List Statement) → IsOnSpan kind old cards earlier span sizer deck → IsKeptOn kind old cards (statement_at cards span ∷ earlier) new
+  pub front : (kind : DeckKind) (old : List Card) (earlier : List Statement) → IsOnSpan kind old cards earlier span sizer deck → GoesOn old cards earlier span deck → IsFrontOn deck new found
+  pub due : (kind : DeckKind) (old : List Card) (earlier : List Statement) (limit : ℕ) → IsOnSpan kind old cards earlier span sizer deck → IsNextKnown cards earlier span limit → WillAgree kind old cards limit earlier deck →
+      IsDue kind old cards limit earlier span new found
+
+-- a statement stays, the first of the piece that was begun: it is that of the span as it was sized, and settled as one of the old deck
+pub record StaysFirst (cards : List Card) (span : Span) (sizer : Sizer) (deck new : OldDeck) : Type 0 where
+  pub some : 0 < length new.statements.items
+  pub that : (sized : SizedStatement) (rest : List SizedStatement) → new.statements.items ≡ sized ∷ rest → (kind : DeckKind) (old : List Card) (earlier : List Statement) → IsOnSpan kind old cards earlier span sizer deck →
+      IsSizedStatement kind earlier (stood earlier) (ahead cards earlier) sized (statement_at cards span) × ((sized.cards ≡ span.count) × IsAsBefore kind (known_in old) earlier (statement_at cards span))
+  pub behind : (sized : SizedStatement) (next : OldDeck) → new.statements.items ≡ sized ∷ next.statements.items → new.pieces.items ≡ next.pieces.items → IsSameFront new next →
+      GoesBehind cards span sizer deck next (Some sized)
+
+-- it stays, or none does
+abbrev pub KeepsIf : List Card → Span → Sizer → OldDeck → OldDeck → Bool → Type 0
+KeepsIf cards span sizer deck new true = StaysFirst cards span sizer deck new
+KeepsIf cards span sizer deck new false = GoesBehind cards span sizer deck new None
 
 -- the statements of these spans are those of the deck, which are more than a limit, and of which no more than that stand in front
 pub record IsBounded (cards : List Card) (spans : List Span) (front : List Statement) (limit : ℕ) : Type 0 where

@@ -2,7 +2,7 @@
 use Rattle.std.specs.Prelude.{ℕ, ◌≡◌, ⊤, ◌≤◌, ◌<◌, ◌+◌, List, [], ◌∷◌, ◌++◌, Option, true, is_some, take, drop, length, reverse}
 use Rattle.cards.specs.{Joins.Spans.statement_at, declared.statement_list.Span.Span}
 use Rattle.definitions.specs.{Cards.Card, Laws.Edits.{Edited, IsUntouched}, Statements.Statement, declared.deck_kind.DeckKind.DeckKind}
-use Rattle.deck_assembler.specs.{Joins.Agreements.{left, HasFront, HaveSameEnd}, Joins.Formers.known_in, Joins.SizedDecks.{IsSizedStatement, AreSizedFrom}, Joins.Sizers.{stood, ahead, IsNext, IsSizer}, Joins.Tails.{AreKeptAlike, HaveOneTail}, Stays.IsAsBefore, declared.old_deck.OldDeck.OldDeck, declared.old_deck.Stage.Stage, declared.sized_statement.SizedStatement.SizedStatement, declared.sizer.Sizer.Sizer}
+use Rattle.deck_assembler.specs.{Joins.Agreements.{left, HasFront, HaveSameEnd}, Joins.Formers.known_in, Joins.SizedDecks.{IsSizedStatement, AreSizedFrom}, Joins.Sizers.{stood, ahead, IsNext, IsSizer}, Joins.Tails.{AreKeptAlike, HaveOneTail}, declared.old_deck.OldDeck.OldDeck, declared.old_deck.Stage.Stage, declared.sized_statement.SizedStatement.SizedStatement, declared.sizer.Sizer.Sizer}
 use Rattle.deck_assembler.specs.declared.old_deck.Stage.TheVariants as stages
 
 -- statements in order are sized behind these of a deck, and so many of its cards stood before them
@@ -51,17 +51,6 @@ pub record IsOnSpan (kind : DeckKind) (old cards : List Card) (earlier : List St
   pub next : IsNext cards earlier span.count (statement_at cards span)
   pub kept_on : IsKeptOn kind old cards earlier deck
 
--- wherever a span is the next one of these cards, the old deck goes on behind it
-abbrev pub KeepsOn : List Card → Span → Sizer → OldDeck → OldDeck → Type 0
-KeepsOn cards span sizer deck new =
-    (kind : DeckKind) (old : List Card) (earlier : List Statement) → IsOnSpan kind old cards earlier span sizer deck → IsKeptOn kind old cards (statement_at cards span ∷ earlier) new
-
--- wherever a span is the next one of these cards, a statement is that of the span as it was sized, and settled as one of the old deck
-abbrev pub IsThatOf : List Card → Span → Sizer → OldDeck → SizedStatement → Type 0
-IsThatOf cards span sizer deck sized =
-    (kind : DeckKind) (old : List Card) (earlier : List Statement) → IsOnSpan kind old cards earlier span sizer deck →
-    IsSizedStatement kind earlier (stood earlier) (ahead cards earlier) sized (statement_at cards span) × ((sized.cards ≡ span.count) × IsAsBefore kind (known_in old) earlier (statement_at cards span))
-
 -- statements that stand untouched in front of the old deck and of these statements
 pub record StandsInFront (old : List Card) (new front : List Statement) (deck : OldDeck) : Type 0 where
   pub decks : Edited
@@ -83,8 +72,3 @@ pub record IsFrontOn (old new : OldDeck) (found : Option SizedStatement) : Type 
   pub some : is_some found ≡ true
   pub stage : new.stage ≡ stages.Front
   pub before : new.before ≡ old.before
-
--- wherever an untouched front goes on with the statement of a span, that is kept
-abbrev pub KeepsFront : List Card → Span → Sizer → OldDeck → OldDeck → Option SizedStatement → Type 0
-KeepsFront cards span sizer deck new found =
-    (kind : DeckKind) (old : List Card) (earlier : List Statement) → IsOnSpan kind old cards earlier span sizer deck → GoesOn old cards earlier span deck → IsFrontOn deck new found
