@@ -1,49 +1,20 @@
 -- The letters of an EXT hang on two facts: whether one of its names is unlawful, and whether one is not new.
-use Rattle.std.{proofs.Common.{◌≡◌, ℕ, List, [], ◌∷◌, ◌++◌, Bool, true, false, ◌||◌, cond, eqb, filter, Option, Some, None, refl, sym, ap, ap₂, ◌∙◌}, specs.Prelude.{codes, is_some, if◌then◌else◌}}
-use Rattle.definitions.specs.{Characters.{is_among, same_text}, Forms.Form, Letters.{texts, in_order}, Settled.{Definition, defined_in}, Settling.{View, external, is_known, letter_where, external_letters}, declared.letter.Letter.Letter}
+use Rattle.std.{proofs.Common.{◌≡◌, ℕ, List, [], ◌∷◌, ◌++◌, Bool, true, false, ◌||◌, cond, eqb, filter, map, Option, Some, None, refl, sym, ap, ap₂, ◌∙◌}, specs.Prelude.{codes, is_some, if◌then◌else◌}, proofs.Math.Bool.{or-false, or_comm}, proofs.lemmas.List.map-append}
+use Rattle.definitions.specs.{Blocks.is_named, Characters.{is_among, same_text}, Letters.{texts, in_order}, Settled.{Definition, defined_in}, Settling.{View, external, is_known, letter_where, external_letters}, declared.letter.Letter.Letter}
 use Rattle.definitions.specs.declared.letter.Letter.TheVariants as letter
-use Rattle.statement_coder.specs.Joins.Externals.{has_unlawful, is_listed, has_known}
+use Rattle.statement_coder.{specs.Joins.Externals.{has_unlawful, is_listed, has_known}, proofs.SeenLaws.{any_seen, seen-pushed, none-seen}}
 
--- whether one of these names is defined so far
-abbrev any_defined : List (Option (List ℕ)) → List Definition → Bool
-any_defined [] so_far = false
-any_defined (None ∷ names) so_far = any_defined names so_far
-any_defined (Some name ∷ names) so_far = is_some (defined_in name so_far) || any_defined names so_far
+abbrev names_of : List Definition → List (List ℕ)
+names_of definitions = map (λ (definition : Definition). definition.name) definitions
 
-some_if : (t s : Bool) (form : Form) (o p : Option Form) → is_some o ≡ (is_some p || s) → is_some (if t then Some form else o) ≡ (is_some (if t then Some form else p) || s)
-some_if true s form o p e = refl
-some_if false s form o p e = e
-
-last_form : (t : Bool) (form : Form) → is_some (if t then Some form else None) ≡ t
-last_form true form = refl
-last_form false form = refl
-
--- one definition more
-defined_in-last : (name other : List ℕ) (so_far : List Definition) →
-    is_some (defined_in name (so_far ++ external other ∷ [])) ≡ (is_some (defined_in name so_far) || same_text name other)
-defined_in-last name other [] = last_form (same_text name other) (external other).form
-defined_in-last name other (definition ∷ so_far) =
-    some_if (same_text name definition.name) (same_text name other) definition.form
-    (defined_in name (so_far ++ external other ∷ [])) (defined_in name so_far) (defined_in-last name other so_far)
-
-or_pairs : (a s b l : Bool) → ((a || s) || (b || l)) ≡ ((a || b) || (s || l))
-or_pairs true s b l = refl
-or_pairs false true true l = refl
-or_pairs false true false l = refl
-or_pairs false false b l = refl
-
-any_defined-last : (other : List ℕ) (names : List (Option (List ℕ))) (so_far : List Definition) →
-    any_defined names (so_far ++ external other ∷ []) ≡ (any_defined names so_far || is_listed other names)
-any_defined-last other [] so_far = refl
-any_defined-last other (None ∷ names) so_far = any_defined-last other names so_far
-any_defined-last other (Some name ∷ names) so_far =
-    ap₂ (λ (s t : Bool). s || t) (defined_in-last name other so_far) (any_defined-last other names so_far)
-    ∙ or_pairs (is_some (defined_in name so_far)) (same_text name other) (any_defined names so_far) (is_listed other names)
-
-none_defined : (names : List (Option (List ℕ))) → any_defined names [] ≡ false
-none_defined [] = refl
-none_defined (None ∷ names) = none_defined names
-none_defined (Some name ∷ names) = none_defined names
+-- a name that is defined is one of the names
+named_in : (name : List ℕ) (so_far : List Definition) → is_some (defined_in name so_far) ≡ is_named name (names_of so_far)
+named_in name [] = refl
+named_in name (definition ∷ so_far) =
+    elim (same_text name definition.name) as (λ t. is_some (if t then Some definition.form else defined_in name so_far) ≡ (t || is_named name (names_of so_far))) [
+      | true ↦ refl
+      | false ↦ named_in name so_far
+    ]
 
 -- V and D, each where it applies
 abbrev two : Bool → Bool → List Letter
@@ -63,10 +34,7 @@ or_between true false = refl
 or_between false b = refl
 
 or_behind : (a b : Bool) → (a || (b || false)) ≡ (b || (a || false))
-or_behind true true = refl
-or_behind true false = refl
-or_behind false true = refl
-or_behind false false = refl
+or_behind a b = ap (λ (t : Bool). a || t) (or-false b) ∙ or_comm a b ∙ ap (λ (t : Bool). b || t) (sym (or-false a))
 
 V_more : (c : ℕ) (unlawful known : Bool) → tells c (letter.V ∷ two unlawful known) ≡ tells c (two true known)
 V_more c true known = or_again (eqb 86 c) (tells c (letter_where known letter.D))
@@ -92,37 +60,37 @@ or_new false true b l h e = cc
 or_new false false true l h e = refl
 or_new false false false l h e = refl
 
--- what the two facts are, behind the definitions so far
-abbrev facts : View → List (Option (List ℕ)) → List Definition → List Letter
-facts symbol names so_far = two (has_unlawful names) (any_defined names so_far || has_known symbol names)
+-- what the two facts are, behind the names so far
+abbrev facts : View → List (Option (List ℕ)) → List (List ℕ) → List Letter
+facts symbol names seen = two (has_unlawful names) (any_seen seen names || has_known symbol names)
 
 -- one name more, once it is shown whether it is known
-name_more : (c : ℕ) (symbol : View) (name : List ℕ) (names : List (Option (List ℕ))) (so_far : List Definition) (known : Bool) → is_known symbol name so_far ≡ known →
-    ((before : List Definition) → tells c (external_letters symbol names before) ≡ tells c (facts symbol names before)) →
-    tells c (letter_where known letter.D ++ external_letters symbol names (if known then so_far else so_far ++ external name ∷ [])) ≡ tells c (facts symbol (Some name ∷ names) so_far)
+name_more : (c : ℕ) (symbol : View) (name : List ℕ) (names : List (Option (List ℕ))) (so_far : List Definition) (known : Bool) → (is_named name (names_of so_far) || is_some (symbol name)) ≡ known →
+    ((before : List Definition) → tells c (external_letters symbol names before) ≡ tells c (facts symbol names (names_of before))) →
+    tells c (letter_where known letter.D ++ external_letters symbol names (if known then so_far else so_far ++ external name ∷ [])) ≡ tells c (facts symbol (Some name ∷ names) (names_of so_far))
 name_more c symbol name names so_far true e rest =
-    let a = is_some (defined_in name so_far) in
-    let b = any_defined names so_far in
+    let seen = names_of so_far in
+    let b = any_seen seen names in
     let h = has_known symbol names in
     ap (λ (t : Bool). eqb 68 c || t) (rest so_far)
     ∙ D_more c (has_unlawful names) (b || h)
-    ∙ ap (λ (t : Bool). tells c (two (has_unlawful names) t)) (sym (or_known a (is_some (symbol name)) b (is_listed name names) h e))
+    ∙ ap (λ (t : Bool). tells c (two (has_unlawful names) t)) (sym (or_known (is_named name seen) (is_some (symbol name)) b (is_listed name names) h e))
 name_more c symbol name names so_far false e rest =
-    let a = is_some (defined_in name so_far) in
-    let b = any_defined names so_far in
+    let seen = names_of so_far in
     let l = is_listed name names in
     let h = has_known symbol names in
     rest (so_far ++ external name ∷ [])
-    ∙ ap (λ (t : Bool). tells c (two (has_unlawful names) (t || h))) (any_defined-last name names so_far)
-    ∙ ap (λ (t : Bool). tells c (two (has_unlawful names) t)) (or_new a (is_some (symbol name)) b l h e)
+    ∙ ap (λ (ns : List (List ℕ)). tells c (facts symbol names ns)) (map-append (λ (definition : Definition). definition.name) so_far (external name ∷ []))
+    ∙ ap (λ (t : Bool). tells c (two (has_unlawful names) (t || h))) (seen-pushed name seen names)
+    ∙ ap (λ (t : Bool). tells c (two (has_unlawful names) t)) (or_new (is_named name seen) (is_some (symbol name)) (any_seen seen names) l h e)
 
-letters-facts : (c : ℕ) (symbol : View) (names : List (Option (List ℕ))) (so_far : List Definition) → tells c (external_letters symbol names so_far) ≡ tells c (facts symbol names so_far)
+letters-facts : (c : ℕ) (symbol : View) (names : List (Option (List ℕ))) (so_far : List Definition) → tells c (external_letters symbol names so_far) ≡ tells c (facts symbol names (names_of so_far))
 letters-facts c symbol [] so_far = refl
 letters-facts c symbol (None ∷ names) so_far =
     ap (λ (t : Bool). eqb 86 c || t) (letters-facts c symbol names so_far)
-    ∙ V_more c (has_unlawful names) (any_defined names so_far || has_known symbol names)
+    ∙ V_more c (has_unlawful names) (any_seen (names_of so_far) names || has_known symbol names)
 letters-facts c symbol (Some name ∷ names) so_far =
-    name_more c symbol name names so_far (is_known symbol name so_far) refl (λ before. letters-facts c symbol names before)
+    name_more c symbol name names so_far (is_known symbol name so_far) (ap (λ (t : Bool). t || is_some (symbol name)) (sym (named_in name so_far))) (λ before. letters-facts c symbol names before)
 
 -- tests that agree keep the same
 filter_alike : (p q : ℕ → Bool) (cs : List ℕ) → ((c : ℕ) → p c ≡ q c) → filter p cs ≡ filter q cs
@@ -135,4 +103,4 @@ pub unlawful_or_known : (symbol : View) (names : List (Option (List ℕ))) →
 unlawful_or_known symbol names =
     filter_alike (λ c. tells c (two (has_unlawful names) (has_known symbol names))) (λ c. tells c (external_letters symbol names [])) (codes "ACDLORUVZ")
     (λ c. sym (letters-facts c symbol names []
-    ∙ ap (λ (t : Bool). tells c (two (has_unlawful names) (t || has_known symbol names))) (none_defined names)))
+    ∙ ap (λ (t : Bool). tells c (two (has_unlawful names) (t || has_known symbol names))) (none-seen names)))

@@ -1,5 +1,5 @@
 -- Names of an EXT that were seen before.
-use Rattle.std.{proofs.Common.{◌≡◌, ℕ, List, [], ◌∷◌, ◌++◌, Bool, true, false, ◌||◌, Option, Some, None, refl, ap, ap₂, ◌∙◌}, specs.Prelude.is_some, proofs.lemmas.List.Folds.list_any-append}
+use Rattle.std.{proofs.Common.{◌≡◌, ℕ, List, [], ◌∷◌, ◌++◌, Bool, true, false, ◌||◌, Option, Some, None, refl, sym, ap, ap₂, ◌∙◌}, specs.Prelude.is_some, proofs.Math.Bool.{or-false, or_comm, or_assoc}, proofs.lemmas.List.Folds.list_any-append}
 use Rattle.definitions.specs.{Blocks.is_named, Characters.same_text, Settling.View}
 use Rattle.statement_coder.specs.Joins.Externals.{has_known, is_listed}
 
@@ -9,10 +9,6 @@ any_seen seen [] = false
 any_seen seen (None ∷ names) = any_seen seen names
 any_seen seen (Some name ∷ names) = is_named name seen || any_seen seen names
 
-pub or_nothing : (b : Bool) → (b || false) ≡ b
-or_nothing true = refl
-or_nothing false = refl
-
 or_pairs : (a s b l : Bool) → ((a || s) || (b || l)) ≡ ((a || b) || (s || l))
 or_pairs true s b l = refl
 or_pairs false true true l = refl
@@ -21,7 +17,7 @@ or_pairs false false b l = refl
 
 named-pushed : (other name : List ℕ) (seen : List (List ℕ)) → is_named other (seen ++ name ∷ []) ≡ (is_named other seen || same_text other name)
 named-pushed other name seen =
-    list_any-append (same_text other) seen (name ∷ []) ∙ ap (λ (b : Bool). is_named other seen || b) (or_nothing (same_text other name))
+    list_any-append (same_text other) seen (name ∷ []) ∙ ap (λ (b : Bool). is_named other seen || b) (or-false (same_text other name))
 
 -- a name more was seen
 pub seen-pushed : (name : List ℕ) (seen : List (List ℕ)) (names : List (Option (List ℕ))) → any_seen (seen ++ name ∷ []) names ≡ (any_seen seen names || is_listed name names)
@@ -42,14 +38,7 @@ pub seen-more : (symbol : View) (name : List ℕ) (seen : List (List ℕ)) (name
     (has_known symbol names || any_seen (seen ++ name ∷ []) names) ≡ (has_known symbol (Some name ∷ names) || any_seen seen (Some name ∷ names))
 seen-more symbol name seen names undefined unseen =
     ap (λ (t : Bool). has_known symbol names || t) (seen-pushed name seen names)
-    ∙ by_tests (is_some (symbol name)) (is_named name seen) (has_known symbol names) (any_seen seen names) (is_listed name names) undefined unseen
-  where
-    by_tests : (d a h s l : Bool) → d ≡ false → a ≡ false → (h || (s || l)) ≡ (((d || l) || h) || (a || s))
-    by_tests true a h s l e k = cc
-    by_tests false true h s l e k = cc
-    by_tests false false true s true e k = refl
-    by_tests false false true s false e k = refl
-    by_tests false false false true true e k = refl
-    by_tests false false false true false e k = refl
-    by_tests false false false false true e k = refl
-    by_tests false false false false false e k = refl
+    ∙ or_comm (has_known symbol names) (any_seen seen names || is_listed name names)
+    ∙ or_assoc (any_seen seen names) (is_listed name names) (has_known symbol names)
+    ∙ or_comm (any_seen seen names) (is_listed name names || has_known symbol names)
+    ∙ sym (ap₂ (λ (d a : Bool). (d || is_listed name names || has_known symbol names) || (a || any_seen seen names)) undefined unseen)

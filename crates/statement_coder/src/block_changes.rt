@@ -27,8 +27,7 @@ fn change_of_use(field: UseField, state: &BlockState) -> BlockChange
     match field {
         UseField::UseName(name) => state.use_name(&name),
         UseField::UseBefore => BlockChange::Closes,
-        UseField::Refused => BlockChange::Nothing,
-        UseField::Bad => BlockChange::Nothing,
+        _ => BlockChange::Nothing,
     }
 }
 
@@ -39,15 +38,7 @@ pub(crate) fn change_of(reading: &Reading<'_>, state: &BlockState) -> BlockChang
 {
     match reading {
         Reading::Use(field) => change_of_use(*field, state),
-        Reading::Unread => BlockChange::Nothing,
-        Reading::Bad => BlockChange::Nothing,
-        Reading::Instruction(_) => BlockChange::Nothing,
-        Reading::Data(_) => BlockChange::Nothing,
-        Reading::Con(_) => BlockChange::Nothing,
-        Reading::Vfd(_) => BlockChange::Nothing,
-        Reading::Text(_) => BlockChange::Nothing,
-        Reading::Value(_) => BlockChange::Nothing,
-        Reading::Names(_) => BlockChange::Nothing,
+        _ => BlockChange::Nothing,
     }
 }
 
@@ -57,8 +48,7 @@ fn is_refused_name(name: &Name, state: &BlockState) -> bool
 {
     match state.use_name(name) {
         BlockChange::Opens(_) => false,
-        BlockChange::Nothing => true,
-        BlockChange::Closes => true,
+        _ => true,
     }
 }
 
@@ -81,15 +71,7 @@ fn is_refused_block(reading: &Reading<'_>, state: &BlockState) -> bool
 {
     match reading {
         Reading::Use(field) => is_refused_use(*field, state),
-        Reading::Unread => false,
-        Reading::Bad => false,
-        Reading::Instruction(_) => false,
-        Reading::Data(_) => false,
-        Reading::Con(_) => false,
-        Reading::Vfd(_) => false,
-        Reading::Text(_) => false,
-        Reading::Value(_) => false,
-        Reading::Names(_) => false,
+        _ => false,
     }
 }
 
@@ -108,11 +90,7 @@ pub(crate) fn is_refused(
         Operation::Kind(_) => !state.is_neutral(),
         Operation::Use => is_refused_block(reading, state),
         Operation::Entry => matches!(statement.kind, DeckKind::Periph),
-        Operation::Ext => match statement.kind {
-            DeckKind::Rel => false,
-            DeckKind::Abs => true,
-            DeckKind::Periph => true,
-        },
+        Operation::Ext => !matches!(statement.kind, DeckKind::Rel),
         _ => false,
     }
 }

@@ -65,18 +65,7 @@ fn first_as_number(location: &[u8], is_defined: bool) -> Definition
 fn has_names(reading: &Reading<'_>) -> bool
     ensures { (operand : operands.Operand) → IsReading reading.now operand → result ≡ has_names operand }
 {
-    match reading {
-        Reading::Names(_) => true,
-        Reading::Unread => false,
-        Reading::Bad => false,
-        Reading::Instruction(_) => false,
-        Reading::Data(_) => false,
-        Reading::Con(_) => false,
-        Reading::Vfd(_) => false,
-        Reading::Text(_) => false,
-        Reading::Value(_) => false,
-        Reading::Use(_) => false,
-    }
+    matches!(reading, Reading::Names(_))
 }
 
 /// What an EXT defines.
@@ -86,15 +75,8 @@ fn externals(kind: DeckKind, reading: &Reading<'_>) -> Definition
     ensures externals { (value counter : forms.Form) → IsOfExt op.Ext (made_as counter value result) }
 {
     match kind {
-        DeckKind::Rel => {
-            if has_names(reading) {
-                Definition::Externals
-            } else {
-                Definition::Nothing
-            }
-        }
-        DeckKind::Abs => Definition::Nothing,
-        DeckKind::Periph => Definition::Nothing,
+        DeckKind::Rel if has_names(reading) => Definition::Externals,
+        _ => Definition::Nothing,
     }
 }
 

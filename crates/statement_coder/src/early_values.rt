@@ -59,15 +59,7 @@ pub(crate) fn early_value<N: Names>(
 {
     match reading {
         Reading::Value(expression) => Some(value(expression, names)),
-        Reading::Unread => None,
-        Reading::Bad => None,
-        Reading::Instruction(_) => None,
-        Reading::Data(_) => None,
-        Reading::Con(_) => None,
-        Reading::Vfd(_) => None,
-        Reading::Text(_) => None,
-        Reading::Names(_) => None,
-        Reading::Use(_) => None,
+        _ => None,
     }
 }
 
@@ -77,7 +69,6 @@ pub(crate) fn equated(value: &Option<Result<Form, Letter>>) -> Form
 {
     match value {
         Some(Ok(form)) => *form,
-        Some(Err(_)) => Form::absolute(0),
-        None => Form::absolute(0),
+        _ => Form::absolute(0),
     }
 }

@@ -76,15 +76,7 @@ fn operand_letters<S: FinalSymbols>(symbols: &S, reading: &Reading<'_>) -> Lette
 {
     match reading {
         Reading::Names(names) => names_letters(symbols, names.copied()),
-        Reading::Unread => Letters::none(),
-        Reading::Bad => Letters::none(),
-        Reading::Instruction(_) => Letters::none(),
-        Reading::Data(_) => Letters::none(),
-        Reading::Con(_) => Letters::none(),
-        Reading::Vfd(_) => Letters::none(),
-        Reading::Text(_) => Letters::none(),
-        Reading::Value(_) => Letters::none(),
-        Reading::Use(_) => Letters::none(),
+        _ => Letters::none(),
     }
 }
 
@@ -118,7 +110,6 @@ pub(crate) fn entry_letters<S: FinalSymbols>(
 {
     match kind {
         DeckKind::Periph => Letters::none(),
-        DeckKind::Rel => operation_letters(operation, symbols, reading),
-        DeckKind::Abs => operation_letters(operation, symbols, reading),
+        _ => operation_letters(operation, symbols, reading),
     }
 }

@@ -1,5 +1,5 @@
 //! A sizing in few bytes, so that it can be kept of each statement, in a deck of any kind.
-ghost use Rattle.std.specs.Prelude.{◌≡◌, ◌≤◌, true, IfOk, IsOk};
+ghost use Rattle.std.specs.Prelude.{◌≡◌, true, IfOk, IsOk};
 ghost use Rattle.std.specs.Bool.{Decides};
 ghost use Rattle.definitions.specs.Settling.{is_run};
 ghost use Rattle.use_blocks.specs.Joins.EffectsAs.{setting_as};
@@ -21,21 +21,13 @@ use use_blocks::{BlockChange, LocationSetting, is_same_form, origin};
 fn is_nothing(change: BlockChange) -> bool
     ensures { Decides result (change ≡ changes.Nothing) }
 {
-    match change {
-        BlockChange::Nothing => true,
-        BlockChange::Opens(_) => false,
-        BlockChange::Closes => false,
-    }
+    matches!(change, BlockChange::Nothing)
 }
 
 fn is_unchanged(setting: LocationSetting) -> bool
     ensures { Decides result (setting ≡ settings.Unchanged) }
 {
-    match setting {
-        LocationSetting::Unchanged => true,
-        LocationSetting::Counts(_) => false,
-        LocationSetting::Ended => false,
-    }
+    matches!(setting, LocationSetting::Unchanged)
 }
 
 impl Sizing {
@@ -181,11 +173,7 @@ impl KeptSizing {
     pub fn begins_run(&self) -> bool
         ensures { result ≡ is_run (setting_as self.now.setting) }
     {
-        match self.setting() {
-            LocationSetting::Ended => true,
-            LocationSetting::Unchanged => false,
-            LocationSetting::Counts(_) => false,
-        }
+        matches!(self.setting(), LocationSetting::Ended)
     }
 
     /// The location counter, `*`, in a deck of this kind.

@@ -87,11 +87,7 @@ fn operand_fields<'a, B: BlockBases, N: Names>(
             push_text(kind, text, list)?;
             Ok(listed(before, list))
         }
-        Reading::Unread => Ok(absent()),
-        Reading::Bad => Ok(absent()),
-        Reading::Value(_) => Ok(absent()),
-        Reading::Names(_) => Ok(absent()),
-        Reading::Use(_) => Ok(absent()),
+        _ => Ok(absent()),
     }
 }
 

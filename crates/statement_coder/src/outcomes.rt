@@ -56,8 +56,7 @@ fn is_in_block(block: &Name, part: Option<Part>) -> bool
 {
     match part {
         Some(Part::Added(relocation)) => is_same_block(block, relocation),
-        Some(Part::Subtracted(_)) => false,
-        None => false,
+        _ => false,
     }
 }
 

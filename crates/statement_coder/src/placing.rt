@@ -1,8 +1,6 @@
 //! Where a statement stands in its block (COMPASS 60492600, forcing upper; which instructions ask
 //! for upper is ours).
-ghost use Rattle.std.specs.Prelude.{◌≡◌, ◌≤◌, ◌==◌, ◌||◌, codes, length, min};
-ghost use Rattle.definitions.specs.Characters.{same_text};
-ghost use Rattle.definitions.specs.Kinds.{units};
+ghost use Rattle.std.specs.Prelude.{◌≡◌, ◌≤◌, ◌==◌, ◌||◌, length, min};
 ghost use Rattle.definitions.specs.Operands as operands;
 ghost use Rattle.definitions.specs.Pieces.{pieces_of, subfields_of};
 ghost use Rattle.definitions.specs.Places.{is_bad, is_long, allows_minus, has_minus, is_upper, least_place, asks_upper, asks_after};
@@ -157,9 +155,7 @@ fn asks_upper(name: &[u8], text: &[u8]) -> bool
     ensures { result ≡ asks_upper name.now (length (subfields_of (pieces_of text.now))) }
 {
     match name {
-        [b'J', b'P'] => true,
-        [b'R', b'J'] => true,
-        [b'P', b'S'] => true,
+        [b'J', b'P'] | [b'R', b'J'] | [b'P', b'S'] => true,
         [b'E', b'Q'] => is_one(text),
         _ => false,
     }
@@ -176,7 +172,6 @@ pub(crate) fn asks_after(statement: &Statement<'_>, reading: &Reading<'_>) -> bo
     }
     match statement.kind {
         DeckKind::Periph => false,
-        DeckKind::Rel => !is_bad(reading) && asks_upper(statement.name, statement.variable),
-        DeckKind::Abs => !is_bad(reading) && asks_upper(statement.name, statement.variable),
+        _ => !is_bad(reading) && asks_upper(statement.name, statement.variable),
     }
 }

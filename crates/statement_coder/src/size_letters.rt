@@ -61,15 +61,7 @@ fn names_letters<S: EarlySymbols>(
 {
     match reading {
         Reading::Names(names) => external_letters(alloc, keys, symbols, names),
-        Reading::Unread => Ok(bad_letters(reading)),
-        Reading::Bad => Ok(bad_letters(reading)),
-        Reading::Instruction(_) => Ok(bad_letters(reading)),
-        Reading::Data(_) => Ok(bad_letters(reading)),
-        Reading::Con(_) => Ok(bad_letters(reading)),
-        Reading::Vfd(_) => Ok(bad_letters(reading)),
-        Reading::Text(_) => Ok(bad_letters(reading)),
-        Reading::Value(_) => Ok(bad_letters(reading)),
-        Reading::Use(_) => Ok(bad_letters(reading)),
+        _ => Ok(bad_letters(reading)),
     }
 }
 
@@ -86,8 +78,7 @@ fn ext_letters<S: EarlySymbols>(
 {
     match kind {
         DeckKind::Rel => names_letters(alloc, keys, symbols, reading),
-        DeckKind::Abs => Ok(bad_letters(reading)),
-        DeckKind::Periph => Ok(bad_letters(reading)),
+        _ => Ok(bad_letters(reading)),
     }
 }
 

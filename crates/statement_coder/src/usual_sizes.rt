@@ -33,18 +33,7 @@ fn is_plain(reading: &Reading<'_>) -> bool
     ensures value { result ≡ true → (operand : operands.Operand) (names : forms.Names) → IsReading reading.now operand → early_value names operand ≡ None }
     ensures change { result ≡ true → (operand : operands.Operand) (blocks : List (List ℕ)) → IsReading reading.now operand → change_of operand blocks ≡ NoChange }
 {
-    match reading {
-        Reading::Unread => true,
-        Reading::Bad => true,
-        Reading::Instruction(_) => true,
-        Reading::Data(_) => true,
-        Reading::Con(_) => true,
-        Reading::Vfd(_) => true,
-        Reading::Text(_) => true,
-        Reading::Value(_) => false,
-        Reading::Names(_) => true,
-        Reading::Use(_) => false,
-    }
+    !matches!(reading, Reading::Value(_) | Reading::Use(_))
 }
 
 /// What a statement is whose operand was read and takes no early value, in a block where no LOC is in force,

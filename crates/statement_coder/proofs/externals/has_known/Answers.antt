@@ -1,6 +1,6 @@
-use Rattle.std.{proofs.Common.{ℕ, ◌≡◌, List, [], ◌∷◌, ◌++◌, ◌||◌, Bool, false, Bor, Option, Some, ap, ap₂, sym, ◌∙◌}, specs.Prelude.{is_some, if◌then◌else◌}, specs.Option.option_copied}
+use Rattle.std.{proofs.Common.{ℕ, ◌≡◌, List, [], ◌∷◌, ◌++◌, ◌||◌, Bool, false, Bor, Option, Some, ap, ap₂, sym, ◌∙◌}, specs.Prelude.{is_some, if◌then◌else◌}, specs.Option.option_copied, proofs.Math.Bool.or-false}
 use Rattle.definitions.specs.Blocks.{is_named}
-use Rattle.statement_coder.{specs.Joins.Externals.has_known, proofs.SeenLaws.{any_seen, none-seen, or_nothing, seen-more}}
+use Rattle.statement_coder.{specs.Joins.Externals.has_known, proofs.SeenLaws.{any_seen, none-seen, seen-more}}
 use Rattle.statement_coder.proofs.externals.has_known.Goals as goal
 
 pub names-init : goal.names-init
@@ -8,7 +8,7 @@ names-init g c =
     let known = has_known (g.S.EarlySymbols.view c.args.symbols.now) c.args.names in
     ap (λ (seen : List (List ℕ)). known || any_seen seen c.args.names) c.with_hasher-seen.ensures.empty
     ∙ ap (λ (t : Bool). known || t) (none-seen c.args.names)
-    ∙ or_nothing known
+    ∙ or-false known
 
 pub names-preserved : goal.names-preserved
 names-preserved g c =
