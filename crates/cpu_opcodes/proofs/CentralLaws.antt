@@ -1,67 +1,8 @@
--- The three tables against those of the definitions: for each operation the same rows in the same order.
-use Rattle.std.{proofs.Common.{◌≡◌, ℕ, Bool, true, false, not, cond, ◌||◌, List, [], ◌∷◌, Option, Some, None, map, filter, eqb, get_or, Fits, w8, refl, sym, ap, ◌∙◌, arith}, specs.List.{list_all, list_any}, proofs.lemmas.Bool.and_parts, proofs.lemmas.List.Elements.All-filter, proofs.lemmas.List.Sums.{AllPass-from_list_all, list_all-from_AllPass}}
+-- The rows of an operation, which is in a table where there are some.
+use Rattle.std.{proofs.Common.{◌≡◌, ℕ, Bool, true, false, cond, ◌||◌, List, [], ◌∷◌, length, get_or, map, filter, refl, sym, ap, ap₂, ◌∙◌, arith}, specs.Prelude.is_some, specs.List.{list_all, list_any}, proofs.lemmas.Bool.and_parts}
+use Rattle.definitions.specs.Matching.{no_ijk, is_operation}
 use Rattle.definitions.specs.CentralTable as table
-use Rattle.definitions.specs.{CentralTable.SumRow, Matching.{is_operation}}
-use Rattle.operations.{specs.declared.row.Row.Row, specs.Joins.SortedNames.{name_number, has_number}, proofs.TableLaws.{is_in, agree, none_of}}
-use Rattle.cpu_opcodes.{specs.declared.operand_table.TheConstants.OPERAND_ROWS, specs.declared.sum_table.TheConstants.SUM_ROWS, specs.Joins.OperationNames.{name_of, padded, rows_with, rows_named}, specs.Joins.CentralTables.{operand_row, sum_row, padded_row, padded_sum_row, operand_rows_of, sum_rows_of, is_some_of}, specs.Joins.FirstLetters.begins_sum, specs.Joins.PatternTexts.holds, proofs.OperationLaws.{no_operation, is_number, is_shaped, operation-named}}
-
--- tests that agree on all elements keep the same
-filter-agree : {X : Type 0} (p q s : X → Bool) (xs : List X) → ((x : X) → s x ≡ true → p x ≡ q x) → list_all s xs ≡ true → filter p xs ≡ filter q xs
-filter-agree p q s [] agree all = refl
-filter-agree p q s (x ∷ xs) agree all =
-    let parts = and_parts (s x) (list_all s xs) all in
-    ap (λ t. cond t (x ∷ filter p xs) (filter p xs)) (agree x parts.0)
-    ∙ ap (λ l. cond (q x) (x ∷ l) l) (filter-agree p q s xs agree parts.1)
-
-filter-false : {X : Type 0} (xs : List X) → filter (λ (x : X). false) xs ≡ []
-filter-false [] = refl
-filter-false (x ∷ xs) = filter-false xs
-
--- no row is left where a test holds of all their texts and not of the operation
-none-left : {X Z : Type 0} (d : X → Z) (test : List ℕ → Bool) (op_of : X → List ℕ) (xs : List X) (operation : List ℕ) → list_all (λ x. holds test (op_of x)) xs ≡ true → test operation ≡ false →
-    [] ≡ map d (filter (λ x. is_operation (op_of x) operation) xs)
-none-left d test op_of xs operation all other =
-    ap (map d) (sym (filter-agree (λ x. is_operation (op_of x) operation) (λ x. false) (λ x. holds test (op_of x)) xs (λ x one. no_operation test (op_of x) operation one other) all ∙ filter-false xs))
-
--- an operation that begins with neither J nor S has no row of a sum
-pub no_sum : (operation : List ℕ) → begins_sum operation ≡ false → [] ≡ sum_rows_of operation
-no_sum operation = none-left padded_sum_row begins_sum (λ (row : SumRow). row.operation) table.sum_rows operation refl
-
--- one that begins with J or S has no other
-pub no_other : (operation : List ℕ) → begins_sum operation ≡ true → [] ≡ operand_rows_of operation
-no_other operation sum = none-left padded_row (λ text. not (begins_sum text)) (λ (row : table.Row). row.operation) table.central_rows operation refl (ap not sum)
-
--- the number of a row's name
-abbrev number_of : {X : Type 0} → (X → List ℕ) → X → ℕ
-number_of op_of x = name_number (padded (op_of x))
-
--- the rows of a name: each table holds those of the definitions by one test over all names
-rows_by : {X F Z : Type 0} (op_of : X → List ℕ) (d : X → Z) (f : Row F → Z) (xs : List X) (rows : List (Row F)) → let numbers = map (number_of op_of) xs in
-    map (λ k. map f (filter (has_number k) rows)) numbers ≡ map (λ k. map d (filter (λ x. eqb (number_of op_of x) k) xs)) numbers →
-    list_all (λ row. is_in numbers (name_number row.name)) rows ≡ true → list_all (λ x. is_in numbers (number_of op_of x)) xs ≡ true → (name : Option (List ℕ)) →
-    map f (rows_with rows name) ≡ map d (filter (λ x. is_number (number_of op_of x) name) xs)
-rows_by op_of d f xs rows same within all None = ap (map d) (sym (filter-false xs))
-rows_by op_of d f xs rows same within all (Some name) =
-    let numbers = map (number_of op_of) xs in
-    agree (λ k. map f (filter (has_number k) rows)) (λ k. map d (filter (λ x. eqb (number_of op_of x) k) xs)) numbers (name_number name) same (λ absent.
-    ap (map f) (none_of (λ row. name_number row.name) numbers (name_number name) rows absent within)
-    ∙ sym (ap (map d) (none_of (number_of op_of) numbers (name_number name) xs absent all)))
-
-rows_for : {X Z : Type 0} (op_of : X → List ℕ) (d : X → Z) (xs : List X) (operation : List ℕ) → Fits w8 (get_or operation 1 0) → list_all (λ x. is_shaped (op_of x)) xs ≡ true →
-    map d (filter (λ x. is_number (number_of op_of x) (name_of operation)) xs) ≡ map d (filter (λ x. is_operation (op_of x) operation) xs)
-rows_for op_of d xs operation byte shaped =
-    ap (map d) (sym (filter-agree (λ x. is_operation (op_of x) operation) (λ x. is_number (number_of op_of x) (name_of operation)) (λ x. is_shaped (op_of x)) xs
-    (λ x one. operation-named (op_of x) operation one (omega (arith, byte))) shaped))
-
-pub operand_rows-named : (operation : List ℕ) → Fits w8 (get_or operation 1 0) → map operand_row (rows_named OPERAND_ROWS operation) ≡ operand_rows_of operation
-operand_rows-named operation byte =
-    rows_by (λ (row : table.Row). row.operation) padded_row operand_row table.central_rows OPERAND_ROWS refl refl refl (name_of operation)
-    ∙ rows_for (λ (row : table.Row). row.operation) padded_row table.central_rows operation byte refl
-
-pub sum_rows-named : (operation : List ℕ) → Fits w8 (get_or operation 1 0) → map sum_row (rows_named SUM_ROWS operation) ≡ sum_rows_of operation
-sum_rows-named operation byte =
-    rows_by (λ (row : SumRow). row.operation) padded_sum_row sum_row table.sum_rows SUM_ROWS refl refl refl (name_of operation)
-    ∙ rows_for (λ (row : SumRow). row.operation) padded_sum_row table.sum_rows operation byte refl
+use Rattle.cpu_opcodes.{specs.Joins.CentralTables.{is_some_of, is_shaped, operand_rows_of, padded_row}, specs.Joins.PatternTexts.holds, proofs.PatternTextLaws.fits_none}
 
 -- a map leaves no list empty and fills none
 is_some_of-map : {X Z : Type 0} (f : X → Z) (xs : List X) → is_some_of (map f xs) ≡ is_some_of xs
@@ -88,12 +29,24 @@ is_empty (x ∷ xs) none = absurd (cc)
 pub none-kept : {X : Type 0} (p : X → Bool) (xs : List X) → list_any p xs ≡ false → filter p xs ≡ []
 none-kept p xs none = is_empty (filter p xs) (is_some_of-filter p xs ∙ none)
 
-all-with : {F : Type 0} (p : Row F → Bool) (rows : List (Row F)) (name : Option (List ℕ)) → list_all p rows ≡ true → list_all p (rows_with rows name) ≡ true
-all-with p rows None all = refl
-all-with p rows (Some name) all =
-    let named = has_number (name_number name) in
-    list_all-from_AllPass p (filter named rows) (All-filter named (λ row. p row ≡ true) rows (AllPass-from_list_all p rows all))
+-- no row is left where a test holds of all their texts and not of the operation
+none-of : {X : Type 0} (test : List ℕ → Bool) (op_of : X → List ℕ) (xs : List X) (operation : List ℕ) → list_all (λ x. holds test (op_of x)) xs ≡ true → test operation ≡ false →
+    list_any (λ x. is_operation (op_of x) operation) xs ≡ false
+none-of test op_of [] operation all other = refl
+none-of test op_of (x ∷ xs) operation all other =
+    let parts = and_parts (holds test (op_of x)) (list_all (λ y. holds test (op_of y)) xs) all in
+    ap₂ (λ (s t : Bool). s || t) (ap is_some (fits_none test (op_of x) operation no_ijk parts.0 other)) (none-of test op_of xs operation parts.1 other)
 
--- what holds of each row of a table holds of those of an operation
-pub all-named : {F : Type 0} (p : Row F → Bool) (rows : List (Row F)) (operation : List ℕ) → list_all p rows ≡ true → list_all p (rows_named rows operation) ≡ true
-all-named p rows operation all = all-with p rows (name_of operation) all
+-- another operation has no row
+pub no_rows : (operation : List ℕ) → is_shaped operation ≡ false → [] ≡ operand_rows_of operation
+no_rows operation other =
+    sym (ap (map padded_row) (none-kept (λ (row : table.Row). is_operation row.operation operation) table.central_rows (none-of is_shaped (λ (row : table.Row). row.operation) table.central_rows operation refl other)))
+
+-- a text of two or three characters
+pub pair-of : (text : List ℕ) → length text ≡ 2 → get_or text 0 0 ∷ get_or text 1 0 ∷ [] ≡ text
+pair-of (a ∷ b ∷ []) two = refl
+pair-of text two = absurd (omega arith)
+
+pub triple-of : (text : List ℕ) → length text ≡ 3 → get_or text 0 0 ∷ get_or text 1 0 ∷ get_or text 2 0 ∷ [] ≡ text
+triple-of (a ∷ b ∷ c ∷ []) three = refl
+triple-of text three = absurd (omega arith)

@@ -1,4 +1,3 @@
-pub mod OperationLaws
 pub mod CentralLaws
 pub mod DigitLaws
 pub mod PatternTextLaws

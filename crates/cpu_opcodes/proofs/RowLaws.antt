@@ -1,9 +1,8 @@
 -- The rows of an operation give what the definitions' rows give.
-use Rattle.std.{proofs.Common.{◌≡◌, ℕ, Bool, true, false, cond, ◌&&◌, List, [], ◌∷◌, ◌++◌, Option, Some, None, map, filter, eqb, refl, sym, ap, ◌∙◌}, specs.Prelude.{option_map, option_and_then}, specs.List.{list_all, slice_split}, proofs.lemmas.Bool.{and_parts, eqb-true, true≢false}, proofs.lemmas.Simd.map-map}
+use Rattle.std.{proofs.Common.{◌≡◌, ℕ, Bool, true, false, cond, ◌&&◌, List, [], ◌∷◌, ◌++◌, Option, Some, None, map, filter, eqb, refl, sym, ap, ◌∙◌}, specs.Prelude.{is_some, option_map, option_and_then}, specs.List.{list_all, slice_split}, proofs.lemmas.Bool.{and_parts, eqb-true, true≢false}, proofs.lemmas.Simd.map-map}
 use Rattle.definitions.specs.{Pieces.Piece, CentralTable.SumRow, Matching.{RegisterDigits, no_ijk, matched, is_operation, NoField, Instruction, instruction_of, Sum, subfields_matched, with_field, sum_code, sum_instruction, row_fit, sum_fit, rows_for, sum_rows_for, first_fit}, declared.number_base.NumberBase.NumberBase}
 use Rattle.definitions.specs.CentralTable as table
-use Rattle.operations.specs.declared.row.Row.{Row}
-use Rattle.cpu_opcodes.{specs.declared.code.OperandForm.OperandForm, specs.declared.code.SumForm.SumForm, specs.Joins.CentralTables.{operand_row, sum_row, padded_row, padded_sum_row, operand_rows_of, sum_rows_of}, specs.Joins.Fits.{named_digits, row_fit_with, sum_fit_with}, specs.Joins.PatternTexts.holds, proofs.OperationLaws.no_operation}
+use Rattle.cpu_opcodes.{specs.declared.code.Row.Row, specs.declared.code.OperandForm.OperandForm, specs.declared.code.SumForm.SumForm, specs.Joins.CentralTables.{operand_row, sum_row, padded_row, padded_sum_row, operand_rows_of, sum_rows_of}, specs.Joins.Fits.{named_digits, row_fit_with, sum_fit_with}, specs.Joins.PatternTexts.holds, proofs.PatternTextLaws.fits_none}
 
 -- whether digits are these, if there are any
 abbrev has_digits : RegisterDigits → Option RegisterDigits → Bool
@@ -28,7 +27,7 @@ matched-named : (pattern operation : List ℕ) → holds (is_named pattern) patt
 matched-named pattern operation shaped same =
     elim (is_named pattern operation) as (λ b. is_named pattern operation ≡ b → matched pattern operation no_ijk ≡ Some (named_digits operation)) [
       | true ↦ digits-same (named_digits operation) (matched pattern operation no_ijk)
-      | false ↦ λ other. absurd (true≢false (sym same ∙ no_operation (is_named pattern) pattern operation shaped other))
+      | false ↦ λ other. absurd (true≢false (sym same ∙ ap is_some (fits_none (is_named pattern) pattern operation no_ijk shaped other)))
     ] refl
 
 kept_agree : {X Z : Type 0} (b : Bool) (f g : X → Z) (x : X) (rest : List X) → (b ≡ true → f x ≡ g x) → map f rest ≡ map g rest → map f (cond b (x ∷ rest) rest) ≡ map g (cond b (x ∷ rest) rest)

@@ -2,8 +2,7 @@
 use Rattle.std.{proofs.Common.{◌≡◌, ℕ, ◌-◌, ◌<◌, ◌≤◌, Bool, true, false, cond, ◌&&◌, List, [], ◌∷◌, Option, Some, None, length, map, eqb, refl, sym, ap, ◌∙◌, arith}, specs.Prelude.nat_le}
 use Rattle.definitions.specs.{Expressions.{Sign, Term, Expression, is_plain}, CentralTable.SumRow, Matching.{RegisterDigits, is_ijk, is_octal_digit, with_ijk, matched, OfK, Sum, instruction_of, sum_field, sum_code, sum_instruction, sum_fit, single, sum_rows_for, sum_read, Instruction, first_fit}, Pieces.Piece, declared.number_base.NumberBase.NumberBase}
 use Rattle.definitions.specs.CentralTable as table
-use Rattle.operations.specs.declared.row.Row.{Row}
-use Rattle.cpu_opcodes.{specs.declared.code.SumForm.SumForm, specs.Joins.CentralTables.{sum_row, sum_rows_of, is_some_of}, specs.Joins.Fits.{named_digits, form_fit}, proofs.RowLaws.sum-fits, specs.declared.patterns.SumPattern.SumPattern, specs.Joins.CodeTexts.registers_text}
+use Rattle.cpu_opcodes.{specs.declared.code.Row.Row, specs.declared.code.SumForm.SumForm, specs.Joins.CentralTables.{sum_row, sum_rows_of, is_some_of}, specs.Joins.Fits.{named_digits, form_fit}, proofs.RowLaws.sum-fits, specs.declared.patterns.SumPattern.SumPattern, specs.Joins.CodeTexts.registers_text}
 use Rattle.expr_forms.specs.{Joins.Operands.IsOperand, declared.operands.Operand.Operand}
 use Rattle.expr_forms.specs.declared.operands.Operand.TheVariants as operand
 use Rattle.cpu_opcodes.specs.declared.patterns.SumPattern.TheVariants as registers

@@ -1,5 +1,4 @@
 -- What inner functions promise, so that the proofs of the outer ones join: no promise of the documents leads here.
-pub mod OperationNames
 pub mod CodeTexts
 pub mod CentralTables
 pub mod RegistersFound
@@ -8,4 +7,3 @@ pub mod Fits
 pub mod Parts
 pub mod Found
 pub mod LawfulCodes
-pub mod FirstLetters

@@ -1,13 +1,12 @@
 //! An operand against the rows of an operation whose operand is read subfield by subfield.
-ghost use Rattle.std.specs.Prelude.{◌≡◌, ◌≤◌, List, IsTrue, map, is_some, IfSome};
+ghost use Rattle.std.specs.Prelude.{◌≡◌, List, IsTrue, map};
 ghost use Rattle.std.specs.List.{list_all};
 ghost use Rattle.definitions.specs.Pieces.{Piece};
 ghost use Rattle.definitions.specs.CentralTable as table;
 ghost use Rattle.definitions.specs.Matching.{first_fit, row_fit, rows_for};
 ghost use Rattle.definitions.specs.declared.number_base.NumberBase.{NumberBase};
-ghost use Rattle.operations.specs.declared.row.Row.{Row};
+ghost use Rattle.cpu_opcodes.specs.declared.code.Row.{Row};
 ghost use Rattle.expr_forms.specs.Joins.Operands.{IsOperand};
-ghost use Rattle.expr_forms.specs.Joins.Shapes.{instruction_as};
 ghost use Rattle.cpu_opcodes.specs.declared.code.OperandForm.{OperandForm};
 ghost use Rattle.cpu_opcodes.specs.Joins.RegistersFound.{digits_as};
 ghost use Rattle.cpu_opcodes.specs.Joins.CentralTables.{operand_row, operand_rows_of};
@@ -15,13 +14,12 @@ ghost use Rattle.cpu_opcodes.specs.Joins.LawfulCodes.{has_lawful_code};
 ghost use Rattle.cpu_opcodes.specs.Joins.Found.{fitted_as};
 ghost use Rattle.cpu_opcodes.specs.Joins.Fits.{row_fit_with};
 
-use crate::code::OperandForm;
+use crate::code::{OperandForm, Row};
 use crate::found::Fitted;
 use crate::operand_fits::operand_fit;
 use crate::registers_found::RegistersFound;
 use crate::text_match::named_registers;
 use expr_forms::Operand;
-use operations::Row;
 
 /// What an operand gives with the code of a row, if the operand fits it.
 fn row_fit<'e, 'a>(

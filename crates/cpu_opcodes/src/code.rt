@@ -24,3 +24,10 @@ pub struct SumForm {
     pub with_k: Option<Code>,
     pub alone: Option<Code>,
 }
+
+/// The name of an operation as three characters, and what a table says of it.
+#[derive(Clone, Copy)]
+pub struct Row<F> {
+    pub name: [u8; 3],
+    pub form: F,
+}

@@ -79,15 +79,9 @@ fn letter_of(operation: &[u8]) -> Letter
 /// The instruction of an operation and its operand (COMPASS 60492600, CPU instructions): O where no
 /// row has the operation, V where its rows do not take the operand. PS and NO take every operand.
 ///
-/// An operation is looked up once, by at most fifteen comparisons of names, whether a table has it or
-/// not. Two letters that begin with N or P are compared with NO or PS. Then the first letter shows the
-/// table, and both letters a place in it, where at most four comparisons show the rows. An operation
-/// that does not stand there is looked for by halving: sums have 44 rows and at most 14 of an
-/// operation, which is six comparisons and four more; the other has 72 rows and at most 8 of an
-/// operation, seven comparisons and four more. So NO and PS take one, each other operation of a table
-/// five at most, and what is no two letters, with an octal digit or none behind them, takes none.
-/// Then the operand is compared with the rows of the operation alone, in the order of the
-/// definitions. Where none fits, the operation is looked up once more, to tell V from O.
+/// The characters of an operation show its rows, or that no table has it. Then the operand is compared
+/// with these rows alone, in the order of the definitions. Where none fits, the operation is looked up
+/// once more, to tell V from O.
 pub fn find<'a>(operation: &[u8], operand: &Operand<'a>) -> Result<Shape<'a>, Letter>
     ensures found { IfOk result (λ shape. (base : NumberBase) (subfields : List (List Piece)) → IsOperand base subfields operand.now →
         central_of base operation.now subfields ≡ instruction_as shape) }

@@ -4,9 +4,8 @@
 //! A table has a row for each form, to be compared with the manual row by row; a code is written
 //! with a character for each octal digit. `find` takes an operation with its operand, and answers
 //! its `Shape`, or O or V. `ignoring` is asked where the field is no operand: PS and NO have their
-//! instruction whatever stands there. An operation that begins with J or S has rows of sums alone,
-//! every other one none, so one table of two is searched. A row that is wrong is mended here and in the
-//! definitions. Nothing here takes memory.
+//! instruction whatever stands there. A row that is wrong is mended here and in the definitions.
+//! Nothing here takes memory.
 #![tactic(auto)]
 
 // Codes, patterns and the tables.
@@ -14,10 +13,8 @@ mod code;
 mod code_digits;
 mod digits;
 mod operand_table;
-mod operation_name;
 mod patterns;
 mod registers_found;
-mod row_places;
 mod sum_table;
 mod tables;
 
@@ -31,7 +28,7 @@ mod shapes;
 mod sum_fits;
 mod text_match;
 
-pub use code::{Code, OperandForm, SumForm};
+pub use code::{Code, OperandForm, Row, SumForm};
 pub use digits::Digits;
 pub use instruction_search::{find, ignoring};
 pub use patterns::{OperandPattern, SumPattern};

@@ -1,5 +1,5 @@
 //! Operands against the patterns of rows, subfield by subfield.
-ghost use Rattle.std.specs.Prelude.{◌≡◌, ◌==◌, List, [], Some, IsTrue, option_map, option_and_then};
+ghost use Rattle.std.specs.Prelude.{◌≡◌, ◌==◌, List, Some, IsTrue, option_map, option_and_then};
 ghost use Rattle.std.specs.List.{slice_split};
 ghost use Rattle.definitions.specs.Pieces.{Piece};
 ghost use Rattle.definitions.specs.Matching.{NoField, subfield_matched, subfields_matched};
@@ -7,7 +7,7 @@ ghost use Rattle.definitions.specs.declared.number_base.NumberBase.{NumberBase};
 ghost use Rattle.expr_forms.specs.Joins.Operands.{IsSubfield, IsOperand};
 ghost use Rattle.cpu_opcodes.specs.Joins.RegistersFound.{digits_as};
 ghost use Rattle.cpu_opcodes.specs.Joins.CodeTexts.{operand_text};
-ghost use Rattle.cpu_opcodes.specs.Joins.Parts.{part_text, is_part, parts_as};
+ghost use Rattle.cpu_opcodes.specs.Joins.Parts.{part_text, is_part};
 ghost use Rattle.cpu_opcodes.specs.Joins.Found.{found_as};
 
 use crate::found::{CentralField, Found};

@@ -1,7 +1,6 @@
 //! The rows whose operand is read subfield by subfield, and those whose operand is ignored, by name.
-use crate::code::{Code, OperandForm};
+use crate::code::{Code, OperandForm, Row};
 use crate::patterns::OperandPattern;
-use operations::Row;
 
 /// Rows of a name, a pattern and a code.
 macro_rules! operand_rows {
@@ -89,9 +88,6 @@ pub(crate) const OPERAND_ROWS: [Row<OperandForm>; 72] = operand_rows![
     b"ZXi" XkBj Short b"25ijk",
     b"ZXi" Xk Short b"25i0k",
 ];
-
-/// No operation has more of these rows; BX has as many.
-pub(crate) const MOST_OPERAND_ROWS: usize = 8;
 
 /// The row of NO, whose operand is ignored.
 pub(crate) const NO_ROWS: [Row<Code>; 1] = [Row {

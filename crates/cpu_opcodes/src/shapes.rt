@@ -1,5 +1,5 @@
 //! The instruction of a code, with what was found in its operand.
-ghost use Rattle.std.specs.Prelude.{◌≡◌, ◌≤◌, Some, IsTrue, is_some, IfSome};
+ghost use Rattle.std.specs.Prelude.{◌≡◌, ◌≤◌, Some, IsTrue};
 ghost use Rattle.definitions.specs.Matching.{instruction_of};
 ghost use Rattle.expr_forms.specs.Joins.Shapes.{field_as, instruction_as};
 ghost use Rattle.cpu_opcodes.specs.Joins.CodeTexts.{code_text, code_text_or_none};

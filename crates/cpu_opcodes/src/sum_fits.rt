@@ -6,7 +6,7 @@ ghost use Rattle.definitions.specs.CentralTable as table;
 ghost use Rattle.definitions.specs.Matching as matching;
 ghost use Rattle.definitions.specs.Matching.{sum_read, single, sum_rows_for};
 ghost use Rattle.definitions.specs.declared.number_base.NumberBase.{NumberBase};
-ghost use Rattle.operations.specs.declared.row.Row.{Row};
+ghost use Rattle.cpu_opcodes.specs.declared.code.Row.{Row};
 ghost use Rattle.expr_forms.specs.Joins.Operands.{IsOperand};
 ghost use Rattle.expr_forms.specs.Joins.Shapes.{instruction_as};
 ghost use Rattle.expr_forms.specs.Joins.Sums.{IsSum, AreRegisters, field_of};
@@ -18,7 +18,7 @@ ghost use Rattle.cpu_opcodes.specs.Joins.LawfulCodes.{is_lawful_or_none, has_law
 ghost use Rattle.cpu_opcodes.specs.Joins.Found.{fitted_as};
 ghost use Rattle.cpu_opcodes.specs.Joins.Fits.{sum_fit_with, form_fit};
 
-use crate::code::SumForm;
+use crate::code::{Row, SumForm};
 use crate::found::{CentralField, Fitted, Found};
 use crate::patterns::SumPattern;
 use crate::registers_found::RegistersFound;
@@ -26,7 +26,6 @@ use crate::shapes::{fitted_with, shape_of};
 use crate::tables::has_rows;
 use crate::text_match::{matched, named_registers};
 use expr_forms::{Expr, Operand, Shape, Sum, SumRegisters};
-use operations::Row;
 
 /// The digits of the registers of a sum, if they fit a pattern.
 fn registers_fit(

@@ -1,7 +1,6 @@
 //! The rows whose operand is a sum, by name: JP, and all that sets an A, B or X register.
-use crate::code::{Code, SumForm};
+use crate::code::{Code, Row, SumForm};
 use crate::patterns::SumPattern;
-use operations::Row;
 
 /// A code, if there is one.
 macro_rules! some_code {
@@ -74,6 +73,3 @@ pub(crate) const SUM_ROWS: [Row<SumForm>; 44] = sum_rows![
     b"SXi" BjMinusBk () (Short b"77ijk"),
     b"SXi" MinusBkPlusBj () (Short b"77ijk"),
 ];
-
-/// No operation has more of these rows; SA, SB and SX have as many.
-pub(crate) const MOST_SUM_ROWS: usize = 14;

@@ -13,7 +13,7 @@ fn is_place(c: u8) -> bool
     c == b'i' || c == b'j' || c == b'k'
 }
 
-fn is_octal_digit(c: u8) -> bool
+pub(crate) fn is_octal_digit(c: u8) -> bool
     ensures { result ≡ is_octal_digit c }
 {
     b'0' <= c && c <= b'7'

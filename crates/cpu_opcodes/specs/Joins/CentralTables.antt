@@ -1,9 +1,8 @@
 -- The rows of the code's tables and of the definitions' (COMPASS 60492600, CPU instructions), both with names of three characters.
-use Rattle.std.specs.Prelude.{ℕ, Bool, true, false, List, [], ◌∷◌, map, filter}
+use Rattle.std.specs.Prelude.{ℕ, ◌==◌, Bool, true, false, ◌&&◌, List, [], ◌∷◌, map, filter}
 use Rattle.definitions.specs.CentralTable as table
-use Rattle.definitions.specs.{CentralTable.{SumRow, ignoring_rows, sum_rows, central_rows}, Matching.is_operation}
-use Rattle.operations.specs.declared.row.Row.{Row}
-use Rattle.cpu_opcodes.specs.{declared.code.Code.Code, declared.code.OperandForm.OperandForm, declared.code.SumForm.SumForm, Joins.OperationNames.padded, Joins.CodeTexts.{code_text, code_text_or_none, operand_text, registers_text}}
+use Rattle.definitions.specs.{CentralTable.{SumRow, ignoring_rows, sum_rows, central_rows}, Matching.{is_octal_digit, is_operation}}
+use Rattle.cpu_opcodes.specs.{declared.code.Row.Row, declared.code.Code.Code, declared.code.OperandForm.OperandForm, declared.code.SumForm.SumForm, Joins.CodeTexts.{code_text, code_text_or_none, operand_text, registers_text}}
 
 -- a row of the code as the definitions have one
 abbrev pub operand_row : Row OperandForm → table.Row
@@ -14,6 +13,11 @@ code_row row = record { operation = row.name; operand = []; code = code_text row
 
 abbrev pub sum_row : Row SumForm → SumRow
 sum_row row = record { operation = row.name; registers = registers_text row.form.registers; with_K = code_text_or_none row.form.with_k; alone = code_text_or_none row.form.alone }
+
+-- a name of two letters with a blank behind them
+abbrev pub padded : List ℕ → List ℕ
+padded (a ∷ b ∷ []) = a ∷ b ∷ 32 ∷ []
+padded name = name
 
 -- a row of the definitions with a name of three characters
 abbrev pub padded_row : table.Row → table.Row
@@ -31,6 +35,12 @@ operand_rows_of operation = map padded_row (filter (λ (row : table.Row). is_ope
 
 abbrev pub sum_rows_of : List ℕ → List SumRow
 sum_rows_of operation = map padded_sum_row (filter (λ (row : SumRow). is_operation row.operation operation) sum_rows)
+
+-- whether an operation is two letters, or has X and an octal digit behind its first
+abbrev pub is_shaped : List ℕ → Bool
+is_shaped (a ∷ b ∷ []) = true
+is_shaped (a ∷ b ∷ c ∷ []) = (88 == b) && is_octal_digit c
+is_shaped _ = false
 
 -- whether a list has an element
 abbrev pub is_some_of : {A : Type 0} → List A → Bool

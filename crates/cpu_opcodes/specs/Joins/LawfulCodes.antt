@@ -1,8 +1,7 @@
 -- Codes that are written in octal digits (ours).
 use Rattle.std.specs.{Prelude.{ℕ, List, Option, Some, None, Bool, true, ◌&&◌, nat_lt, nat_le, length}, List.list_all}
 use Rattle.definitions.specs.Matching.{RegisterDigits, code_digits}
-use Rattle.operations.specs.declared.row.Row.{Row}
-use Rattle.cpu_opcodes.specs.{declared.code.Code.Code, declared.code.OperandForm.OperandForm, declared.code.SumForm.SumForm, Joins.CodeTexts.code_text}
+use Rattle.cpu_opcodes.specs.{declared.code.Row.Row, declared.code.Code.Code, declared.code.OperandForm.OperandForm, declared.code.SumForm.SumForm, Joins.CodeTexts.code_text}
 
 -- the greatest registers
 abbrev pub sevens : RegisterDigits

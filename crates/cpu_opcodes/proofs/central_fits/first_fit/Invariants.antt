@@ -1,7 +1,6 @@
 use Rattle.std.{proofs.Common.{◌≡◌, List, map, length}, specs.Prelude.IsTrue, specs.List.list_all}
 use Rattle.definitions.specs.{Pieces.Piece, Matching.first_fit, declared.number_base.NumberBase.NumberBase}
-use Rattle.operations.specs.declared.row.Row.{Row}
-use Rattle.cpu_opcodes.specs.{declared.code.OperandForm.OperandForm, Joins.RegistersFound.digits_as, Joins.CentralTables.operand_row, Joins.LawfulCodes.has_lawful_code, Joins.Fits.row_fit_with}
+use Rattle.cpu_opcodes.specs.{declared.code.Row.Row, declared.code.OperandForm.OperandForm, Joins.RegistersFound.digits_as, Joins.CentralTables.operand_row, Joins.LawfulCodes.has_lawful_code, Joins.Fits.row_fit_with}
 use Rattle.expr_forms.specs.Joins.Operands.{IsOperand}
 use Rattle.cpu_opcodes.proofs.central_fits.first_fit.Given as goal
 

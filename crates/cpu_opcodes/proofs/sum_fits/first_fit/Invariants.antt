@@ -1,7 +1,6 @@
 use Rattle.std.{proofs.Common.{◌≡◌, Some, map, length}, specs.Prelude.IsTrue, specs.List.list_all}
 use Rattle.definitions.specs.Matching.{Sum, first_fit}
-use Rattle.operations.specs.declared.row.Row.{Row}
-use Rattle.cpu_opcodes.specs.{declared.code.SumForm.SumForm, Joins.RegistersFound.digits_as, Joins.CentralTables.sum_row, Joins.LawfulCodes.has_lawful_codes, Joins.Fits.sum_fit_with}
+use Rattle.cpu_opcodes.specs.{declared.code.Row.Row, declared.code.SumForm.SumForm, Joins.RegistersFound.digits_as, Joins.CentralTables.sum_row, Joins.LawfulCodes.has_lawful_codes, Joins.Fits.sum_fit_with}
 use Rattle.expr_forms.specs.Joins.Sums.{IsSum}
 use Rattle.cpu_opcodes.proofs.sum_fits.first_fit.Given as goal
 

@@ -1,12 +1,12 @@
-use Rattle.std.{proofs.Common.{map, ap, refl, sym, ◌∙◌}, specs.List.list_all}
-use Rattle.cpu_opcodes.{specs.Joins.CentralTables.operand_row, specs.Joins.LawfulCodes.has_lawful_code, specs.declared.operand_table.TheConstants.OPERAND_ROWS, proofs.CentralLaws.{operand_rows-named, all-named, no_other}}
+use Rattle.std.proofs.Common.{ap, sym, ◌∙◌, arith}
+use Rattle.cpu_opcodes.{specs.Joins.CentralTables.operand_rows_of, proofs.CentralLaws.{no_rows, pair-of, triple-of}}
 use Rattle.cpu_opcodes.proofs.tables.central_rows.Goals as goal
 
-pub returns-else-begins_sum-clause-rows : goal.returns-else-begins_sum-clause-rows
-returns-else-begins_sum-clause-rows c = ap (map operand_row) c.rows_named.ensures ∙ operand_rows-named c.args.operation.now (c.type_inv.operation 1)
+pub returns-then-not-is_shaped-clause-rows : goal.returns-then-not-is_shaped-clause-rows
+returns-then-not-is_shaped-clause-rows c = no_rows c.args.operation.now (sym c.is_shaped.ensures ∙ c.if-not-is_shaped.true)
 
-pub returns-else-begins_sum-clause-lawful : goal.returns-else-begins_sum-clause-lawful
-returns-else-begins_sum-clause-lawful c = ap (list_all has_lawful_code) c.rows_named.ensures ∙ all-named has_lawful_code OPERAND_ROWS c.args.operation.now refl
+pub returns-in-len2-clause-rows : goal.returns-in-len2-clause-rows
+returns-in-len2-clause-rows c = c.pair_rows.ensures.rows ∙ ap operand_rows_of (pair-of c.args.operation.now (omega arith))
 
-pub returns-then-begins_sum-clause-rows : goal.returns-then-begins_sum-clause-rows
-returns-then-begins_sum-clause-rows c = no_other c.args.operation.now (sym c.begins_sum.ensures ∙ c.if-begins_sum.true)
+pub returns-in-len3-clause-rows : goal.returns-in-len3-clause-rows
+returns-in-len3-clause-rows c = c.set_rows.ensures.rows ∙ ap operand_rows_of (triple-of c.args.operation.now (omega arith))
