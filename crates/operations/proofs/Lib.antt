@@ -1,5 +1,3 @@
 pub mod KindLaws
 pub mod LetterLaws
-pub mod SortedLaws
-pub mod TableLaws
 pub mod SettingLaws

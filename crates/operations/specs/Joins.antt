@@ -2,4 +2,3 @@
 pub mod OperationsAs
 pub mod KindsFound
 pub mod LetterBits
-pub mod SortedNames

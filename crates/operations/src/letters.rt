@@ -1,7 +1,7 @@
 //! The letters that flag a statement, once each in alphabetical order (ours).
 ghost use Rattle.std.specs.Prelude.{◌≡◌, ◌∷◌, ◌++◌, ◌%◌, ◌^◌, ◌==◌, ◌≤◌, ◌+◌, [], List, length, if◌then◌else◌};
 ghost use Rattle.definitions.specs.Letters.{letter_text, in_order};
-ghost use Rattle.operations.specs.Joins.LetterBits.{is_flagged, among};
+ghost use Rattle.operations.specs.Joins.LetterBits.{is_flagged};
 
 use definitions::{InlineText, Letter};
 use std::marker::Model;

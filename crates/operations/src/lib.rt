@@ -1,19 +1,13 @@
-//! Operations by their names: those that are no instructions, the classes of all, and the rows of a
-//! name in a table of instructions (`cpu_opcodes` and `ppu_opcodes` have these); and what the fields
-//! of a statement say before any value is known, the kind of its deck, the number base, END, and the
-//! letters that flag it.
+//! Operations by their names: those that are no instructions, and the classes of all; and what the
+//! fields of a statement say before any value is known, the kind of its deck, the number base, END, and
+//! the letters that flag it.
 //!
 //! `KindSearch` is handed one operation after the other, and may be asked at any time; nothing
-//! changes what it found. `Letters` is a set, whose text is all that contracts see. `rows_of`
-//! halves a sorted table for both ends of a name's rows; `rows_near` looks at a place before that.
-//! Nothing here takes memory.
+//! changes what it found. `Letters` is a set, whose text is all that contracts see. Nothing here takes
+//! memory.
 #![tactic(auto)]
 
-// The rows of a name.
-mod row;
-mod row_search;
-
-// The other operations, and their classes.
+// Operations, and their classes.
 mod operation;
 mod pseudo_table;
 mod settings;
@@ -26,6 +20,4 @@ pub use kind_search::KindSearch;
 pub use letters::Letters;
 pub use operation::Operation;
 pub use pseudo_table::pseudo_instruction;
-pub use row::Row;
-pub use row_search::{RowPlace, rows_near, rows_of};
 pub use settings::{is_end, number_base_set};
