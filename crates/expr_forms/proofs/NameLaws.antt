@@ -1,18 +1,11 @@
 -- Names as they lie in memory, and the test of two texts.
-use Rattle.std.{proofs.Common.{◌≡◌, ◌≢◌, ℕ, ◌-◌, List, [], ◌∷◌, ◌++◌, ◌==◌, nat_eq, length, take, replicate, refl, sym, ap, ap₂, ◌∙◌, Decides}, specs.Cmp.Lexicographic.{pointwise, bytes_decides}, proofs.lemmas.Bool.Decides.{Decides-eqb, Decides-and, same_from_decides}}
-use Rattle.definitions.specs.Characters.{same_text}
+use Rattle.std.{proofs.Common.{◌≡◌, ◌≢◌, ℕ, ◌-◌, List, ◌++◌, nat_eq, length, take, replicate, sym, ap, ap₂, ◌∙◌, subst, true, Decides}, specs.Cmp.Lexicographic.{pointwise, bytes_decides}, proofs.lemmas.Bool.Decides.{Decides-eqb, same_from_decides}}
+use Rattle.definitions.{specs.Characters.same_text, proofs.TextLaws.{same_text-true, same_text-refl}}
 use Rattle.expr_forms.specs.Joins.NamesInline.{IsName, characters_back, len_back}
 
 -- what the test of two texts shows
 pub same_text-Decides : (a b : List ℕ) → Decides (same_text a b) (a ≡ b)
-same_text-Decides [] [] = (λ e. refl, λ e. refl)
-same_text-Decides [] (d ∷ b) = (λ e. cc, λ e. cc)
-same_text-Decides (c ∷ a) [] = (λ e. cc, λ e. cc)
-same_text-Decides (c ∷ a) (d ∷ b) =
-    let both = Decides-and (c == d) (same_text a b) (Decides-eqb c d) (same_text-Decides a b) in (
-      λ e. ap₂ (λ (x : ℕ) (xs : List ℕ). x ∷ xs) (both.0 e).0 (both.0 e).1,
-      λ e. both.1 (cc, cc),
-    )
+same_text-Decides a b = (same_text-true a b, λ e. subst (λ t. same_text a t ≡ true) e (same_text-refl a))
 
 -- names of one length are the same where all their characters are, and names of different lengths are not
 module _ (len other : ℕ) (characters others : List ℕ) (is : IsName len characters) (are : IsName other others) where

@@ -1,7 +1,7 @@
 -- An expression by its sign, its first element and what is behind it.
 use Rattle.std.{proofs.Common.{◌≡◌, ◌≢◌, ℕ, ◌+◌, ◌*◌, ◌≤◌, inl, inr, List, [], ◌∷◌, length, Bool, true, false, ◌==◌, if◌then◌else◌, Option, Some, None, refl, sym, ◌∙◌, ap, subst, arith, length-append, zero, suc, ne_eqb}, specs.Prelude.{is_some, unwrap_or}}
 use Rattle.definitions.{specs.CountedItems.{CountedSpan, counted_item_at}, specs.Pieces.{Mark, Comma, Plus, Minus, Star, Slash, Equals, Spot, Inside, Begun, ByMark, ByCountedItem, ByOther, Piece, IsMark, IsCountedItem, Plain, mark_of, begun_by, begun_by_counted_item, begun_at, spot_behind, left_of, onto_plain, onto_pieces, pieces_at, pieces_of}, specs.Expressions.{Sign, NoSign, OfNumber, OfCountedItem, Element, ANumber, ACountedItem, ASymbol, ARegister, LocationCounter, OriginCounter, ALiteral, Add, OperatorElement, onto_pairs, grouped, with_sign, expression_of}, specs.Laws.Grammar.{IsElement, operator_of}, specs.declared.number_base.NumberBase.NumberBase, proofs.GrammarLaws.{link_of, AreLinks, pairs_of-read, pairs_from}}
-use Rattle.expr_forms.specs.{Joins.Links.{pairs_behind, links_behind}}
+use Rattle.expr_forms.{specs.Joins.Links.{pairs_behind, links_behind}, proofs.PieceLaws.pieces_begun}
 
 -- pieces that are read without a sign
 abbrev Unsigned : NumberBase → List Piece → Type 0
@@ -12,10 +12,6 @@ unsigned-run base c [] = refl
 unsigned-run base c (Plain text ∷ pieces) = refl
 unsigned-run base c (IsMark mark ∷ pieces) = refl
 unsigned-run base c (IsCountedItem item ∷ pieces) = refl
-
--- the pieces that begin with what began
-abbrev pieces_begun : Begun → List ℕ → List Piece
-pieces_begun begun cs = onto_pieces begun (pieces_at (spot_behind begun) (left_of begun) cs)
 
 -- the mark that the tests of a character show
 abbrev pub mark_by : Bool → Bool → Bool → Bool → Bool → Option Mark

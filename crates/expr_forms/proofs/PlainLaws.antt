@@ -1,6 +1,6 @@
 -- What is known of an expression without registers and literals.
-use Rattle.std.{proofs.Common.{◌≡◌, ℕ, Some, None, Option, List, [], ◌∷◌, ◌++◌, Bool, true, false, ◌&&◌, refl, sym, ◌∙◌, ap, append_assoc}, specs.Prelude.{map, flat_map, filter_map, option_map, unwrap_or, is_some}, specs.List.{cons_option, list_all}, proofs.lemmas.List.append-nil, proofs.lemmas.List.Folds.list_all-append}
-use Rattle.definitions.{proofs.TestLaws.{and_left, and_right}, proofs.TermLaws.JoinsTerms, specs.Expressions.{Sign, NoSign, PlusSign, MinusSign, Literal, OfNumber, OfCountedItem, Element, ANumber, ACountedItem, ASymbol, ARegister, LocationCounter, OriginCounter, ALiteral, Operator, Times, Divide, Add, Subtract, OperatorElement, Term, Grouped, onto_grouped, grouped, is_allowed}, specs.Laws.Grammar.operator_of, specs.Literals.literal_in, specs.Matching.{Sum, onto_sum, sum_of}, specs.declared.number_base.NumberBase.NumberBase}
+use Rattle.std.{proofs.Common.{◌≡◌, ℕ, Some, None, Option, List, [], ◌∷◌, ◌++◌, Bool, true, false, ◌&&◌, refl, sym, ◌∙◌, ap, append_assoc}, specs.Prelude.{map, filter_map, option_map, unwrap_or, is_some}, specs.List.{cons_option, list_all}, proofs.lemmas.List.append-nil, proofs.lemmas.List.Folds.list_all-append}
+use Rattle.definitions.{proofs.TestLaws.{and_left, and_right}, proofs.TermLaws.JoinsTerms, proofs.NamesLaws.terms_elements, specs.Expressions.{Sign, Literal, OfNumber, OfCountedItem, Element, ANumber, ACountedItem, ASymbol, ARegister, LocationCounter, OriginCounter, ALiteral, Operator, Times, Divide, Add, Subtract, OperatorElement, Term, Grouped, onto_grouped, grouped, is_allowed}, specs.Literals.literal_in, specs.Matching.{Sum, onto_sum, sum_of}, specs.declared.number_base.NumberBase.NumberBase}
 use Rattle.expr_forms.{specs.Joins.Links.links_behind, specs.Joins.LoneRegisters.has_terms, specs.Joins.Parsed.{are_plain, expression_behind, IsPlainSum}, specs.declared.links.LoneRegisters.TheVariants.Kept, proofs.ElementListLaws.elements_in-links, proofs.LoneLaws.left-links}
 
 -- what is allowed without literals is allowed with them
@@ -38,10 +38,6 @@ no-literals (e ∷ es) plain =
     (literal-none e (and_left (is_allowed false e) (list_all (is_allowed false) es) plain))
     ∙ no-literals es (and_right (is_allowed false e) (list_all (is_allowed false) es) plain)
 
--- the elements of terms
-abbrev in_terms : List Term → List Element
-in_terms terms = flat_map (λ (term : Term). term.element ∷ map (λ (pair : OperatorElement). pair.element) term.factors) terms
-
 -- a term that begins with no register joins the others
 onto-other : (term : Term) (element : Element) (factors : List OperatorElement) (sum : Sum) → is_allowed false element ≡ true →
     onto_sum term element factors sum ≡ record { sign = sum.sign; registers = sum.registers; others = sum.others ++ term ∷ [] }
@@ -54,15 +50,15 @@ onto-other term OriginCounter factors sum allowed = refl
 onto-other term (ALiteral l) factors sum allowed = refl
 
 -- the sum of terms without registers is those terms
-pub plain-sum : (terms : List Term) (sum : Sum) → list_all (is_allowed false) (in_terms terms) ≡ true →
+pub plain-sum : (terms : List Term) (sum : Sum) → list_all (is_allowed false) (terms_elements terms) ≡ true →
     sum_of terms sum ≡ record { sign = sum.sign; registers = sum.registers; others = sum.others ++ terms }
 plain-sum [] sum plain = ap (λ (l : List Term). record { sign = sum.sign; registers = sum.registers; others = l }) (sym (append-nil sum.others))
 plain-sum (term ∷ terms) sum plain =
     let own : List Element = term.element ∷ map (λ (pair : OperatorElement). pair.element) term.factors in
-    let both : (list_all (is_allowed false) own && list_all (is_allowed false) (in_terms terms)) ≡ true = sym (list_all-append (is_allowed false) own (in_terms terms)) ∙ plain in
-    let first : is_allowed false term.element ≡ true = and_left (is_allowed false term.element) (list_all (is_allowed false) (map (λ (pair : OperatorElement). pair.element) term.factors)) (and_left (list_all (is_allowed false) own) (list_all (is_allowed false) (in_terms terms)) both) in
+    let both : (list_all (is_allowed false) own && list_all (is_allowed false) (terms_elements terms)) ≡ true = sym (list_all-append (is_allowed false) own (terms_elements terms)) ∙ plain in
+    let first : is_allowed false term.element ≡ true = and_left (is_allowed false term.element) (list_all (is_allowed false) (map (λ (pair : OperatorElement). pair.element) term.factors)) (and_left (list_all (is_allowed false) own) (list_all (is_allowed false) (terms_elements terms)) both) in
     ap (λ (s : Sum). sum_of terms s) (onto-other term term.element term.factors sum first)
-    ∙ plain-sum terms (record { sign = sum.sign; registers = sum.registers; others = sum.others ++ term ∷ [] }) (and_right (list_all (is_allowed false) own) (list_all (is_allowed false) (in_terms terms)) both)
+    ∙ plain-sum terms (record { sign = sum.sign; registers = sum.registers; others = sum.others ++ term ∷ [] }) (and_right (list_all (is_allowed false) own) (list_all (is_allowed false) (terms_elements terms)) both)
     ∙ ap (λ (l : List Term). record { sign = sum.sign; registers = sum.registers; others = l }) (append_assoc sum.others (term ∷ []) terms)
 
 -- a first link that begins a term makes one
@@ -83,12 +79,6 @@ told-some (Some pairs) plain told = refl
 pub told-plain : (x : Option (List OperatorElement)) (plain : Bool) → Some plain ≡ option_map are_plain x → plain ≡ are_plain (unwrap_or x [])
 told-plain None plain told = cc
 told-plain (Some pairs) plain told = cc
-
--- the operator in front of a first element begins a term
-pub joins-sign : (sign : Sign) → JoinsTerms (operator_of sign)
-joins-sign NoSign = tt
-joins-sign PlusSign = tt
-joins-sign MinusSign = tt
 
 -- a first element and links behind it that are all allowed
 pub read-plain : (base : NumberBase) (sign : Sign) (first : OperatorElement) (rest : List ℕ) (plain allowed : Bool) → JoinsTerms first.operator →

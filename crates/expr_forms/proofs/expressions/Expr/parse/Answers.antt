@@ -1,6 +1,6 @@
 use Rattle.std.{proofs.Common.{◌≡◌, Some, ◌∙◌, sym, subst, arith}, specs.Prelude.option_map}
-use Rattle.definitions.{proofs.TermLaws.JoinsTerms}
-use Rattle.expr_forms.{specs.Joins.Elements.{sign_as}, specs.Joins.Links.{link_made, pairs_behind}, specs.Joins.Parsed.{are_plain}, proofs.PlainLaws.{joins-sign, read-plain, told-some, told-plain}}
+use Rattle.definitions.proofs.{ExpressionLaws.operator_of-joins, TermLaws.JoinsTerms}
+use Rattle.expr_forms.{specs.Joins.Elements.{sign_as}, specs.Joins.Links.{link_made, pairs_behind}, specs.Joins.Parsed.{are_plain}, proofs.PlainLaws.{read-plain, told-some, told-plain}}
 use Rattle.expr_forms.proofs.expressions.Expr.parse.Goals as goal
 
 pub invariant_of-result : goal.invariant_of-result
@@ -10,7 +10,7 @@ invariant_of-result c =
     let rest = c.in-Some.found.rest.now in
     let behind = pairs_behind c.args.base rest in
     let told : Some c.in-Some-are_plain.plain ≡ option_map are_plain behind = sym c.in-Some-are_plain.is ∙ c.are_plain.ensures in
-    let joins : JoinsTerms first.operator = subst JoinsTerms (sym c.first_operator.ensures) (joins-sign sign) in
+    let joins : JoinsTerms first.operator = subst JoinsTerms (sym c.first_operator.ensures) (operator_of-joins sign) in
     record {
       lawful =
           record {
