@@ -117,7 +117,7 @@ at_count-lawful : (digits : List ℕ) (c : ℕ) (letter : ItemLetter) (rest : Li
 at_count-lawful digits c letter rest some read lawful fits = rw some (behind-lawful (length digits) (number_of 10 digits) c letter rest read lawful fits)
 
 -- the item of a text is that of a longer one
-item-longer : (xs ys : List ℕ) (s : CountedSpan) → counted_item_at xs ≡ Some s → counted_item_at (xs ++ ys) ≡ Some s
+pub item-longer : (xs ys : List ℕ) (s : CountedSpan) → counted_item_at xs ≡ Some s → counted_item_at (xs ++ ys) ≡ Some s
 item-longer xs ys s h = by_behind (behind_count xs) refl
   where
     by_behind : (behind : List ℕ) → behind_count xs ≡ behind → counted_item_at (xs ++ ys) ≡ Some s
@@ -150,7 +150,7 @@ count-behind (x ∷ xs) letter rest h = step (is_digit x) refl (count-behind xs 
         subst (λ digits. suc (length xs) ≡ length digits + 1 + length rest) (sym (count-other x xs e)) (omega arith)
 
 -- an item that lies within a front of the text is the front's
-item-front : (xs ys : List ℕ) (s : CountedSpan) → counted_item_at (xs ++ ys) ≡ Some s → s.taken ≤ length xs → counted_item_at xs ≡ Some s
+pub item-front : (xs ys : List ℕ) (s : CountedSpan) → counted_item_at (xs ++ ys) ≡ Some s → s.taken ≤ length xs → counted_item_at xs ≡ Some s
 item-front xs ys s h within = by_behind (behind_count xs) refl
   where
     longer : (more : List ℕ) → behind_count (xs ++ ys) ≡ more → length (count_text (xs ++ ys)) < s.taken
