@@ -1,4 +1,4 @@
-use Rattle.std.proofs.{Common.{◌≤◌, List, All, arith, subst, sym}, lemmas.List.take_all, lemmas.List.Elements.All-get_or}
+use Rattle.std.proofs.{Common.{◌≤◌, arith, subst, sym}, lemmas.List.Elements.All-get_or}
 use Rattle.cards.specs.declared.edits.Edit.{Edit}
 use Rattle.edit_core.{specs.Edited.front_of, proofs.EditLaws.front-more}
 use Rattle.edit_core.proofs.fronts.cards_before_all.Goals as goal
@@ -18,7 +18,3 @@ loop-edit-preserved c =
           let here = subst (λ (e : Edit). count ≤ front_of e) (sym c.edit-item.is) (All-get_or (λ (e : Edit). count ≤ front_of e) edits c.loop-edit.edit-index edit c.loop-edit-test.true all) in
           omega (arith, least, front, before, here);
     }
-
-pub returns-clause-all : goal.returns-clause-all
-returns-clause-all c =
-    subst (λ (edits : List Edit). All (λ edit. c.loop-edit.before ≤ front_of edit) edits) (take_all c.loop-edit.edit-index c.args.edits.now (omega (arith, c.loop-edit-test.false))) c.loop-edit.invariant.all

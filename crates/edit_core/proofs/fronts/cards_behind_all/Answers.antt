@@ -1,12 +1,9 @@
 -- The last cards are the same behind each edit.
-use Rattle.std.proofs.{Common.{List, refl, sym, ap, subst, ◌∙◌, arith}, lemmas.List.drop_all}
+use Rattle.std.proofs.{Common.{List, sym, ap, subst, ◌∙◌, arith}, lemmas.List.drop_all}
 use Rattle.cards.specs.{declared.edits.Edit.Edit, Edits.edited_by}
 use Rattle.deck_assembler.specs.Joins.Agreements.{HaveSameEnd}
 use Rattle.edit_core.{specs.Edited.StandBehind, proofs.EndLaws.left-more}
 use Rattle.edit_core.proofs.fronts.cards_behind_all.Goals as goal
-
-pub loop-edit-init : goal.loop-edit-init
-loop-edit-init c = λ cards count few none. record { current = cards; count = sym count; few = few; none = none; made = refl; same = refl; most = λ n within stand. (omega (arith, within, count), subst (StandBehind n c.args.edits.now) count stand) }
 
 pub loop-edit-preserved : goal.loop-edit-preserved
 loop-edit-preserved c = λ cards count few none.

@@ -1,7 +1,7 @@
 -- What one edit makes and counts is what a list of it does.
-use Rattle.std.proofs.Common.{◌∙◌, List, None, Option, OnOk, ap, subst, sym}
+use Rattle.std.proofs.Common.{◌∙◌, List, Option, ap, subst}
 use Rattle.cards.specs.{declared.edits.Edit.Edit, Edits.{edited, edited_by}}
-use Rattle.edit_core.{specs.declared.faults.RecordFault.RecordFault, specs.Edited.{CountsAnew, CountsAtOnce, CountsWithinDue, EndsAs}, specs.Faults.against_all, proofs.EditLaws.against-one}
+use Rattle.edit_core.{specs.declared.faults.RecordFault.RecordFault, specs.Edited.{CountsWithinDue, EndsAs}, specs.Faults.against_all, proofs.EditLaws.against-one}
 use Rattle.edit_core.proofs.kept.Kept.edit.Goals as goal
 
 pub returns-clause-ends : goal.returns-clause-ends
@@ -11,13 +11,6 @@ returns-clause-ends c =
     (against-one c.args.edit.now old.is_spent old.cards)
     (subst (λ (edits : List Edit). EndsAs (against_all edits old.is_spent old.cards) (edited_by edits old.cards) old c.edit_all.new.self c.args.meter.now c.edit_all.new.meter c.edit_all.result)
     c.from_ref.ensures.value c.edit_all.ensures.ends)
-
-pub returns-clause-counts : goal.returns-clause-counts
-returns-clause-counts c = subst (λ (edits : List Edit). CountsAtOnce edits c.args.self.now.cards c.args.meter.now c.edit_all.new.meter) c.from_ref.ensures.value c.edit_all.ensures.counts
-
-pub returns-clause-anew : goal.returns-clause-anew
-returns-clause-anew c =
-    subst (λ (edits : List Edit). OnOk c.edit_all.result (CountsAnew edits c.args.self.now.cards c.args.meter.now c.edit_all.new.meter)) c.from_ref.ensures.value c.edit_all.ensures.anew
 
 pub returns-clause-due : goal.returns-clause-due
 returns-clause-due c =
