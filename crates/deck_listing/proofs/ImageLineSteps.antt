@@ -1,8 +1,8 @@
 -- The lines of words, one after the other.
-use Rattle.std.{proofs.Common.{◌≡◌, ℕ, zero, suc, ◌+◌, ◌-◌, ◌<◌, ◌≤◌, Bool, true, false, List, [], ◌∷◌, ◌++◌, not, flat_map, length, take, get_or, refl, sym, ap, ◌∙◌, append_assoc, append-nil, ap₂, Some, None, nat_le, arith, inl, inr, true≢false}, specs.Prelude.{filter, if◌then◌else◌}, proofs.lemmas.Bool.Decides.leb_tells, proofs.lemmas.List.take_more, proofs.lemmas.List.Elements.filter-append, proofs.lemmas.Grind.flat_map-append}
-use Rattle.definitions.specs.{Blocks.is_common, Image.word_line, Kinds.memory_end, Lengths.BlockRow, Layout.{AddressedWord, addressed, block_words, is_beyond}, Objects.Object, Words.{Linking, StoredWord}, declared.deck_kind.DeckKind.DeckKind}
+use Rattle.std.{proofs.Common.{◌≡◌, codes, ℕ, zero, suc, ◌+◌, ◌-◌, ◌^◌, ◌<◌, ◌≤◌, Bool, true, false, List, [], ◌∷◌, ◌++◌, not, flat_map, length, take, get_or, refl, sym, ap, ◌∙◌, append_assoc, append-nil, Some, None, nat_le, arith, inl, inr}, specs.Prelude.{filter, min, if◌then◌else◌}, proofs.lemmas.Bool.Decides.leb_tells, proofs.lemmas.List.take_more, proofs.lemmas.List.Elements.filter-append, proofs.lemmas.Grind.flat_map-append}
+use Rattle.definitions.specs.{Blocks.is_common, Image.word_line, Kinds.memory_end, Lengths.BlockRow, Layout.{AddressedWord, addressed, block_words, is_beyond}, Listing.line, Numerals.octal_of, Objects.Object, Words.{Linking, StoredWord}, declared.deck_kind.DeckKind.DeckKind, declared.deck_kind.DeckKind.TheVariants.{Rel, Abs, Periph}}
 use Rattle.parcel_packer.specs.{Joins.Filling.{as_stored, words_from}, declared.word_spans.WordSpan.WordSpan}
-use Rattle.deck_listing.specs.Joins.ImageWordLines.{block_lines, lines_of, row_words, rows_words, span_lines}
+use Rattle.deck_listing.specs.Joins.ImageWordLines.{block_lines, equal_lines, lines_of, octal_lines, row_words, rows_words, span_lines}
 
 lines-append : (kind : DeckKind) (xs ys : List AddressedWord) → lines_of kind (xs ++ ys) ≡ lines_of kind xs ++ lines_of kind ys
 lines-append kind xs ys =
@@ -37,23 +37,39 @@ pub is_beyond_end : (test : Bool) (n : ℕ) → (if test then None else Some n) 
 is_beyond_end true n e = refl
 is_beyond_end false n e = cc
 
--- one word of a span
-pub line_more : (kind : DeckKind) (base offset count value word address next left : ℕ) (before after all : List ℕ) → word ≡ offset → next ≡ offset + 1 → left ≡ count - 1 → 0 < count →
-    before ++ span_lines kind base offset count value ≡ all →
-    (if nat_le (memory_end kind) (base + word) then None else Some (base + word)) ≡ Some address →
-    after ≡ before ++ word_line kind (record { address = address; value = value }) → after ++ span_lines kind base next left value ≡ all
-line_more kind base offset zero value word address next left before after all w n l some h within a = absurd (omega arith)
-line_more kind base offset (suc count) value word address next left before after all w n l some h within a =
-    let inside = is_within (nat_le (memory_end kind) (base + word)) (base + word) address within in
-    let test : nat_le (memory_end kind) (base + offset) ≡ false = ap (λ m. nat_le (memory_end kind) (base + m)) (sym w) ∙ inside.0 in
-    let same : base + offset ≡ address = ap (λ m. base + m) (sym w) ∙ inside.1 in
-    let rest = span_lines kind base (offset + 1) count value in
-    let one_less : left ≡ count = omega arith in
-    ap₂ (λ m k. after ++ span_lines kind base m k value) n one_less
-    ∙ ap (λ t. t ++ rest) (a ∙ ap (λ m. before ++ word_line kind (record { address = m; value = value })) (sym same))
-    ∙ append_assoc before (word_line kind (record { address = base + offset; value = value })) rest
-    ∙ ap (λ t. before ++ t) (sym (first_line kind base offset count value test))
-    ∙ h
+-- one word more of so many of one value
+pub octal_more : (address_digits value_digits address count value i : ℕ) (end before all : List ℕ) → i < count → end ≡ codes " " ++ line (octal_of value_digits value) →
+    before ++ octal_lines address_digits value_digits (address + i) (count - i) value ≡ all →
+    (before ++ (octal_of address_digits (address + i) ++ end)) ++ octal_lines address_digits value_digits (address + (i + 1)) (count - (i + 1)) value ≡ all
+octal_more address_digits value_digits address count value i end before all h is lines =
+    let digits = octal_of address_digits (address + i) in
+    let value_text = codes " " ++ octal_of value_digits value in
+    let left = count - (i + 1) in
+    let next : address + (i + 1) ≡ address + i + 1 = omega arith in
+    let some : suc left ≡ count - i = omega arith in
+    let same : digits ++ end ≡ line (digits ++ value_text) = ap (λ e. digits ++ e) is ∙ sym (append_assoc digits value_text (line [])) in
+    ap (λ l. (before ++ l) ++ octal_lines address_digits value_digits (address + (i + 1)) left value) same
+    ∙ append_assoc before (line (digits ++ value_text)) (octal_lines address_digits value_digits (address + (i + 1)) left value)
+    ∙ ap (λ n. before ++ (line (digits ++ value_text) ++ octal_lines address_digits value_digits n left value)) next
+    ∙ ap (λ n. before ++ octal_lines address_digits value_digits (address + i) n value) some
+    ∙ lines
+
+equal_none : (kind : DeckKind) (address value : ℕ) → equal_lines kind address 0 value ≡ []
+equal_none Rel address value = refl
+equal_none Abs address value = refl
+equal_none Periph address value = refl
+
+equal_first : (kind : DeckKind) (address count value : ℕ) →
+    equal_lines kind address (suc count) value ≡ word_line kind (record { address = address; value = value }) ++ equal_lines kind (address + 1) count value
+equal_first Rel address count value = refl
+equal_first Abs address count value = refl
+equal_first Periph address count value = refl
+
+-- one word alone
+pub equal_one : (kind : DeckKind) (address value : ℕ) → equal_lines kind address 1 value ≡ word_line kind (record { address = address; value = value })
+equal_one kind address value =
+    let here = word_line kind (record { address = address; value = value }) in
+    equal_first kind address 0 value ∙ ap (λ l. here ++ l) (equal_none kind (address + 1) value) ∙ append-nil here
 
 -- words beyond the memory have no lines
 beyond_none : (kind : DeckKind) (base offset count value : ℕ) → memory_end kind ≤ base + offset → span_lines kind base offset count value ≡ []
@@ -63,13 +79,52 @@ beyond_none kind base offset (suc count) value h = elim (leb_tells (memory_end k
   | inr e ↦ let k = e.1 in absurd (omega arith)
 ]
 
--- the rest of a span lies beyond the memory
-pub line_none : (kind : DeckKind) (base offset count value word : ℕ) (before all : List ℕ) → word ≡ offset → before ++ span_lines kind base offset count value ≡ all →
-    (if nat_le (memory_end kind) (base + word) then None else Some (base + word)) ≡ None → before ≡ all
-line_none kind base offset count value word before all w h beyond = elim (leb_tells (memory_end kind) (base + offset)) [
-  | inl e ↦ sym (append-nil before) ∙ ap (λ t. before ++ t) (sym (beyond_none kind base offset count value e.1)) ∙ h
-  | inr e ↦ absurd (true≢false (sym (is_beyond_end (nat_le (memory_end kind) (base + word)) (base + word) beyond) ∙ ap (λ m. nat_le (memory_end kind) (base + m)) w ∙ e.0))
+-- those of a span that lie within the memory
+span_within : (kind : DeckKind) (base offset count value : ℕ) → span_lines kind base offset count value ≡ equal_lines kind (base + offset) (min (memory_end kind - (base + offset)) count) value
+span_within kind base offset zero value =
+    let none : 0 ≡ min (memory_end kind - (base + offset)) 0 = omega arith in
+    sym (equal_none kind (base + offset) value) ∙ ap (λ n. equal_lines kind (base + offset) n value) none
+span_within kind base offset (suc count) value = elim (leb_tells (memory_end kind) (base + offset)) [
+  | inl e ↦
+      let beyond = e.1 in
+      let none : 0 ≡ min (memory_end kind - (base + offset)) (suc count) = omega arith in
+      beyond_none kind base offset (suc count) value beyond ∙ sym (equal_none kind (base + offset) value) ∙ ap (λ n. equal_lines kind (base + offset) n value) none
+  | inr e ↦
+      let within = e.1 in
+      let here = word_line kind (record { address = base + offset; value = value }) in
+      let next : base + (offset + 1) ≡ base + offset + 1 = omega arith in
+      let left = min (memory_end kind - (base + (offset + 1))) count in
+      let more : suc left ≡ min (memory_end kind - (base + offset)) (suc count) = omega arith in
+      first_line kind base offset count value e.0
+      ∙ ap (λ l. here ++ l) (span_within kind base (offset + 1) count value)
+      ∙ ap (λ n. here ++ equal_lines kind n left value) next
+      ∙ sym (equal_first kind (base + offset) left value)
+      ∙ ap (λ n. equal_lines kind (base + offset) n value) more
 ]
+
+memory_small : (kind : DeckKind) → memory_end kind ≤ 0o400000
+memory_small Rel = omega arith
+memory_small Abs = omega arith
+memory_small Periph = omega arith
+
+-- the same from an address that is held below 2 ^ 64
+pub span_put : (kind : DeckKind) (base offset count value address : ℕ) (before text after : List ℕ) → address ≡ min (min base (2 ^ 64 - 1) + offset) (2 ^ 64 - 1) → text ≡ before →
+    after ≡ text ++ equal_lines kind address (min (memory_end kind - address) count) value → after ≡ before ++ span_lines kind base offset count value
+span_put kind base offset count value address before text after at kept put =
+    let small = memory_small kind in
+    put
+    ∙ ap (λ t. t ++ equal_lines kind address (min (memory_end kind - address) count) value) kept
+    ∙ ap (λ l. before ++ l)
+    (elim (leb_tells (2 ^ 64 - 1) (base + offset)) [
+      | inl e ↦
+          let past = e.1 in
+          let none : min (memory_end kind - address) count ≡ 0 = omega arith in
+          ap (λ n. equal_lines kind address n value) none ∙ equal_none kind address value ∙ sym (beyond_none kind base offset count value (omega arith))
+      | inr e ↦
+          let within = e.1 in
+          let same : address ≡ base + offset = omega arith in
+          ap (λ n. equal_lines kind n (min (memory_end kind - n) count) value) same ∙ sym (span_within kind base offset count value)
+    ])
 
 -- one span more
 pub span_more : (kind : DeckKind) (base block : ℕ) (words : List WordSpan) (i : ℕ) (d : WordSpan) (start before after : List ℕ) → i < length words →

@@ -14,7 +14,7 @@ ghost use Rattle.deck_objects.specs.Joins.PartsOf.{ArePartsOf};
 ghost use Rattle.deck_listing.specs.Joins.BlockWords.{AreBlockWords, AreWordsOf};
 ghost use Rattle.deck_listing.specs.Joins.ImageWordLines.{block_lines, lines_of, literal_lines, row_words, rows_words, span_lines};
 
-use crate::image_lines::{address_within, push_image_line};
+use crate::image_lines::{address_within, push_image_line, push_image_lines};
 use crate::sheet::Sheet;
 use deck_objects::ObjectParts;
 use definitions::DeckKind;
@@ -26,17 +26,19 @@ use use_blocks::{BlockRow, is_common};
 const LINE_ROOM: usize = 28;
 
 /// Appends the lines of the words of a span of a block, as far as they lie within the memory of the
-/// deck; nothing is done for those beyond it.
+/// deck, with room for them at once where they are several.
 fn push_span(text: &mut Sheet, kind: DeckKind, base: u64, block: u64, span: &WordSpan)
     ensures { text.new ≡ text.old ++ span_lines kind (base + block) span.now.offset span.now.count span.now.value }
 {
-    for index in 0..span.count {
-        let offset = u64::from(span.offset) + u64::from(index);
-        match address_within(kind, base, block, offset) {
-            Some(address) => push_image_line(text, kind, address, span.value),
-            None => return,
-        }
+    let address = base
+        .saturating_add(block)
+        .saturating_add(u64::from(span.offset));
+    let left = u64::from(kind.memory_end()).saturating_sub(address);
+    let count = left.min(u64::from(span.count));
+    if count > 1 {
+        text.make_room((count as usize).saturating_mul(LINE_ROOM));
     }
+    push_image_lines(text, kind, address, count, span.value);
 }
 
 /// Appends the lines of the words of a block, for which there is room at once where each span is a word.

@@ -1,6 +1,6 @@
 //! Short texts on the stack that grow at their front, as a number does whose digits are written from the
 //! last one on.
-ghost use Rattle.std.specs.Prelude.{◌≡◌, ◌+◌, ◌/◌, ◌%◌, ◌<◌, ◌≤◌, ◌++◌, ◌∷◌, [], length};
+ghost use Rattle.std.specs.Prelude.{◌≡◌, ◌+◌, ◌/◌, ◌%◌, ◌<◌, ◌≤◌, ◌++◌, ◌∷◌, [], length, drop};
 ghost use Rattle.definitions.specs.Numerals.{digits_of, octal_of};
 
 use std::marker::Model;
@@ -68,6 +68,15 @@ impl<const MOST: usize> PrependedText<MOST> {
     {
         self.begin -= 1;
         self.bytes[self.begin] = byte;
+    }
+
+    /// Takes so many bytes away from the front.
+    #[inline(always)]
+    pub fn drop_front(&mut self, bytes: u32)
+        requires { bytes ≤ length self.old }
+        ensures { self.new ≡ drop bytes self.old }
+    {
+        self.begin += bytes as usize;
     }
 
     /// Puts the last `digits` octal digits of a value in front, leading zeros among them.
