@@ -45,6 +45,13 @@ impl OpenWord {
         requires short { width ≤ 60 }
         ensures { result ≡ with_bits self width bits }
     {
+        if self.width == 0 {
+            return OpenWord {
+                word: self.word,
+                width,
+                bits: u128::from(bits),
+            };
+        }
         OpenWord {
             word: self.word,
             width: self.width + width,
@@ -73,6 +80,14 @@ fn push_full_word(text: &mut Sheet, kind: DeckKind, next: OpenWord) -> OpenWord
     ensures next { result ≡ behind_full kind next }
 {
     let left = next.width - kind.word_bits();
+    if left == 0 {
+        push_word_line(text, kind, next.word, next.bits as u64);
+        return OpenWord {
+            word: next.word + 1,
+            width: 0,
+            bits: 0,
+        };
+    }
     push_word_line(text, kind, next.word, (next.bits >> left) as u64);
     OpenWord {
         word: next.word + 1,
