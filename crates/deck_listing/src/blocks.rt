@@ -16,18 +16,18 @@ use parcel_packer::{WordSpan, Words};
 use std::alloc::{AllocError, Global};
 use use_blocks::BlockRow;
 
-/// For how many parcels of a block there is to be memory at first: all it has, or four for each line.
-fn parcel_room(kind: DeckKind, row: &BlockRow, lines: usize) -> usize {
+/// For how many spans of a block there is to be memory at first: one for each parcel it has, or for each field.
+fn span_room(kind: DeckKind, row: &BlockRow, fields: usize) -> usize {
     let parcels = (row.words() as usize).saturating_mul(kind.units() as usize);
-    parcels.min(lines.saturating_mul(4))
+    parcels.min(fields)
 }
 
-/// A block in which nothing lies, with memory for so many parcels.
-fn empty_block(alloc: Global, kind: DeckKind, parcels: usize) -> Words
+/// A block in which nothing lies, with memory for so many spans.
+fn empty_block(alloc: Global, kind: DeckKind, spans: usize) -> Words
     ensures { result ≡ record { kind = kind; run = empty_run; earlier = [] } }
 {
     let mut words = Words::new(alloc, kind);
-    words.make_room(parcels);
+    words.make_room(spans);
     words
 }
 
@@ -36,13 +36,13 @@ fn empty_blocks(
     alloc: Global,
     kind: DeckKind,
     rows: &[BlockRow],
-    lines: usize,
+    fields: usize,
 ) -> Result<Vec<Words>, AllocError>
     ensures { IfOk result (λ blocks. AreEmpty kind (length rows.now) blocks.items) }
 {
     let mut blocks = Vec::with_capacity(alloc, rows.len())?;
     for row in rows {
-        blocks.push(empty_block(alloc, kind, parcel_room(kind, row, lines)))?;
+        blocks.push(empty_block(alloc, kind, span_room(kind, row, fields)))?;
     }
     Ok(blocks)
 }
@@ -71,8 +71,8 @@ pub(crate) fn words_of_parts<L: Linking>(
     ensures { IfOk result (λ blocks. (cards : List Card) (object : definitions.Object) → ArePartsOf cards parts.now object →
         AreBlockWords (L.linking linking.now) object blocks.items) }
 {
-    let lines = parts.lines.len();
-    let mut packed = empty_blocks(alloc, parts.kind, parts.bases.rows(), lines)?;
+    let fields = parts.lines.len().saturating_add(parts.items.len());
+    let mut packed = empty_blocks(alloc, parts.kind, parts.bases.rows(), fields)?;
     put_lines(&mut packed, parts, linking)?;
     filled_blocks(alloc, packed.as_slice())
 }
