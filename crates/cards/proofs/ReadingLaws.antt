@@ -1,6 +1,6 @@
 -- The steps of reading a variable field.
-use Rattle.std.{proofs.Common.{ℕ, zero, suc, ◌≡◌, ◌≢◌, ◌==◌, ◌+◌, ◌-◌, ◌<◌, ◌≤◌, inl, inr, List, [], ◌∷◌, Bool, false, true≢false, Option, Some, None, is_some, if◌then◌else◌, length, take, drop, refl, sym, ◌∙◌, ap, subst, arith, codes, cond, true, nat_le}, specs.List.prefix_len, proofs.lemmas.Bool.Decides.eqb_tells, proofs.lemmas.List.Folds.length-prefix_len}
-use Rattle.definitions.{specs.Characters.{blank, is_digit, same_text}, specs.CountedItems.{CountedSpan, counted_item_at, counted_item_behind}, specs.Numerals.number_of, specs.Pieces.{Mark, mark_of, begun_by, Spot, AtStart, AtEquals, Inside, begun_by_counted_item, begun_at, spot_behind, left_of, field_at}, specs.Fields.variable_of, proofs.FieldLaws.{field_at-blank, field_at-other}}
+use Rattle.std.{proofs.Common.{ℕ, zero, suc, ◌≡◌, ◌≢◌, ◌==◌, ◌+◌, ◌-◌, ◌<◌, ◌≤◌, inl, inr, List, [], ◌∷◌, Bool, false, true≢false, Option, Some, None, is_some, if◌then◌else◌, length, take, drop, refl, sym, ◌∙◌, ap, subst, arith, codes, cond, true, nat_le, nat_lt, get_or}, specs.List.prefix_len, proofs.lemmas.Bool.Decides.eqb_tells, proofs.lemmas.List.{drop_more, Folds.length-prefix_len}}
+use Rattle.definitions.{specs.Characters.{blank, is_digit, same_text}, specs.CountedItems.{CountedSpan, counted_item_at, counted_item_behind, counted_item_with, item_letter_of}, specs.Numerals.number_of, specs.Pieces.{Mark, mark_of, begun_by, Spot, AtStart, AtEquals, Inside, begun_by_counted_item, begun_at, spot_behind, left_of, field_at}, specs.Fields.variable_of, proofs.FieldLaws.{field_at-blank, field_at-other}}
 
 -- a field begins its text
 pub take-field_at : (spot : Spot) (left : ℕ) (text : List ℕ) → take (length (field_at spot left text)) text ≡ field_at spot left text
@@ -54,19 +54,27 @@ no-item-begins [] e = refl
 no-item-begins (c ∷ cs) e =
     ap (λ (o : Option CountedSpan). length (if c == blank then [] else c ∷ field_at (spot_behind (begun_by_counted_item c o)) (left_of (begun_by_counted_item c o)) cs)) e
 
+-- no digit, and nothing with a lower code, is the letter of an item
+no-letter : (c : ℕ) → nat_lt 57 c ≡ false → item_letter_of c ≡ None
+no-letter c e = grind arith
+
+pub no-letter-at : (text : List ℕ) (at d : ℕ) → at < length text → nat_lt 57 (get_or text at d) ≡ false → (digits count : ℕ) → counted_item_behind digits count (drop at text) ≡ None
+no-letter-at text at d within low digits count =
+    ap (counted_item_behind digits count) (drop_more text at d within) ∙ ap (counted_item_with digits count (drop (at + 1) text)) (no-letter (get_or text at d) low)
+
 -- no item begins a text where no letter is behind its digits
-pub no-item-behind : (text rest : List ℕ) (count : ℕ) → count ≡ prefix_len is_digit text → rest ≡ drop count text →
-    ((digits number : ℕ) → counted_item_behind digits number rest ≡ None) → counted_item_at text ≡ None
-no-item-behind text rest count e behind none = by (nat_le 1 (length digits))
+pub no-item-behind : (text : List ℕ) (count : ℕ) → count ≡ prefix_len is_digit text → ((digits number : ℕ) → counted_item_behind digits number (drop count text) ≡ None) →
+    counted_item_at text ≡ None
+no-item-behind text count e none = by (nat_le 1 (length digits))
   where
     digits : List ℕ
     digits = take (prefix_len is_digit text) text
 
-    same : rest ≡ drop (length digits) text
-    same = behind ∙ ap (λ (n : ℕ). drop n text) (e ∙ sym (length-prefix_len is_digit text))
+    same : drop (length digits) text ≡ drop count text
+    same = ap (λ (n : ℕ). drop n text) (length-prefix_len is_digit text ∙ sym e)
 
     by : (b : Bool) → (if b then counted_item_behind (length digits) (number_of 10 digits) (drop (length digits) text) else None) ≡ None
-    by true = ap (counted_item_behind (length digits) (number_of 10 digits)) (sym same) ∙ none (length digits) (number_of 10 digits)
+    by true = ap (counted_item_behind (length digits) (number_of 10 digits)) same ∙ none (length digits) (number_of 10 digits)
     by false = refl
 
 -- a digit is neither a blank nor a mark

@@ -12,15 +12,15 @@ fn is_mark(c: u8) -> bool
     c <= b'/' && (c == b',' || c == b'+' || c == b'-' || c == b'*' || c == b'/')
 }
 
-/// Whether the letter of an item may begin a text: no digit and no mark has as great a code.
+/// Whether the letter of an item may stand at a place of a text: no digit and no mark has as great a code.
 #[inline(always)]
-fn may_be_letter(text: &[u8]) -> bool
-    ensures { result ≡ false → (digits count : ℕ) → counted_item_behind digits count text.now ≡ None }
+fn may_be_letter(text: &[u8], at: usize) -> bool
+    ensures { result ≡ false → (digits count : ℕ) → counted_item_behind digits count (drop at text.now) ≡ None }
 {
-    match text.split_first() {
-        None => false,
-        Some((c, _)) => *c > b'9',
+    if at >= text.len() {
+        return false;
     }
+    text[at] > b'9'
 }
 
 /// How many characters the counted item has that begins a text; where none does, how many digits.
@@ -30,7 +30,7 @@ fn item_len(text: &[u8]) -> usize
     ensures len { length (field_at AtEquals 0 text.now) ≡ result + length (field_at Inside 0 (drop result text.now)) }
 {
     let digits = digit_count(text);
-    if may_be_letter(text.split_at(digits).1) {
+    if may_be_letter(text, digits) {
         match item_at(text) {
             Some(span) => return span.taken,
             None => {}

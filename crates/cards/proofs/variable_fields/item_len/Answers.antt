@@ -12,6 +12,5 @@ returns-in-None-clause-len c = digits-begin c.args.text.now c.digit_count-digits
 
 pub returns-else-may_be_letter-clause-len : goal.returns-else-may_be_letter-clause-len
 returns-else-may_be_letter-clause-len c =
-    let text = c.args.text.now in
-    let none = no-item-behind text c.split_at.result.1.now c.digit_count-digits.result c.digit_count-digits.ensures.count c.split_at.ensures.back (c.if-may_be_letter.ensures refl) in
-    digits-begin text c.digit_count-digits.result c.digit_count-digits.ensures.count none
+    let none = no-item-behind c.args.text.now c.digit_count-digits.result c.digit_count-digits.ensures.count (c.if-may_be_letter.ensures refl) in
+    digits-begin c.args.text.now c.digit_count-digits.result c.digit_count-digits.ensures.count none
