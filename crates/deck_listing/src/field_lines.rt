@@ -61,6 +61,7 @@ impl OpenWord {
 }
 
 /// The line of one word.
+#[inline(always)]
 fn push_word_line(text: &mut Sheet, kind: DeckKind, word: u64, bits: u64)
     ensures { text.new ≡ text.old ++ word_line kind word bits }
 {
