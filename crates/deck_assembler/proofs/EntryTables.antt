@@ -1,8 +1,8 @@
 -- A table of entries, each under the number of its name.
-use Rattle.std.{proofs.Common.{◌≡◌, ◌<◌, ◌==◌, ℕ, ◌∙◌, Bool, true, false, true≢false, cond, List, [], ◌∷◌, ◌++◌, map, Option, Some, None, refl, ap, sym, subst, if◌then◌else◌}, specs.Prelude.{is_some, nat_eq, slice_index_or, Result, Ok, Err, OnOk, OnErr}, specs.Map.{lookup, values_of}, specs.Option.{option_map, option_or}, proofs.lemmas.List.map-append}
+use Rattle.std.{proofs.Common.{◌≡◌, ◌<◌, ◌==◌, ℕ, ◌∙◌, Bool, true, false, true≢false, cond, List, [], ◌∷◌, ◌++◌, Option, Some, None, refl, ap, sym, subst, if◌then◌else◌}, specs.Prelude.{is_some, nat_eq, slice_index_or, Result, Ok, Err, OnOk, OnErr}, specs.Map.{lookup, values_of}, specs.Option.{option_map, option_or}, proofs.lemmas.List.map-append}
 use Rattle.indexmap.{specs.IndexMap.{IndexMap, insert_entry}, proofs.CallerLemmas.insert_entry-new}
 use Rattle.definitions.specs.{Entries.with_entry, Forms.Form, Settled.Definition}
-use Rattle.deck_assembler.{specs.Joins.FirstSymbols.{is_known_name, number_of_name, symbol_in}, specs.Joins.SharedNames.{AreSeen, IsEntryTable, forms_in, with_row}, specs.Joins.SymbolKeys.{is_name, key_of}, specs.declared.symbol_key.SymbolKey.SymbolKey, proofs.EntryLaws.{enter-new, enter-old, enter-seen}, proofs.SymbolLaws.{both_first, symbol_in-kept, symbol_in-some}}
+use Rattle.deck_assembler.{specs.Joins.FirstSymbols.{is_known_name, number_of_name, symbol_in}, specs.Joins.SharedNames.{IsEntryTable, forms_in, with_row}, specs.Joins.SymbolKeys.{is_name, key_of}, specs.declared.symbol_key.SymbolKey.SymbolKey, proofs.EntryLaws.{enter-new, enter-old, enter-seen}, proofs.SymbolLaws.{both_first, symbol_in-kept, symbol_in-some}}
 
 -- the value of a name is that of its entry
 lookup-forms : (code : ℕ) (table : List (ℕ × Definition)) → lookup (nat_eq code) (forms_in table) ≡ option_map (λ (entry : Definition). entry.form) (lookup (nat_eq code) table)

@@ -1,6 +1,6 @@
 -- What stays of an old deck in an edited one of another kind: the neutral statements in front, and their lines.
-use Rattle.std.{proofs.Common.{◌≡◌, ◌∙◌, ℕ, ◌+◌, ◌-◌, ◌<◌, ◌≤◌, ◌⊎◌, inl, inr, true, true≢false, List, [], ◌∷◌, ◌++◌, Option, Some, None, length, take, drop, refl, sym, ap, ap₂, subst, arith, append-nil, length-append, length-take-le}, specs.Prelude.{reverse, unwrap_or}, specs.List.AllByRecursion, proofs.lemmas.Bool.cases_lt, proofs.lemmas.List.{drop-take, length-drop, length-reverse, reverse-append, reverse-reverse, take-take}}
-use Rattle.definitions.{specs.Cards.Card, specs.Counters.counters_at, specs.DeckKinds.kind_of_statements, specs.Forms.Form, specs.Laws.Agreement.own_symbols, specs.Operands.{Operand, operand_of}, specs.Operations.is_neutral, specs.Settled.{Settled, defined}, specs.Settling.{View, settle, settled_all}, specs.Statements.{Statement, cards_in}, specs.declared.deck_kind.DeckKind.DeckKind, specs.declared.deck_kind.DeckKind.TheVariants.{Rel, Abs, Periph}, specs.declared.number_base.NumberBase.NumberBase, proofs.EditLaws.cards_in-append, proofs.NamesLaws.all-behind}
+use Rattle.std.{proofs.Common.{◌≡◌, ◌∙◌, ℕ, ◌+◌, ◌-◌, ◌<◌, ◌≤◌, ◌⊎◌, inl, inr, true, true≢false, List, [], ◌∷◌, ◌++◌, Option, Some, None, length, take, drop, refl, sym, ap, subst, arith, append-nil, length-append, length-take-le}, specs.Prelude.{reverse, unwrap_or}, specs.List.AllByRecursion, proofs.lemmas.Bool.cases_lt, proofs.lemmas.List.{drop-take, length-drop, length-reverse, reverse-append, reverse-reverse, take-take}}
+use Rattle.definitions.{specs.Cards.Card, specs.Counters.counters_at, specs.DeckKinds.kind_of_statements, specs.Forms.Form, specs.Operands.{Operand, operand_of}, specs.Operations.is_neutral, specs.Settled.{Settled, defined}, specs.Settling.{View, settle, settled_all}, specs.Statements.{Statement, cards_in}, specs.declared.deck_kind.DeckKind.DeckKind, specs.declared.deck_kind.DeckKind.TheVariants.{Rel, Abs, Periph}, specs.declared.number_base.NumberBase.NumberBase, proofs.EditLaws.cards_in-append, proofs.NamesLaws.all-behind}
 use Rattle.operations.specs.Joins.OperationsAs.{operation_as}
 use Rattle.definitions.specs.Operations as op
 use Rattle.statement_coder.specs.declared.definitions_made.Definition.TheVariants as definition

@@ -3,8 +3,9 @@ use Rattle.std.proofs.Common.{◌≡◌, ◌∙◌, ◌+◌, ◌≤◌, All, Lis
 use Rattle.cards.specs.Joins.Spans.{IsSpan}
 use Rattle.definitions.specs.{DeckKinds.{up_to_end, kind_of_statements}, Statements.Statement}
 use Rattle.statement_coder.specs.Meters.{RisesBy}
-use Rattle.deck_assembler.{specs.Joins.Formers.known_in, specs.Joins.OldDecks.StandsInFront, specs.Joins.Tails.{HasTailIfAny, HasTailWithin}, specs.Stays.RisesAnew, proofs.DeckLaws.{all-statements, all-numbered, all-behind, deck-made, counts_of}, proofs.FrontLaws.{front-in, stands-still}}
+use Rattle.deck_assembler.{specs.Joins.Formers.known_in, specs.Joins.OldDecks.StandsInFront, specs.Joins.Tails.{HasTailIfAny, HasTailWithin}, specs.Joins.Takings.CountsMaking, specs.Stays.RisesAnew, proofs.DeckLaws.{all-statements, all-numbered, all-behind, deck-made, counts_of}, proofs.FrontLaws.{front-in, stands-still}}
 use Rattle.deck_assembler.specs.declared.old_deck.Stage.TheVariants as stages
+use Rattle.deck_assembler.proofs.sized_deck.made.Goals.{After-take_up_to_end}
 use Rattle.deck_assembler.proofs.sized_deck.made.Goals as goal
 
 pub take_up_to_end-requires-clause-numbered : goal.take_up_to_end-requires-clause-numbered
@@ -41,8 +42,9 @@ returns-in_err-sizer-clause-counts c = record {
   coded = refl;
 }
 
-pub returns-in_err-taken-clause-counts : goal.returns-in_err-taken-clause-counts
-returns-in_err-taken-clause-counts c =
+-- what is counted once the statements are tried
+counted : (c : After-take_up_to_end) → CountsMaking c.args.kind c.args.cards.now c.args.old_deck c.args.meter.now c.take_up_to_end.new.meter
+counted c =
     let cards = c.args.cards.now in
     let counts = c.take_up_to_end.ensures.counts in
     let all = all-statements cards c.args.spans.now c.requires.statements in
@@ -54,34 +56,15 @@ returns-in_err-taken-clause-counts c =
       rises = counts.rises;
       coded = counts.coded;
     }
+
+pub returns-in_err-taken-clause-counts : goal.returns-in_err-taken-clause-counts
+returns-in_err-taken-clause-counts c = counted (goal.at.returns-in_err-taken-clause-counts c).After-take_up_to_end
 
 pub returns-in_err-behind-clause-counts : goal.returns-in_err-behind-clause-counts
-returns-in_err-behind-clause-counts c =
-    let cards = c.args.cards.now in
-    let counts = c.take_up_to_end.ensures.counts in
-    let all = all-statements cards c.args.spans.now c.requires.statements in
-    record {
-      sized = subst (λ (l : List Statement). c.take_up_to_end.new.meter.sized ≤ c.args.meter.now.sized + length (up_to_end l)) all counts.sized;
-      front = λ of front kept stands. front-in of cards c.args.spans.now front c.args.old_deck _ _ all (counts.front of front kept) stands;
-      due = λ of front limit kept stands few more will.
-          counts.due of front limit kept (subst (λ (l : List Statement). StandsInFront of (up_to_end l) front c.args.old_deck) (sym all) stands) (record { all = all; few = few; more = more }) will;
-      rises = counts.rises;
-      coded = counts.coded;
-    }
+returns-in_err-behind-clause-counts c = counted (goal.at.returns-in_err-behind-clause-counts c).After-take_up_to_end
 
 pub returns-clause-counts : goal.returns-clause-counts
-returns-clause-counts c =
-    let cards = c.args.cards.now in
-    let counts = c.take_up_to_end.ensures.counts in
-    let all = all-statements cards c.args.spans.now c.requires.statements in
-    record {
-      sized = subst (λ (l : List Statement). c.take_up_to_end.new.meter.sized ≤ c.args.meter.now.sized + length (up_to_end l)) all counts.sized;
-      front = λ of front kept stands. front-in of cards c.args.spans.now front c.args.old_deck _ _ all (counts.front of front kept) stands;
-      due = λ of front limit kept stands few more will.
-          counts.due of front limit kept (subst (λ (l : List Statement). StandsInFront of (up_to_end l) front c.args.old_deck) (sym all) stands) (record { all = all; few = few; more = more }) will;
-      rises = counts.rises;
-      coded = counts.coded;
-    }
+returns-clause-counts c = counted (goal.at.returns-clause-counts c).After-take_up_to_end
 
 pub returns-clause-counted : goal.returns-clause-counted
 returns-clause-counted c =

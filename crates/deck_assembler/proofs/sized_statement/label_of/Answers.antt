@@ -4,8 +4,5 @@ use Rattle.definitions.specs.Laws.Agreement.{own_symbols}
 use Rattle.deck_assembler.proofs.NameTexts.{own-none}
 use Rattle.deck_assembler.proofs.sized_statement.label_of.Goals as goal
 
-pub returns-then-location-le9 : goal.returns-then-location-le9
-returns-then-location-le9 c = λ operation. ap (own_symbols operation) c.new.ensures
-
 pub returns-else-location-le9 : goal.returns-else-location-le9
 returns-else-location-le9 c = λ operation. ap (own_symbols operation) c.new-else-location-le9.ensures ∙ sym (own-none operation c.args.location.now (omega (arith, c.if-location-le9.false)))

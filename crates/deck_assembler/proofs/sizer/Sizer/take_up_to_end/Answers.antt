@@ -2,15 +2,17 @@
 use Rattle.std.proofs.Common.{◌≡◌, ◌+◌, ◌≤◌, suc, List, get_or, length, sym, ap, ◌∙◌, subst, arith}
 use Rattle.cards.specs.{Joins.Spans.statement_at, declared.statement_list.Span.Span}
 use Rattle.definitions.specs.{DeckKinds.{has_end, up_to_end}, Statements.Statement}
-use Rattle.deck_assembler.{specs.Joins.FirstStatements.{first_statements, IsEnding}, specs.Joins.Formers.known_in, specs.Joins.OldDecks.{IsKeptOn, IsOnSpan}, specs.Joins.Sizers.IsSizer, specs.Joins.Meetings.WillAgree, specs.Stays.RisesAnew, proofs.DueLaws.{due-bound, next-known}, proofs.EndLaws.{length-first, first-step, next-at, few-sized, ending-here, open-step, ending-none, ending-length, few-all}, proofs.FrontLaws.{front-bound, front-end, front-more, goes-at, stands-few}, proofs.MeetLaws.{ends-in-tail, tail-taken, tail-within}, proofs.StayLaws.stay-more}
+use Rattle.deck_assembler.{specs.Joins.FirstStatements.{first_statements, IsEnding}, specs.Joins.Formers.known_in, specs.Joins.OldDecks.{IsKeptOn, IsOnSpan}, specs.Joins.Sizers.IsSizer, specs.Joins.Meetings.WillAgree, specs.Joins.Takings.CountsTaking, specs.Stays.RisesAnew, proofs.DueLaws.{due-bound, next-known}, proofs.EndLaws.{length-first, first-step, next-at, few-sized, ending-here, open-step, ending-none, ending-length, few-all}, proofs.FrontLaws.{front-bound, front-end, front-more, goes-at, stands-few}, proofs.MeetLaws.{ends-in-tail, tail-taken, tail-within}, proofs.StayLaws.stay-more}
+use Rattle.deck_assembler.proofs.sizer.Sizer.take_up_to_end.Goals.{After-take_next}
 use Rattle.deck_assembler.proofs.sizer.Sizer.take_up_to_end.Goals as goal
 
 -- what stands where there is no span
 abbrev other : Span
 other = record { start = 0; count = 0 }
 
-pub returns-in_err-take_next-clause-counts : goal.returns-in_err-take_next-clause-counts
-returns-in_err-take_next-clause-counts c =
+-- what is counted with one more statement
+counted : (c : After-take_next) → CountsTaking c.args.kind c.args.cards.now c.args.spans.now c.args.old_deck c.args.meter.now c.take_next.new.meter
+counted c =
     let cards = c.args.cards.now in
     let spans = c.args.spans.now in
     let k = c.loop-k.k in
@@ -42,6 +44,9 @@ returns-in_err-take_next-clause-counts c =
       rises = omega (arith, rose, rises);
       coded = counts.coded ∙ so_far.coded;
     }
+
+pub returns-in_err-take_next-clause-counts : goal.returns-in_err-take_next-clause-counts
+returns-in_err-take_next-clause-counts c = counted (goal.at.returns-in_err-take_next-clause-counts c).After-take_next
 
 pub take_next-requires-clause-ready : goal.take_next-requires-clause-ready
 take_next-requires-clause-ready c =
@@ -82,38 +87,7 @@ returns-then-branch-clause-taken c =
     }
 
 pub returns-then-branch-clause-counts : goal.returns-then-branch-clause-counts
-returns-then-branch-clause-counts c =
-    let cards = c.args.cards.now in
-    let spans = c.args.spans.now in
-    let k = c.loop-k.k in
-    let so_far = c.loop-k.invariant in
-    let first = first_statements cards spans k in
-    let next = next-at cards spans k other c.loop-k-test.true c.requires.spans c.requires.numbered in
-    let few = few-sized cards spans k other c.loop-k-test.true so_far.open' in
-    let before = so_far.sized in
-    let rose = so_far.rises in
-    let counts = c.take_next.ensures.counts in
-    let more = counts.sized in
-    let rises = counts.rises in
-    record {
-      sized = omega (arith, few, before, more);
-      front = λ of front kept stands.
-          let taken = so_far.front of front kept stands in
-          let on : IsOnSpan c.args.kind of cards first (get_or spans k other) c.loop-k.self c.loop-k.kept = record { sizer_is = so_far.taken; next = next; kept_on = so_far.kept of kept } in
-          front-bound k _ front c.args.old_deck c.loop-k.kept _ _ _ taken more
-          (λ less. counts.kept of first on (goes-at of cards spans k other front c.args.old_deck c.loop-k.kept _ _ c.loop-k-test.true so_far.open' stands taken less))
-          few (stands-few of _ front c.args.old_deck stands);
-      due = λ of front limit kept stands bounded will.
-          let taken = so_far.front of front kept stands in
-          let due = so_far.due of front limit kept stands bounded will in
-          let on : IsOnSpan c.args.kind of cards first (get_or spans k other) c.loop-k.self c.loop-k.kept = record { sizer_is = so_far.taken; next = next; kept_on = so_far.kept of kept } in
-          let known = next-known cards spans k other limit front c.loop-k-test.true so_far.open' bounded in
-          due-bound k limit (length first) front c.args.old_deck c.loop-k.kept _ _ _ (length-first cards spans k (omega (arith, c.loop-k-test.true))) taken due.1 more
-          (λ less. counts.kept of first on (goes-at of cards spans k other front c.args.old_deck c.loop-k.kept _ _ c.loop-k-test.true so_far.open' stands taken less))
-          (counts.in_time of first limit on known due.0);
-      rises = omega (arith, rose, rises);
-      coded = counts.coded ∙ so_far.coded;
-    }
+returns-then-branch-clause-counts c = counted (goal.at.returns-then-branch-clause-counts c).After-take_next
 
 -- each statement that is not settled as one of the old deck is counted
 pub returns-then-branch-clause-counted : goal.returns-then-branch-clause-counted

@@ -1,5 +1,5 @@
 -- No text is a name.
-use Rattle.std.proofs.{Common.{◌≡◌, ◌==◌, ℕ, true, List, [], ◌∷◌, Option, None, length, refl, arith}, lemmas.Bool.Decides.nat_tests}
+use Rattle.std.proofs.{Common.{◌≡◌, ◌==◌, ℕ, true, List, [], ◌∷◌, None, length, refl, arith}, lemmas.Bool.Decides.nat_tests}
 use Rattle.definitions.specs.Forms.{Form}
 use Rattle.deck_assembler.specs.Joins.FirstSymbols.{symbol_in}
 use Rattle.deck_assembler.proofs.symbol_table.SymbolTable.value.Goals as goal
