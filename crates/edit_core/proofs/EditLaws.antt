@@ -54,11 +54,6 @@ front-more edits k edit old new within is few here all =
     subst (All (λ e. new ≤ front_of e)) (sym step)
     (All-push (λ e. new ≤ front_of e) (take k edits) edit (All-weaker (λ e. old ≤ front_of e) (λ e. new ≤ front_of e) (λ e h. omega (arith, h, few)) (take k edits) all) here)
 
--- what has nothing against it is not spent
-pub not-spent : (edits : List Edit) (is_spent : Bool) (cards : List Card) → against_all edits is_spent cards ≡ None → is_spent ≡ false
-not-spent edits true cards none = cc
-not-spent edits false cards none = refl
-
 -- the pieces of a record that is not spent
 pub kept-pieces : (sized : Option DeckParts) (cards : List Card) (pieces : List ℕ) → IfSome sized (λ deck. IsSizedDeck cards deck × (pieces ≡ piece_counts deck.pieces)) → is_none sized ≡ false →
     ArePieces (statement_count cards) pieces
