@@ -1,6 +1,7 @@
 pub mod ScaleLaws
 pub mod PieceLaws
 pub mod DigitLaws
+pub mod DataTextLaws
 pub mod ItemFrontLaws
 pub mod ElementLaws
 pub mod LinkLaws

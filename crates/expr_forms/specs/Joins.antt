@@ -19,4 +19,5 @@ pub mod Operands
 pub mod Sums
 pub mod TextWords
 pub mod Readings
+pub mod DataTexts
 pub mod Kept

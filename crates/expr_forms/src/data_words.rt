@@ -1,12 +1,17 @@
 //! The variable field of DATA: what fills its words (COMPASS 60492600, DATA).
-ghost use Rattle.std.specs.Prelude.{◌≡◌, ◌≤◌, ◌<◌, ◌∷◌, [], length, option_map, is_some, Some, None, IfSome, IfNone, MatchResult};
+ghost use Rattle.std.specs.Prelude.{◌≡◌, ◌==◌, ◌≤◌, ◌<◌, ◌∷◌, [], true, length, option_map, is_some, unwrap_or, Some, None, IfSome, IfNone, MatchResult};
+ghost use Rattle.std.specs.List.{filter, list_all};
+ghost use Rattle.definitions.specs.Characters.{comma};
 ghost use Rattle.definitions.specs.Pieces.{Inside, ByMark, IsMark, spot_behind, pieces_at, pieces_of, subfields_of};
 ghost use Rattle.definitions.specs.Symbols.{number_read};
 ghost use Rattle.definitions.specs.Expressions.{NoSign};
+ghost use Rattle.definitions.specs.Sizes.{data_words};
+ghost use Rattle.definitions.specs.declared.deck_kind.DeckKind as kinds;
 ghost use Rattle.definitions.specs.Operands.{NumberWord, CountedItemWords, data_word, all_read, onto_all};
 ghost use Rattle.definitions.specs.declared.letter.Letter.TheVariants as letter;
 ghost use Rattle.expr_forms.specs.Joins.Elements.{sign_as};
 ghost use Rattle.expr_forms.specs.Joins.Numbers.{number_as};
+ghost use Rattle.expr_forms.specs.Joins.DataTexts.{is_of_numbers, last_digit};
 ghost use Rattle.definitions.specs.Laws.ItemTexts.{item_as};
 ghost use Rattle.expr_forms.specs.Joins.PiecesFound.{mark_as};
 ghost use Rattle.expr_forms.specs.Joins.Readings.{datum_as, alone, signed_word};
@@ -127,7 +132,58 @@ fn next_word<'a>(base: NumberBase, subfields: &mut Subfields<'a>) -> Option<Opti
     }
 }
 
+/// The last digit of a base.
+#[inline(always)]
+fn last_digit(base: NumberBase) -> u8
+    ensures { result ≡ last_digit base }
+{
+    match base {
+        NumberBase::Decimal => b'9',
+        NumberBase::Octal => b'7',
+    }
+}
+
+/// How many commas a text has, where it is commas and digits up to this one and nothing else.
+#[inline(always)]
+fn comma_count(last: u8, text: &[u8]) -> Option<u32>
+    requires { length text.now ≤ 711 }
+    ensures all { IfSome result (λ count. list_all (is_of_numbers last) text.now ≡ true) }
+    ensures count { IfSome result (λ count. count ≡ length (filter (λ c. c == comma) text.now)) }
+    ensures few { IfSome result (λ count. count ≤ 711) }
+{
+    let mut rest = text;
+    let mut count = 0;
+    'characters: loop {
+        match rest.split_first() {
+            None => return Some(count),
+            Some((c, behind)) => {
+                if *c == b',' {
+                    count += 1;
+                } else if *c < b'0' || *c > last {
+                    return None;
+                }
+                rest = behind;
+            }
+        }
+    }
+}
+
+/// How many words of DATA a text is, where it is commas and digits of its base and nothing else.
+#[inline(always)]
+fn number_count(base: NumberBase, text: &[u8]) -> Option<u32>
+    requires { length text.now ≤ 711 }
+    ensures lawful { IfSome result (λ count. is_some (all_read (data_word base) (subfields_of (pieces_of text.now))) ≡ true) }
+    ensures words { IfSome result (λ count. (kind : kinds.DeckKind) → data_words kind (unwrap_or (all_read (data_word base) (subfields_of (pieces_of text.now))) []) ≡ count) }
+    ensures few { IfSome result (λ count. count ≤ 712) }
+{
+    match comma_count(last_digit(base), text) {
+        None => None,
+        Some(commas) => Some(commas + 1),
+    }
+}
+
 /// Whether each subfield is lawful in DATA.
+#[inline(never)]
 fn are_words(base: NumberBase, subfields: Subfields<'_>) -> bool
     ensures { result ≡ is_some (all_read (data_word base) subfields.entry) }
 {
@@ -141,6 +197,17 @@ fn are_words(base: NumberBase, subfields: Subfields<'_>) -> bool
                 Some(Some(_)) => {}
             },
         }
+    }
+}
+
+/// Whether a field is lawful in DATA.
+fn is_lawful(base: NumberBase, text: &[u8]) -> bool
+    requires { length text.now ≤ 711 }
+    ensures { result ≡ is_some (all_read (data_word base) (subfields_of (pieces_of text.now))) }
+{
+    match number_count(base, text) {
+        Some(_) => true,
+        None => are_words(base, Subfields::new(text)),
     }
 }
 
@@ -164,16 +231,51 @@ impl<'a> Model for DataWords<'a> {
 
 impl<'a> DataWords<'a> {
     /// The words of a field of at most 711 characters: V where a subfield is not lawful.
+    #[inline(never)]
     pub fn read(text: &'a [u8], base: NumberBase) -> Result<DataWords<'a>, Letter>
         requires { length text.now ≤ 711 }
         ensures { let words = all_read (data_word base) (subfields_of (pieces_of text.now)) in
             MatchResult result (λ found. words ≡ Some found) (λ fault. (fault ≡ letter.V) × (words ≡ None)) }
     {
-        let subfields = Subfields::new(text);
-        if are_words(base, subfields.copied()) {
-            Ok(DataWords { base, subfields })
+        if is_lawful(base, text) {
+            Ok(DataWords::of_lawful(text, base))
         } else {
             Err(Letter::V)
+        }
+    }
+
+    /// The words of a field of at most 711 characters that is known to be lawful.
+    #[inline(always)]
+    fn of_lawful(text: &'a [u8], base: NumberBase) -> DataWords<'a>
+        requires short { length text.now ≤ 711 }
+        requires lawful { is_some (all_read (data_word base) (subfields_of (pieces_of text.now))) ≡ true }
+        ensures { Some result ≡ all_read (data_word base) (subfields_of (pieces_of text.now)) }
+    {
+        DataWords {
+            base,
+            subfields: Subfields::new(text),
+        }
+    }
+
+    /// The number base and the text of the words that are left, if some are.
+    #[inline(always)]
+    fn field(&self) -> Option<(NumberBase, &'a [u8])>
+        ensures words { IfSome result (λ field. all_read (data_word field.0) (subfields_of (pieces_of field.1.now)) ≡ Some self.now) }
+        ensures short { IfSome result (λ field. length field.1.now ≤ 711) }
+    {
+        let text = self.subfields.rest?;
+        Some((self.base, text))
+    }
+
+    /// How many words are left, where commas and digits of their base alone spell them.
+    #[inline(always)]
+    pub fn number_count(&self) -> Option<u32>
+        ensures words { IfSome result (λ count. (kind : kinds.DeckKind) → data_words kind self.now ≡ count) }
+        ensures few { IfSome result (λ count. count ≤ 712) }
+    {
+        match self.field() {
+            None => None,
+            Some((base, text)) => number_count(base, text),
         }
     }
 

@@ -50,6 +50,9 @@ fn datum_words(kind: DeckKind, datum: &Datum<'_>) -> u32
 fn data_words(kind: DeckKind, words: DataWords<'_>) -> u32
     ensures words { result ≡ min (data_words kind words.entry) 10000000 }
 {
+    if let Some(count) = words.number_count() {
+        return count;
+    }
     let mut rest = words;
     let mut sum = 0;
     'words: loop {
