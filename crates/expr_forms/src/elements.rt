@@ -180,8 +180,9 @@ fn behind_equals(base: NumberBase, text: &[u8]) -> Option<ElementFound<'_>>
     }
 }
 
-/// The element that begins with a mark, which this text follows.
-#[inline(always)]
+/// The element that begins with a mark, which this text follows. Few do: a call of its own keeps
+/// [`next_element`] small enough to be written into its callers.
+#[inline(never)]
 fn behind_mark(base: NumberBase, mark: Mark, text: &[u8]) -> Option<ElementFound<'_>>
     ensures elements { (o : Operator) → pairs_from base o (IsMark (mark_as mark) ∷ pieces_at (spot_behind (ByMark (mark_as mark))) 0 text.now) ≡ elements_found base o result }
     ensures within { IfSome result (λ found. length found.rest.now ≤ length text.now) }
