@@ -1,7 +1,7 @@
 -- Texts of DATA that are commas and digits alone: each subfield is a number or nothing, and fills one word.
-use Rattle.std.{proofs.Common.{◌≡◌, ℕ, suc, ◌+◌, ◌*◌, ◌^◌, List, [], ◌∷◌, ◌++◌, Bool, true, false, true≢false, cond, ◌==◌, ◌&&◌, Option, Some, None, length, take, drop, refl, sym, ◌∙◌, ap, ap₂, subst, arith, append-nil}, specs.Prelude.{is_some, nat_le, nat_lt, option_map, unwrap_or, if◌then◌else◌, ◌||◌}, specs.List.{filter, list_all, prefix_len}, proofs.Math.Seq.{drop-append_seam, drop-length, take-append_seam}, proofs.lemmas.Bool.{and_from, and_parts, eqb-true, le-leb}, proofs.lemmas.List.{append_assoc, take_all}, proofs.lemmas.List.Folds.list_all-append}
+use Rattle.std.{proofs.Common.{◌≡◌, ℕ, suc, ◌+◌, ◌-◌, ◌*◌, ◌^◌, List, [], ◌∷◌, ◌++◌, Bool, true, false, true≢false, cond, ◌==◌, ◌&&◌, Option, Some, None, length, min, take, drop, refl, sym, ◌∙◌, ap, ap₂, subst, arith, append-nil}, specs.Prelude.{is_some, nat_le, nat_lt, option_map, unwrap_or, if◌then◌else◌, ◌||◌}, specs.List.{filter, list_all, prefix_len}, proofs.Math.Seq.{drop-append_seam, drop-length, take-append_seam}, proofs.lemmas.Bool.{and_from, and_parts, eqb-true, le-leb}, proofs.lemmas.List.{append_assoc, take_all}, proofs.lemmas.List.Folds.list_all-append, proofs.lemmas.List.Sums.fold-append}
 use Rattle.definitions.specs.{Characters.{comma, is_digit}, Expressions.NoSign, Numerals.number_of, Operands.{Datum, ZeroWord, NumberWord, all_read, data_word, onto_all}, Pieces.{Piece, Inside, Plain, pieces_at, pieces_of, subfields_of}, Sizes.{data_words, datum_words}, Symbols.{Number, behind_digits, bounded, number_read, scaled}, declared.deck_kind.DeckKind.DeckKind, declared.number_base.NumberBase.NumberBase, declared.number_base.NumberBase.TheVariants.{Decimal, Octal}}
-use Rattle.expr_forms.{specs.Joins.DataTexts.{last_digit, is_digit_to, is_of_numbers}, specs.Joins.PiecesFound.ends_run, proofs.DigitLaws.pieces-digits}
+use Rattle.expr_forms.{specs.Joins.DataTexts.{from_comma, last_digit, is_digit_to, is_of_numbers, IsNumberTo}, specs.Joins.Numbers.radix, specs.Joins.PiecesFound.ends_run, specs.Joins.Subfields.subfields_left, proofs.DigitLaws.pieces-digits}
 
 -- a digit of the base
 abbrev is_digit_in : NumberBase → ℕ → Bool
@@ -35,19 +35,61 @@ below (c ∷ cs) digits =
     let parts = and_parts (is_digit_in Octal c) (list_all (is_digit_in Octal) cs) digits in
     and_from (nat_lt c 56) (list_all (λ c. nat_lt c 56) cs) (octal c parts.0) (below cs parts.1)
 
-scaled-some : (base : NumberBase) (text : List ℕ) → list_all (is_digit_in base) text ≡ true → is_some (bounded (scaled base text 0)) ≡ true
-scaled-some Decimal text digits = refl
-scaled-some Octal text digits = ap (λ (b : Bool). is_some (bounded (if b then Some (number_of 8 text * 2 ^ 0) else None))) (below text digits)
+scaled-digits : (base : NumberBase) (text : List ℕ) → list_all (is_digit_in base) text ≡ true → scaled base text 0 ≡ Some (number_of (radix base) text * 2 ^ 0)
+scaled-digits Decimal text digits = refl
+scaled-digits Octal text digits = ap (λ (b : Bool). if b then Some (number_of 8 text * 2 ^ 0) else None) (below text digits)
 
 -- digits of a base are a number there
-number-some : (base : NumberBase) (c : ℕ) (cs : List ℕ) → list_all (is_digit_in base) (c ∷ cs) ≡ true → is_some (number_read base (c ∷ cs)) ≡ true
-number-some base c cs digits =
+digits-number : (base : NumberBase) (c : ℕ) (cs : List ℕ) → list_all (is_digit_in base) (c ∷ cs) ≡ true → number_read base (c ∷ cs) ≡ bounded (Some (number_of (radix base) (c ∷ cs) * 2 ^ 0))
+digits-number base c cs digits =
     let len : prefix_len is_digit (c ∷ cs) ≡ length (c ∷ cs) = ap (prefix_len is_digit) (sym (append-nil (c ∷ cs))) ∙ digits-len base (c ∷ cs) [] digits refl in
     let all : take (prefix_len is_digit (c ∷ cs)) (c ∷ cs) ≡ c ∷ cs = take_all (prefix_len is_digit (c ∷ cs)) (c ∷ cs) (omega (arith, len)) in
-    ap (λ (run : List ℕ). is_some (if nat_le 1 (length run) then bounded (behind_digits base run (drop (length run) (c ∷ cs))) else None)) all
-    ∙ ap (λ (b : Bool). is_some (if b then bounded (behind_digits base (c ∷ cs) (drop (length (c ∷ cs)) (c ∷ cs))) else None)) (le-leb 1 (length (c ∷ cs)) (omega arith))
-    ∙ ap (λ (behind : List ℕ). is_some (bounded (behind_digits base (c ∷ cs) behind))) (drop-length (c ∷ cs))
-    ∙ scaled-some base (c ∷ cs) digits
+    ap (λ (run : List ℕ). if nat_le 1 (length run) then bounded (behind_digits base run (drop (length run) (c ∷ cs))) else None) all
+    ∙ ap (λ (b : Bool). if b then bounded (behind_digits base (c ∷ cs) (drop (length (c ∷ cs)) (c ∷ cs))) else None) (le-leb 1 (length (c ∷ cs)) (omega arith))
+    ∙ ap (λ (behind : List ℕ). bounded (behind_digits base (c ∷ cs) behind)) (drop-length (c ∷ cs))
+    ∙ ap bounded (scaled-digits base (c ∷ cs) digits)
+
+number-some : (base : NumberBase) (c : ℕ) (cs : List ℕ) → list_all (is_digit_in base) (c ∷ cs) ≡ true → is_some (number_read base (c ∷ cs)) ≡ true
+number-some base c cs digits = ap is_some (digits-number base c cs digits)
+
+capped : (base : NumberBase) (value number digit : ℕ) → value ≡ min number (2 ^ 60) → min (value * radix base + digit) (2 ^ 60) ≡ min (number * radix base + digit) (2 ^ 60)
+capped Decimal value number digit e = omega (arith, e)
+capped Octal value number digit e = omega (arith, e)
+
+-- the first digit, and each behind it
+pub digit-first : (base : NumberBase) (text left : List ℕ) (c value : ℕ) → text ≡ c ∷ left → is_digit_to (last_digit base) c ≡ true → value ≡ min (0 * radix base + (c - 48)) (2 ^ 60) →
+    IsNumberTo base text left value
+digit-first base text left c value whole digit e = record { first = c; others = []; whole = whole; digits = and_from (is_digit_in base c) true digit refl; known = e }
+
+pub digit-more : (base : NumberBase) (text rest left : List ℕ) (c before value : ℕ) → IsNumberTo base text rest before → rest ≡ c ∷ left → is_digit_to (last_digit base) c ≡ true →
+    value ≡ min (before * radix base + (c - 48)) (2 ^ 60) → IsNumberTo base text left value
+digit-more base text rest left c before value is next digit e =
+    let front = is.first ∷ is.others in
+    record {
+      first = is.first;
+      others = is.others ++ c ∷ [];
+      whole = is.whole ∙ ap (λ (behind : List ℕ). front ++ behind) next ∙ sym (append_assoc front (c ∷ []) left);
+      digits = list_all-append (is_digit_in base) front (c ∷ []) ∙ and_from (list_all (is_digit_in base) front) (is_digit_in base c && true) is.digits (and_from (is_digit_in base c) true digit refl);
+      known = e ∙ capped base before (number_of (radix base) front) (c - 48) is.known
+          ∙ ap (λ (n : ℕ). min n (2 ^ 60)) (sym (fold-append (λ value digit. value * radix base + (digit - 48)) 0 front (c ∷ [])));
+    }
+
+-- the first subfield is these digits
+pub number-cut : (base : NumberBase) (text : List ℕ) (left : Option (List ℕ)) (value : ℕ) (is : IsNumberTo base text (from_comma left) value) →
+    subfields_of (pieces_of text) ≡ (Plain (is.first ∷ is.others) ∷ []) ∷ subfields_left left
+number-cut base text None value is =
+    ap (λ (t : List ℕ). subfields_of (pieces_of t)) is.whole ∙ ap subfields_of (digits-pieces base is.first is.others [] is.digits refl refl)
+number-cut base text (Some behind) value is =
+    ap (λ (t : List ℕ). subfields_of (pieces_of t)) is.whole ∙ ap subfields_of (digits-pieces base is.first is.others (comma ∷ behind) is.digits refl refl)
+
+-- and so is the first word of DATA
+pub number-first : (base : NumberBase) (text : List ℕ) (left : Option (List ℕ)) (value : ℕ) (number : Number) → IsNumberTo base text (from_comma left) value →
+    ((n : ℕ) → value ≡ min n (2 ^ 60) → bounded (Some (n * 2 ^ 0)) ≡ Some number) →
+    all_read (data_word base) (subfields_of (pieces_of text)) ≡ onto_all (Some (NumberWord NoSign number)) (all_read (data_word base) (subfields_left left))
+number-first base text left value number is law =
+    ap (all_read (data_word base)) (number-cut base text left value is)
+    ∙ ap (λ (read : Option Number). onto_all (option_map (NumberWord NoSign) read) (all_read (data_word base) (subfields_left left)))
+    (digits-number base is.first is.others is.digits ∙ law (number_of (radix base) (is.first ∷ is.others)) is.known)
 
 -- what was read fills so many words
 pub record AreCounted (kind : DeckKind) (found : Option (List Datum)) (count : ℕ) : Type 0 where

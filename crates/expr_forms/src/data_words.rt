@@ -1,5 +1,5 @@
 //! The variable field of DATA: what fills its words (COMPASS 60492600, DATA).
-ghost use Rattle.std.specs.Prelude.{◌≡◌, ◌==◌, ◌≤◌, ◌<◌, ◌∷◌, [], true, length, option_map, is_some, unwrap_or, Some, None, IfSome, IfNone, MatchResult};
+ghost use Rattle.std.specs.Prelude.{◌≡◌, ◌==◌, ◌≤◌, ◌<◌, ◌∷◌, [], true, length, option_copied, option_map, is_some, unwrap_or, Some, None, IfSome, IfNone, MatchResult};
 ghost use Rattle.std.specs.List.{filter, list_all};
 ghost use Rattle.definitions.specs.Characters.{comma};
 ghost use Rattle.definitions.specs.Pieces.{Inside, ByMark, IsMark, spot_behind, pieces_at, pieces_of, subfields_of};
@@ -11,14 +11,14 @@ ghost use Rattle.definitions.specs.Operands.{NumberWord, CountedItemWords, data_
 ghost use Rattle.definitions.specs.declared.letter.Letter.TheVariants as letter;
 ghost use Rattle.expr_forms.specs.Joins.Elements.{sign_as};
 ghost use Rattle.expr_forms.specs.Joins.Numbers.{number_as};
-ghost use Rattle.expr_forms.specs.Joins.DataTexts.{is_of_numbers, last_digit};
+ghost use Rattle.expr_forms.specs.Joins.DataTexts.{from_comma, is_digit_to, is_of_numbers, last_digit, IsNumberTo};
 ghost use Rattle.definitions.specs.Laws.ItemTexts.{item_as};
 ghost use Rattle.expr_forms.specs.Joins.PiecesFound.{mark_as};
 ghost use Rattle.expr_forms.specs.Joins.Readings.{datum_as, alone, signed_word};
 
 use crate::elements::Sign;
 use crate::expressions::Expr;
-use crate::numbers::{Number, digits_read, number_read};
+use crate::numbers::{Number, number_read, with_digit, with_scale};
 use crate::pieces::{Mark, Piece, piece_at_start};
 use crate::subfields::Subfields;
 use definitions::{ItemText, Letter, NumberBase};
@@ -105,6 +105,43 @@ fn data_word(base: NumberBase, text: &[u8]) -> Option<Datum<'_>>
     }
 }
 
+/// Whether a character is a digit up to this one.
+#[inline(always)]
+fn is_digit_to(last: u8, c: u8) -> bool
+    ensures { result ≡ is_digit_to last c }
+{
+    b'0' <= c && c <= last
+}
+
+/// The number of the digits of a base up to the next comma, or 2^60 where it is greater, and the text
+/// behind the comma, if one is there.
+#[inline(always)]
+fn number_to_comma(base: NumberBase, text: &[u8]) -> Option<(u64, Option<&[u8]>)>
+    ensures number { IfSome result (λ found. IsNumberTo base text.now (from_comma (option_copied found.1)) found.0) }
+    ensures within { IfSome result (λ found. IfSome found.1 (λ rest. length rest.now ≤ length text.now)) }
+{
+    let last = last_digit(base);
+    let (first, behind) = text.split_first()?;
+    if !is_digit_to(last, *first) {
+        return None;
+    }
+    let mut value = with_digit(base, 0, *first);
+    let mut rest = behind;
+    'digits: loop {
+        match rest.split_first() {
+            None => return Some((value, None)),
+            Some((b',', behind)) => return Some((value, Some(behind))),
+            Some((c, behind)) => {
+                if !is_digit_to(last, *c) {
+                    return None;
+                }
+                value = with_digit(base, value, *c);
+                rest = behind;
+            }
+        }
+    }
+}
+
 /// The number that the next subfield of DATA is, where it is digits and nothing else and fits the
 /// base. Else none is taken.
 #[inline(always)]
@@ -113,10 +150,10 @@ fn next_number(base: NumberBase, subfields: &mut Subfields<'_>) -> Option<Number
     ensures some { IfSome result (λ number. all_read (data_word base) subfields.old ≡ onto_all (Some (NumberWord NoSign (number_as number))) (all_read (data_word base) subfields.new)) }
     ensures fewer { IfSome result (λ number. length subfields.new < length subfields.old) }
 {
-    let mut behind = subfields.copied();
-    let number = digits_read(base, behind.next_digits()?)?;
-    *subfields = behind;
-    Some(number)
+    let text = subfields.rest?;
+    let (value, rest) = number_to_comma(base, text)?;
+    subfields.rest = rest;
+    Some(with_scale(value, 0))
 }
 
 /// What the next subfield of DATA is, if one is left, and if it is lawful.
@@ -151,21 +188,16 @@ fn comma_count(last: u8, text: &[u8]) -> Option<u32>
     ensures count { IfSome result (λ count. count ≡ length (filter (λ c. c == comma) text.now)) }
     ensures few { IfSome result (λ count. count ≤ 711) }
 {
-    let mut rest = text;
-    let mut count = 0;
-    'characters: loop {
-        match rest.split_first() {
-            None => return Some(count),
-            Some((c, behind)) => {
-                if *c == b',' {
-                    count += 1;
-                } else if *c < b'0' || *c > last {
-                    return None;
-                }
-                rest = behind;
-            }
-        }
+    if let [_, _, b'A'..=b'Z', ..] = text {
+        return None;
     }
+    let mut count = 0;
+    let mut all = true;
+    for c in text {
+        count += u32::from(*c == b',');
+        all &= *c == b',' || is_digit_to(last, *c);
+    }
+    if all { Some(count) } else { None }
 }
 
 /// How many words of DATA a text is, where it is commas and digits of its base and nothing else.

@@ -18,7 +18,7 @@ pub enum Number {
 
 /// The number that digits make and one digit behind them, or 2^60 where it is greater.
 #[inline(always)]
-fn with_digit(base: NumberBase, value: u64, digit: u8) -> u64
+pub(crate) fn with_digit(base: NumberBase, value: u64, digit: u8) -> u64
     requires { value ≤ 2 ^ 60 }
     ensures { result ≡ min (value * radix base + (digit - 48)) (2 ^ 60) }
 {
@@ -43,7 +43,7 @@ pub(crate) fn capped_number(base: NumberBase, digits: &[u8]) -> u64
 
 /// A number times 2^scale; the number is known up to 2^60.
 #[inline(always)]
-fn with_scale(value: u64, scale: u32) -> Number
+pub(crate) fn with_scale(value: u64, scale: u32) -> Number
     ensures { (number : ℕ) → value ≡ min number (2 ^ 60) → bounded (Some (number * 2 ^ scale)) ≡ Some (number_as result) }
 {
     if value == 0 {

@@ -1,12 +1,10 @@
 //! A variable field cut into subfields at its commas, without a copy; a comma in a counted item
 //! cuts nothing (COMPASS 60492600, subfields and data items).
-ghost use Rattle.std.specs.Prelude.{◌≡◌, ◌≤◌, ◌+◌, ◌∷◌, [], true, length, drop, option_copied, IfNone, IfSome};
-ghost use Rattle.definitions.specs.Pieces.{AtStart, AtEquals, Inside, Plain, pieces_at, pieces_of, subfields_of};
-ghost use Rattle.expr_forms.specs.Joins.Numbers.{AreDigits};
-ghost use Rattle.expr_forms.specs.Joins.PiecesFound.{ends_run};
-ghost use Rattle.expr_forms.specs.Joins.Subfields.{subfield_len, len_to_mark, text_behind, subfields_left};
+ghost use Rattle.std.specs.Prelude.{◌≡◌, ◌≤◌, ◌+◌, ◌∷◌, [], length, drop, option_copied, IfNone, IfSome};
+ghost use Rattle.definitions.specs.Pieces.{AtStart, AtEquals, Inside, pieces_of, subfields_of};
+ghost use Rattle.expr_forms.specs.Joins.Subfields.{subfield_len, len_to_mark, text_behind};
 
-use crate::pieces::{digits_at_start, run_len};
+use crate::pieces::run_len;
 use definitions::item_at;
 use std::marker::Model;
 
@@ -98,20 +96,6 @@ fn behind_comma(text: &[u8]) -> Option<&[u8]>
     Some(text.split_first()?.1)
 }
 
-/// The text behind the end of a subfield that ends where this text begins: none behind the last one.
-#[inline(always)]
-fn behind_end(text: &[u8]) -> Option<Option<&[u8]>>
-    ensures end { IfSome result (λ rest. subfields_of (pieces_at Inside 0 text.now) ≡ [] ∷ subfields_left (option_copied rest)) }
-    ensures ended { IfSome result (λ rest. ends_run text.now ≡ true) }
-    ensures within { IfSome result (λ rest. IfSome rest (λ more. length more.now ≤ length text.now)) }
-{
-    match text.split_first() {
-        None => Some(None),
-        Some((b',', rest)) => Some(Some(rest)),
-        Some(_) => None,
-    }
-}
-
 impl<'a> Subfields<'a> {
     /// The subfields of a variable field of at most 711 characters.
     pub fn new(text: &'a [u8]) -> Subfields<'a>
@@ -133,28 +117,6 @@ impl<'a> Subfields<'a> {
                 let (first, behind) = text.split_at(first_len(text));
                 self.rest = behind_comma(behind);
                 Some(first)
-            }
-        }
-    }
-
-    /// The next subfield, where it is digits and nothing else. Else none is taken.
-    #[inline(always)]
-    pub(crate) fn next_digits(&mut self) -> Option<&'a [u8]>
-        ensures none { IfNone result (self.new ≡ self.old) }
-        ensures some { IfSome result (λ digits. self.old ≡ (Plain digits.now ∷ []) ∷ self.new) }
-        ensures digits { IfSome result (λ digits. AreDigits digits.now) }
-    {
-        let Some(text) = self.rest else {
-            return None;
-        };
-        let Some((digits, behind)) = digits_at_start(text) else {
-            return None;
-        };
-        match behind_end(behind) {
-            None => None,
-            Some(rest) => {
-                self.rest = rest;
-                Some(digits)
             }
         }
     }
