@@ -42,7 +42,8 @@ fn push_datum<B: BlockBases, N: Names>(
     }
 }
 
-/// Puts the words of a DATA at the end of a list.
+/// Puts the words of a DATA at the end of a list. Of what is not digits alone a copy is asked, so that the
+/// place in the text need not lie in memory.
 pub(crate) fn push_data<B: BlockBases, N: Names>(
     kind: DeckKind,
     bases: &B,
@@ -60,10 +61,14 @@ pub(crate) fn push_data<B: BlockBases, N: Names>(
     'words: loop {
         match rest.next_number() {
             Some(number) => push(list, number_item(kind.word_bits(), Sign::Absent, number))?,
-            None => match rest.next() {
-                None => return Ok(()),
-                Some(datum) => push_datum(kind, bases, names, &datum, list)?,
-            },
+            None => {
+                let mut behind = rest.copied();
+                match behind.next() {
+                    None => return Ok(()),
+                    Some(datum) => push_datum(kind, bases, names, &datum, list)?,
+                }
+                rest = behind;
+            }
         }
     }
 }

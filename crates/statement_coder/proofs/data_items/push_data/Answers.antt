@@ -26,7 +26,7 @@ words-preserved g c = record {
   told = λ settled literals statement seen.
       one_datum_more (deck_with c.args.kind (g.B.BlockBases.rows c.args.bases.now) settled literals) statement (word_bits c.args.kind)
       (map item_as c.words.list.items) (map item_as c.push_datum.new.list.items) _ (datum_as c.in-Some-next.datum) c.words.rest c.next.new.self
-      (sym c.in-None.ensures.none ∙ c.in-Some-next.ensures.some) (c.in_ok-push_datum-in-Some-next.ensures.pushed settled literals statement seen)
+      (sym (c.copied-behind.ensures ∙ c.in-None.ensures.none) ∙ c.in-Some-next.ensures.some) (c.in_ok-push_datum-in-Some-next.ensures.pushed settled literals statement seen)
       (c.words.invariant.told settled literals statement seen);
 }
 
@@ -34,5 +34,5 @@ pub returns-in-None-next-clause-pushed : goal.returns-in-None-next-clause-pushed
 returns-in-None-next-clause-pushed g c =
     λ settled literals statement seen.
     no_datum_more (deck_with c.args.kind (g.B.BlockBases.rows c.args.bases.now) settled literals) statement (word_bits c.args.kind)
-    (map item_as c.words.list.items) _ c.words.rest (sym c.in-None.ensures.none ∙ c.in-None-next.ensures.none.0)
+    (map item_as c.words.list.items) _ c.words.rest (sym (c.copied-behind.ensures ∙ c.in-None.ensures.none) ∙ c.in-None-next.ensures.none.0)
     (c.words.invariant.told settled literals statement seen)
