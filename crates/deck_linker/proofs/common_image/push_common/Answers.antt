@@ -2,9 +2,6 @@ use Rattle.std.proofs.Common.{◌≡◌, ◌<◌, ◌∙◌, Some, None, ap, sub
 use Rattle.deck_linker.{specs.Joins.CommonWords.common_place, proofs.CommonSteps.{no_place, place-within}}
 use Rattle.deck_linker.proofs.common_image.push_common.Goals as goal
 
-pub push_placed-requires-clause-place : goal.push_placed-requires-clause-place
-push_placed-requires-clause-place c = ap (λ name. common_place name c.args.layout.now.commons) (sym c.name.ensures) ∙ sym c.common_place.ensures ∙ c.in-Some.is
-
 pub push_placed-requires-clause-within : goal.push_placed-requires-clause-within
 push_placed-requires-clause-within c =
     let commons = c.args.layout.now.commons in

@@ -1,5 +1,5 @@
-use Rattle.std.proofs.{Common.{◌+◌, ◌<◌, length, subst, take, arith}, lemmas.List.take_all}
-use Rattle.deck_linker.{specs.Joins.CommonWords.{AreMade, over_deck, over_decks}, proofs.CommonSteps.{decks-more, made-both, made-none, made-same}}
+use Rattle.std.proofs.{Common.{◌+◌, ◌<◌, length, take, arith}}
+use Rattle.deck_linker.{specs.Joins.CommonWords.{over_deck, over_decks}, proofs.CommonSteps.{decks-more, made-both, made-none, made-same}}
 use Rattle.deck_linker.proofs.common_words.put_decks.Goals as goal
 
 pub loop-based-init : goal.loop-based-init
@@ -17,9 +17,3 @@ loop-based-preserved c =
     (λ name k earlier p. decks-more layout decks i based inside c.based-item.is name earlier)
     (made-both layout.commons (λ name words. over_decks layout name (take i decks) words) (over_deck layout based) c.args.lists.now.items c.loop-based.lists.items c.put_deck.new.lists.items
     c.loop-based.invariant c.in_ok-put_deck.ensures)
-
-pub returns : goal.returns
-returns c =
-    let layout = c.args.layout.now in
-    subst (λ decks. AreMade layout.commons (λ name words. over_decks layout name decks words) c.args.lists.now.items c.loop-based.lists.items)
-    (take_all c.loop-based.based-index c.args.decks.now (omega arith)) c.loop-based.invariant

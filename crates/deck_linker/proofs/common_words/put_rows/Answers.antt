@@ -1,8 +1,8 @@
-use Rattle.std.proofs.{Common.{◌+◌, ◌^◌, ◌<◌, ◌∙◌, List, Some, ap, length, sym, subst, take, arith}, lemmas.List.take_all, lemmas.Option.slice_get-get_or, lemmas.Slice.Zip.AllZip-long}
+use Rattle.std.proofs.{Common.{◌+◌, ◌^◌, ◌<◌, ◌∙◌, List, Some, ap, length, sym, subst, take, arith}, lemmas.Option.slice_get-get_or, lemmas.Slice.Zip.AllZip-long}
 use Rattle.definitions.specs.LinkValues.{linking_of}
 use Rattle.parcel_packer.specs.{Joins.Filling.{DoSpansRise, as_stored}, declared.word_spans.WordSpan.WordSpan}
 use Rattle.deck_listing.{specs.Joins.BlockWords.AreWordsOf, proofs.BlockSteps.zip-at}
-use Rattle.deck_linker.{specs.Joins.CommonWords.{AreMade, over_row, over_rows}, proofs.CommonSteps.{made-both, made-none, made-same, rows-more}}
+use Rattle.deck_linker.{specs.Joins.CommonWords.{over_row, over_rows}, proofs.CommonSteps.{made-both, made-none, made-same, rows-more}}
 use Rattle.deck_linker.proofs.common_words.put_rows.Goals as goal
 
 pub loop-index-init : goal.loop-index-init
@@ -46,8 +46,3 @@ loop-index-preserved c =
     made-same layout.commons (λ name earlier. over_row row words name (over_rows layout based (take i rows) name earlier)) (over_rows layout based (take (i + 1) rows)) c.args.lists.now.items c.put_row.new.lists.items
     (λ name k earlier p. rows-more layout based rows i row words c.requires.names inside c.index-rows-index.is same name earlier)
     (made-both layout.commons (over_rows layout based (take i rows)) (over_row row words) c.args.lists.now.items c.loop-index.lists.items c.put_row.new.lists.items c.loop-index.invariant c.in_ok-put_row.ensures)
-
-pub returns : goal.returns
-returns c =
-    let layout = c.args.layout.now in
-    subst (λ rows. AreMade layout.commons (over_rows layout c.args.based.now rows) c.args.lists.now.items c.loop-index.lists.items) (take_all c.loop-index.index c.args.rows.now (omega arith)) c.loop-index.invariant

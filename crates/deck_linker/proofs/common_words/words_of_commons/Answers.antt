@@ -1,12 +1,9 @@
-use Rattle.std.proofs.Common.{◌∙◌, ap, length, subst}
+use Rattle.std.proofs.Common.{ap, length, subst}
 use Rattle.deck_linker.{proofs.CommonSteps.{all-made, none-rise}, specs.Joins.CommonWords.{AreMade, over_decks}}
 use Rattle.deck_linker.proofs.common_words.words_of_commons.Goals as goal
 
 pub put_decks-requires-clause-lists : goal.put_decks-requires-clause-lists
 put_decks-requires-clause-lists c = none-rise (length c.commons-commons.result.now) c.in_ok-lists.lists.items c.in_ok-lists.ensures
-
-pub put_decks-requires-clause-same : goal.put_decks-requires-clause-same
-put_decks-requires-clause-same c = c.in_ok-lists.ensures.same ∙ ap length c.commons-commons.ensures
 
 pub returns : goal.returns
 returns c =

@@ -1,11 +1,8 @@
-use Rattle.std.{proofs.Common.{◌∙◌, ap, length, refl, subst, sym}, specs.Prelude.flat_map}
+use Rattle.std.{proofs.Common.{refl, subst, sym}, specs.Prelude.flat_map}
 use Rattle.definitions.specs.LinkValues.{linking_of}
 use Rattle.deck_listing.specs.Joins.BlockWords.{AreBlockWords}
 use Rattle.deck_linker.{specs.Joins.Sections.deck_section, proofs.LineLaws.text-step}
 use Rattle.deck_linker.proofs.image.push_decks.Goals as goal
-
-pub push_deck-requires : goal.push_deck-requires
-push_deck-requires c = ap length c.as_slice.ensures.value ∙ c.in_ok-blocks.ensures.each
 
 pub loop-based-preserved : goal.loop-based-preserved
 loop-based-preserved c =

@@ -1,4 +1,4 @@
-use Rattle.std.{proofs.Common.{◌∷◌, [], ap, sym, subst, take, ◌∙◌, ◌++◌, arith}, specs.List.AllZip, proofs.lemmas.List.{take_all, take_more}}
+use Rattle.std.{proofs.Common.{◌∷◌, [], ap, sym, subst, take, ◌∙◌, ◌++◌, arith}, specs.List.AllZip, proofs.lemmas.List.{take_more}}
 use Rattle.deck_listing.proofs.BlockSteps.{zip-more}
 use Rattle.deck_linker.specs.Joins.InPieces.{AreDeckWords}
 use Rattle.deck_linker.proofs.linked_decks.words_of_decks.Goals as goal
@@ -13,6 +13,3 @@ loop-based-preserved c =
     subst (λ front. AllZip words_of front c.push.new.self.items) (sym more)
     (subst (AllZip words_of (take i decks ++ based ∷ [])) (sym c.in_ok-push.ensures.items)
     (zip-more words_of (take i decks) c.loop-based.words.items based c.in_ok-blocks.blocks c.loop-based.invariant c.in_ok-blocks.ensures.words))
-
-pub returns : goal.returns
-returns c = subst (λ front. AllZip (AreDeckWords c.args.layout.now) front c.loop-based.words.items) (take_all c.loop-based.based-index c.args.decks.now (omega arith)) c.loop-based.invariant

@@ -1,5 +1,5 @@
-use Rattle.std.proofs.{Common.{arith, length, length-append, subst}, lemmas.List.take_all}
-use Rattle.deck_linker.{specs.Joins.InPieces.{DoFit, deck_text}, proofs.InPieceLaws.fit-more, proofs.ListedLaws.listings-split}
+use Rattle.std.proofs.{Common.{arith, length, length-append}}
+use Rattle.deck_linker.{specs.Joins.InPieces.{deck_text}, proofs.InPieceLaws.fit-more, proofs.ListedLaws.listings-split}
 use Rattle.deck_linker.proofs.measuring.measure_listed.Goals as goal
 
 pub loop-object-preserved : goal.loop-object-preserved
@@ -13,6 +13,3 @@ loop-object-preserved c =
       fit = fit-more deck_text objects i deck c.loop-object.measure.most c.in_ok-measure.measure.most c.loop-object-test.true c.object-item.is c.loop-object.invariant.fit c.in_ok-measure.ensures.most
           (omega (arith, c.in_ok-measure.ensures.fits, c.len.ensures));
     }
-
-pub returns-clause-fit : goal.returns-clause-fit
-returns-clause-fit c = subst (λ xs. DoFit deck_text c.loop-object.measure.most xs) (take_all c.loop-object.object-index c.args.objects.now (omega arith)) c.loop-object.invariant.fit

@@ -1,5 +1,5 @@
-use Rattle.std.proofs.{Common.{◌<◌, arith, subst, length}, lemmas.List.take_all}
-use Rattle.deck_linker.{specs.Joins.InPieces.DoFit, specs.Joins.Sections.deck_section, proofs.InPieceLaws.{fit-more, left-split, words-at, words-within}}
+use Rattle.std.proofs.{Common.{◌<◌, arith, length}}
+use Rattle.deck_linker.{specs.Joins.Sections.deck_section, proofs.InPieceLaws.{fit-more, left-split, words-at, words-within}}
 use Rattle.deck_linker.proofs.measuring.measure_sections.Goals as goal
 
 pub bounds-words-index : goal.bounds-words-index
@@ -26,6 +26,3 @@ loop-index-preserved c =
       fit = fit-more (deck_section layout) decks i based c.loop-index.measure.most c.in_ok-measure.measure.most inside c.index-decks-index.is c.loop-index.invariant.fit c.in_ok-measure.ensures.most
           (omega (arith, c.in_ok-measure.ensures.fits, c.in_ok-len.ensures));
     }
-
-pub returns-clause-fit : goal.returns-clause-fit
-returns-clause-fit c = subst (λ xs. DoFit (deck_section c.args.layout.now) c.loop-index.measure.most xs) (take_all c.loop-index.index c.args.decks.now (omega arith)) c.loop-index.invariant.fit
