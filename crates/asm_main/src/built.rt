@@ -127,7 +127,7 @@ impl Built {
 /// How many cards, fields and words an object has.
 fn size_of_one(object: &Object) -> usize {
     let parts = object.parts();
-    let mut size = object.cards().len().saturating_add(parts.items.len());
+    let mut size = object.cards().len().saturating_add(parts.fields.len());
     for row in parts.bases.rows() {
         size = size.saturating_add(row.words() as usize);
     }

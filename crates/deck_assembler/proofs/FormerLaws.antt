@@ -1,20 +1,20 @@
 -- The lines of the object before an edit go beside a walk over the edited deck; what was not bound otherwise keeps its line.
 use Rattle.std.{proofs.Common.{◌≡◌, ◌∙◌, ℕ, ◌+◌, ◌-◌, ◌≤◌, ◌⊎◌, inl, inr, Bool, true, false, Result, Ok, Err, List, [], ◌∷◌, ◌++◌, Option, Some, None, zero, suc, ◌<◌, length, get_or, arith, map, take, drop, reverse, refl, ap, ap₂, sym, subst, append_assoc, length-append, length-take-le}, specs.Prelude.{IfSome, not, ◌||◌}, specs.List.list_any, proofs.lemmas.Bool.cases_lt, proofs.lemmas.List.{drop-drop, length-reverse, reverse-append, reverse-reverse}}
 use Rattle.definitions.{specs.Cards.Card, specs.DeckInput.Deck, specs.DeckKinds.{behind_end, kind_of_statements}, specs.Forms.{Form, element_form}, specs.Literals.literal_words, specs.Letters.in_order, specs.Objects.{Shown, shown_of, only_listed, coded_of, object_of}, specs.Laws.Rebound.{coded_elements, context_from, is_rebound, same_value}, specs.Settled.{Settled, defined}, specs.Settling.{View, settle, settled_all}, specs.StatementItems.{Context, Item, final_names, items_of}, specs.Statements.{Statement, cards_in, statements_of}, specs.Laws.Agreement.unnumbered, specs.Words.Coded, specs.declared.deck_kind.DeckKind.DeckKind, specs.declared.letter.Letter.Letter, specs.Lengths.BlockRow, proofs.EditLaws.cards_in-append, proofs.ReboundLaws.{letters-enough, fields-enough}}
-use Rattle.statement_coder.specs.declared.items.Item as code
+use Rattle.deck_objects.specs.declared.lines.FieldLists.{FieldLists}
 use Rattle.deck_objects.specs.{Joins.CodedLines.{IsCoded, IsShown, IsStored, AreShown}, Joins.PartsOf.ArePartsOf, declared.lines.CodedLine.CodedLine, declared.lines.Line.Line, declared.object.ObjectParts.ObjectParts}
 use Rattle.deck_assembler.{specs.Joins.DeckParts.sized_in, specs.Joins.DeckWalks.IsWalked, specs.Joins.FormerLines.{IsSameTail, IsOneOf, IsMissedInFront, IsMissedInTail, IsTaken, IsTakenOfTail, IsNextInFront, IsNextInTail, IsNextLine, IsBare, WasLine, WasLineIfAny, shown_from, AreBeside, AreOfTail, AreOfHead, AreOfTailIfAny, IsBeside, AreChosen, IsWalkedBeside}, specs.Joins.FirstSymbols.symbol_in, specs.Joins.DueCodes.{one_where, has_line, code_due, code_due_of, CodePlan, HasNoTail, IsBesideTail, IsDueBeside, IsPlanned, IsPlanOf}, specs.Joins.Formers.{known_in, IsFormerOf}, specs.Joins.Rebindings.AreBindings, specs.Joins.SizedDecks.{IsSizedStatement, AreSizedFrom}, specs.Joins.Sizers.stood, specs.Joins.TailLines.{lines_behind, AreAlikeOn}, specs.Joins.Tails.{AreSettledAlike, HasTail, HasTailIfAny, IsEditedOf, StandBeforeTail}, specs.Joins.Walks.{Whole, IsWhole, has_row, AreLined, AreNoted}, specs.declared.deck_walk.Making.Making, specs.declared.former.Former.Former, specs.declared.former_lines.FormerLine.FormerLine, specs.declared.former_lines.FormerLines.FormerLines, specs.declared.sized_statement.SizedStatement.SizedStatement, proofs.DeckWalkLaws.{IsStep, there}, proofs.HeadDeckLaws.kinds-told, proofs.HeadLaws.same-between, proofs.HeadLineLaws.{context_as, head-lines-beside}, proofs.NeutralLaws.front-neutral, proofs.ForwardLaws.stood-more, proofs.OntoLaws.{append-none, drop-none, first-of, rest-of, reverse-onto}, proofs.PartLaws.shown-object, proofs.WalkLaws.stood-step}
 
 -- a coded statement is known by its operation, its block, its place and its fields
-abbrev IsCodedAs : DeckKind → List BlockRow → List code.Item → CodedLine → Settled → List Item → Type 0
-IsCodedAs kind rows items line settled fields = let one : Coded = record { settled = settled; fields = fields } in IsCoded kind rows items line one
+abbrev IsCodedAs : DeckKind → List BlockRow → FieldLists → CodedLine → Settled → List Item → Type 0
+IsCodedAs kind rows lists line settled fields = let one : Coded = record { settled = settled; fields = fields } in IsCoded kind rows lists line one
 
-coded-alike : (kind : DeckKind) (rows : List BlockRow) (items : List code.Item) (line : CodedLine) (other settled : Settled) (fields more : List Item) → unnumbered other ≡ unnumbered settled → fields ≡ more →
-    IsCodedAs kind rows items line other fields → IsCodedAs kind rows items line settled more
-coded-alike kind rows items line other settled fields more alike e is =
-    let plain : IsCodedAs kind rows items line (unnumbered other) fields =
+coded-alike : (kind : DeckKind) (rows : List BlockRow) (lists : FieldLists) (line : CodedLine) (other settled : Settled) (fields more : List Item) → unnumbered other ≡ unnumbered settled → fields ≡ more →
+    IsCodedAs kind rows lists line other fields → IsCodedAs kind rows lists line settled more
+coded-alike kind rows lists line other settled fields more alike e is =
+    let plain : IsCodedAs kind rows lists line (unnumbered other) fields =
     record { operation = is.operation; block = is.block; place = is.place; end = is.end; begins_run = is.begins_run; fields = is.fields; kept = is.kept; zeros = is.zeros } in
-    let moved : IsCodedAs kind rows items line (unnumbered settled) more = subst (IsCodedAs kind rows items line (unnumbered settled)) e (subst (λ (p : Settled). IsCodedAs kind rows items line p fields) alike plain) in
+    let moved : IsCodedAs kind rows lists line (unnumbered settled) more = subst (IsCodedAs kind rows lists line (unnumbered settled)) e (subst (λ (p : Settled). IsCodedAs kind rows lists line p fields) alike plain) in
     record { operation = moved.operation; block = moved.block; place = moved.place; end = moved.end; begins_run = moved.begins_run; fields = moved.fields; kept = moved.kept; zeros = moved.zeros }
 
 -- the letters of a line that is not bound otherwise
@@ -24,25 +24,25 @@ still-letters kind found settled new was k e = was.letters ∙ ap in_order (lett
 
 -- and what it stores
 pub still-coded : (kind : DeckKind) (found : FormerLine) (settled : Settled) (new : Context) (was : WasLine kind found settled) → new.kind ≡ kind → is_rebound was.context new settled ≡ false →
-    IsCoded kind was.context.rows found.items.now found.coded.now (coded_of new settled)
+    IsCoded kind was.context.rows found.fields.now found.coded.now (coded_of new settled)
 still-coded kind found settled new was k e =
-    coded-alike kind was.context.rows found.items.now found.coded.now was.other settled (items_of was.context was.other was.other.read.operation) (items_of new settled settled.read.operation) was.alike
+    coded-alike kind was.context.rows found.fields.now found.coded.now was.other settled (items_of was.context was.other was.other.read.operation) (items_of new settled settled.read.operation) was.alike
     (fields-enough was.context new was.other settled (was.same_kind ∙ sym k) was.alike e)
-    (subst (λ (d : DeckKind). IsCoded d was.context.rows found.items.now found.coded.now (coded_of was.context was.other)) was.same_kind was.coded)
+    (subst (λ (d : DeckKind). IsCoded d was.context.rows found.fields.now found.coded.now (coded_of was.context was.other)) was.same_kind was.coded)
 
 -- the next line is that of the next statement
 statement-same : (a b : Statement) → a.before ≡ b.before → a.cards ≡ b.cards → a ≡ b
 statement-same a b e f = λ i. record { before = e i; cards = f i }
 
-was-coded : (kind : DeckKind) (rows : List BlockRow) (items : List code.Item) (line : Option CodedLine) (stored : CodedLine) (coded : Coded) → line ≡ Some stored → IsStored kind rows items line (Some coded) → IsCoded kind rows items stored coded
-was-coded kind rows items line stored coded e is = subst (λ (l : Option CodedLine). IsStored kind rows items l (Some coded)) e is
+was-coded : (kind : DeckKind) (rows : List BlockRow) (lists : FieldLists) (line : Option CodedLine) (stored : CodedLine) (coded : Coded) → line ≡ Some stored → IsStored kind rows lists line (Some coded) → IsCoded kind rows lists stored coded
+was-coded kind rows lists line stored coded e is = subst (λ (l : Option CodedLine). IsStored kind rows lists l (Some coded)) e is
 
-not-listed : (kind : DeckKind) (rows : List BlockRow) (items : List code.Item) (line : Option CodedLine) (stored : CodedLine) → line ≡ Some stored → IsStored kind rows items line None → ⊥
-not-listed kind rows items line stored e is = subst (λ (l : Option CodedLine). IsStored kind rows items l None) e is
+not-listed : (kind : DeckKind) (rows : List BlockRow) (lists : FieldLists) (line : Option CodedLine) (stored : CodedLine) → line ≡ Some stored → IsStored kind rows lists line None → ⊥
+not-listed kind rows lists line stored e is = subst (λ (l : Option CodedLine). IsStored kind rows lists l None) e is
 
 -- a line that was found and shows a statement of a deck is the line of one that is settled alike
 was-line : (kind : DeckKind) (context : Context) (other settled : Settled) (found : FormerLine) (old after : FormerLines) (stood : ℕ) (ahead : List Card) → IsOneOf old after found → context.kind ≡ kind → AreBindings old.bindings context →
-    unnumbered other ≡ unnumbered settled → IsShown context.kind context.rows old.items.now stood ahead found.line.now (shown_of context other) → WasLine kind found settled
+    unnumbered other ≡ unnumbered settled → IsShown context.kind context.rows old.fields.now stood ahead found.line.now (shown_of context other) → WasLine kind found settled
 was-line kind context other settled found old after stood ahead one same bindings alike here = record {
   context = context;
   other = other;
@@ -50,8 +50,8 @@ was-line kind context other settled found old after stood ahead one same binding
   bindings = subst (λ b. AreBindings b context) (sym one.bindings) bindings;
   alike = alike;
   letters = here.letters;
-  coded = subst (λ (l : List code.Item). IsCoded context.kind context.rows l found.coded.now (coded_of context other)) (sym one.items)
-      (was-coded context.kind context.rows old.items.now found.line.now.coded found.coded.now (coded_of context other) one.coded here.stored);
+  coded = subst (λ (l : FieldLists). IsCoded context.kind context.rows l found.coded.now (coded_of context other)) (sym one.fields)
+      (was-coded context.kind context.rows old.fields.now found.line.now.coded found.coded.now (coded_of context other) one.coded here.stored);
 }
 
 pub at-or-not : (a b : ℕ) → (a ≡ b) ⊎ (a ≡ b → ⊥)
@@ -78,13 +78,13 @@ next-line kind cards context earlier coming given stood sized found old after is
     line : Line
     line = found.line.now
 
-    shown : AreShown context.kind context.rows old.items.now stood (drop stood is.old_cards) (line ∷ after.left.now) (shown_from context earlier coming is.listed)
-    shown = subst (λ (l : List Line). AreShown context.kind context.rows old.items.now stood (drop stood is.old_cards) l (shown_from context earlier coming is.listed)) taken.lines is.shown
+    shown : AreShown context.kind context.rows old.fields.now stood (drop stood is.old_cards) (line ∷ after.left.now) (shown_from context earlier coming is.listed)
+    shown = subst (λ (l : List Line). AreShown context.kind context.rows old.fields.now stood (drop stood is.old_cards) l (shown_from context earlier coming is.listed)) taken.lines is.shown
 
-    by : (ahead listed : List Statement) → AreShown context.kind context.rows old.items.now stood (drop stood is.old_cards) (line ∷ after.left.now) (shown_from context earlier ahead listed) →
+    by : (ahead listed : List Statement) → AreShown context.kind context.rows old.fields.now stood (drop stood is.old_cards) (line ∷ after.left.now) (shown_from context earlier ahead listed) →
         GoesInFront kind cards context earlier ahead given stood sized.cards found after
     by [] [] h = absurd h
-    by [] (one ∷ listed) h = absurd (not-listed context.kind context.rows old.items.now line.coded found.coded.now taken.one.coded h.0.stored)
+    by [] (one ∷ listed) h = absurd (not-listed context.kind context.rows old.fields.now line.coded found.coded.now taken.one.coded h.0.stored)
     by (statement ∷ later) listed h =
         let k = context.kind in
         let here = h.0 in
@@ -102,10 +102,10 @@ next-line kind cards context earlier coming given stood sized found old after is
             same_kind = is.same_kind;
             bindings = subst (λ b. AreBindings b context) (sym taken.one.same_bindings) is.bindings;
             same = subst (λ n. take n is.old_cards ≡ take n cards) (sym taken.same_before) is.same;
-            shown = subst (λ (l : List code.Item). AreShown k context.rows l (stood + sized.cards) (drop (stood + sized.cards) is.old_cards) after.left.now (shown_from context (given ∷ earlier) later listed)) (sym taken.one.same_items)
-                (subst (λ (s : Statement). AreShown k context.rows old.items.now (stood + sized.cards) (drop (stood + sized.cards) is.old_cards) after.left.now (shown_from context (s ∷ earlier) later listed)) same
-                (subst (λ n. AreShown k context.rows old.items.now (stood + n) (drop (stood + n) is.old_cards) after.left.now (shown_from context (statement ∷ earlier) later listed)) taken.cards
-                (subst (λ (a : List Card). AreShown k context.rows old.items.now (stood + line.cards) a after.left.now (shown_from context (statement ∷ earlier) later listed)) (drop-drop line.cards stood is.old_cards) h.1)));
+            shown = subst (λ (l : FieldLists). AreShown k context.rows l (stood + sized.cards) (drop (stood + sized.cards) is.old_cards) after.left.now (shown_from context (given ∷ earlier) later listed)) (sym taken.one.same_fields)
+                (subst (λ (s : Statement). AreShown k context.rows old.fields.now (stood + sized.cards) (drop (stood + sized.cards) is.old_cards) after.left.now (shown_from context (s ∷ earlier) later listed)) same
+                (subst (λ n. AreShown k context.rows old.fields.now (stood + n) (drop (stood + n) is.old_cards) after.left.now (shown_from context (statement ∷ earlier) later listed)) taken.cards
+                (subst (λ (a : List Card). AreShown k context.rows old.fields.now (stood + line.cards) a after.left.now (shown_from context (statement ∷ earlier) later listed)) (drop-drop line.cards stood is.old_cards) h.1)));
           };
         }
 
@@ -148,8 +148,8 @@ before-tail kind cards context earlier coming between given standing sized old a
             listed = of.listed;
             old_stood = of.old_stood;
             old_ahead = of.old_ahead;
-            shown = subst (λ (l : List Line). AreShown context.kind context.rows after.items.now of.old_stood of.old_ahead l (shown_from context of.passed of.later of.listed)) (sym (ap (λ t. t.left.now) same.tail))
-                (subst (λ (i : List code.Item). AreShown context.kind context.rows i of.old_stood of.old_ahead old.tail.left.now (shown_from context of.passed of.later of.listed)) (sym same.items) of.shown);
+            shown = subst (λ (l : List Line). AreShown context.kind context.rows after.fields.now of.old_stood of.old_ahead l (shown_from context of.passed of.later of.listed)) (sym (ap (λ t. t.left.now) same.tail))
+                (subst (λ (i : FieldLists). AreShown context.kind context.rows i of.old_stood of.old_ahead old.tail.left.now (shown_from context of.passed of.later of.listed)) (sym same.fields) of.shown);
             alike = subst (λ (l : List Statement). AreAlikeOn kind of.passed of.later l of.tail) (sym whole) alike;
           };
         }
@@ -194,10 +194,10 @@ next-of-tail kind cards context earlier coming between given standing sized foun
     rows : List BlockRow
     rows = context.rows
 
-    shown : AreShown context.kind rows old.items.now is.old_stood is.old_ahead (line ∷ after.tail.left.now) (shown_from context is.passed is.later is.listed)
-    shown = subst (λ (l : List Line). AreShown context.kind rows old.items.now is.old_stood is.old_ahead l (shown_from context is.passed is.later is.listed)) taken.lines is.shown
+    shown : AreShown context.kind rows old.fields.now is.old_stood is.old_ahead (line ∷ after.tail.left.now) (shown_from context is.passed is.later is.listed)
+    shown = subst (λ (l : List Line). AreShown context.kind rows old.fields.now is.old_stood is.old_ahead l (shown_from context is.passed is.later is.listed)) taken.lines is.shown
 
-    here : (later : List Statement) → AreShown context.kind rows old.items.now is.old_stood is.old_ahead (line ∷ after.tail.left.now) (shown_from context is.passed later is.listed) →
+    here : (later : List Statement) → AreShown context.kind rows old.fields.now is.old_stood is.old_ahead (line ∷ after.tail.left.now) (shown_from context is.passed later is.listed) →
         AreAlikeOn kind is.passed later earlier (given ∷ coming) → GoesInTail kind context earlier coming given standing sized.cards found after
     here [] h alike = absurd alike
     here (other ∷ later) h alike =
@@ -218,7 +218,7 @@ next-of-tail kind cards context earlier coming between given standing sized foun
             listed = is.listed;
             old_stood = is.old_stood + line.cards;
             old_ahead = drop line.cards is.old_ahead;
-            shown = subst (λ (i : List code.Item). AreShown k rows i (is.old_stood + line.cards) (drop line.cards is.old_ahead) after.tail.left.now (shown_from context (other ∷ is.passed) later is.listed)) (sym taken.one.same_items) h.1;
+            shown = subst (λ (i : FieldLists). AreShown k rows i (is.old_stood + line.cards) (drop line.cards is.old_ahead) after.tail.left.now (shown_from context (other ∷ is.passed) later is.listed)) (sym taken.one.same_fields) h.1;
             alike = alike.1;
           };
         }
@@ -228,27 +228,27 @@ pub missed-of-tail : (kind : DeckKind) (context : Context) (earlier coming betwe
     IsMissedInTail old None → ⊥
 missed-of-tail kind context earlier coming between given standing old is none missed = here is.later old.tail.left.now refl is.shown (tail-here kind context earlier coming between given standing old is none)
   where
-    here : (later : List Statement) (lines : List Line) → old.tail.left.now ≡ lines → AreShown context.kind context.rows old.items.now is.old_stood is.old_ahead lines (shown_from context is.passed later is.listed) →
+    here : (later : List Statement) (lines : List Line) → old.tail.left.now ≡ lines → AreShown context.kind context.rows old.fields.now is.old_stood is.old_ahead lines (shown_from context is.passed later is.listed) →
         AreAlikeOn kind is.passed later earlier (given ∷ coming) → ⊥
     here [] lines e h alike = alike
     here (other ∷ later) [] e h alike = h
     here (other ∷ later) (line ∷ lines) e h alike =
         let k = context.kind in
         let one = coded_of context (settle k (settled_all k is.passed) other) in
-        subst (λ (l : Option CodedLine). IsStored k context.rows old.items.now l (Some one)) (missed line lines e) h.0.stored
+        subst (λ (l : Option CodedLine). IsStored k context.rows old.fields.now l (Some one)) (missed line lines e) h.0.stored
 
 -- and in front one that is among the unchanged cards
 pub missed-in-front : (kind : DeckKind) (cards : List Card) (context : Context) (earlier later : List Statement) (given : Statement) (standing count : ℕ) (old : FormerLines) → AreBeside kind cards context earlier (given ∷ later) standing old →
     length given.cards ≡ count → standing + count ≤ old.before → IsMissedInFront old standing count None → ⊥
 missed-in-front kind cards context earlier later given standing count old is own within missed = here old.left.now refl is.shown
   where
-    here : (lines : List Line) → old.left.now ≡ lines → AreShown context.kind context.rows old.items.now standing (drop standing is.old_cards) lines (shown_from context earlier (given ∷ later) is.listed) → ⊥
+    here : (lines : List Line) → old.left.now ≡ lines → AreShown context.kind context.rows old.fields.now standing (drop standing is.old_cards) lines (shown_from context earlier (given ∷ later) is.listed) → ⊥
     here [] e h = h
     here (line ∷ lines) e h =
         let k = context.kind in
         let one = coded_of context (settle k (settled_all k earlier) given) in
         let its : line.cards ≡ count = sym (length-take-le line.cards (drop standing is.old_cards) h.0.within) ∙ ap length h.0.cards ∙ own in
-        subst (λ (l : Option CodedLine). IsStored k context.rows old.items.now l (Some one)) (missed line lines e its within) h.0.stored
+        subst (λ (l : Option CodedLine). IsStored k context.rows old.fields.now l (Some one)) (missed line lines e its within) h.0.stored
 
 no-line : (line : Line) (lines : List Line) → line ∷ lines ≡ [] → ⊥
 no-line line lines e = cc
@@ -261,7 +261,7 @@ record Leaves (kind : DeckKind) (cards : List Card) (earlier coming : List State
 -- in front the tail stays
 pub same-tail : (old after : FormerLines) (stood count : ℕ) (found : Option FormerLine) → IsNextInFront old after stood count found → IsSameTail old after
 same-tail old after stood count None next = next.1
-same-tail old after stood count (Some found) next = record { tail = next.same_tail; items = next.one.same_items; bindings = next.one.same_bindings }
+same-tail old after stood count (Some found) next = record { tail = next.same_tail; fields = next.one.same_fields; bindings = next.one.same_bindings }
 
 tail-if-any : (kind : DeckKind) (cards : List Card) (earlier coming : List Statement) (given : Statement) (standing : ℕ) (sized : SizedStatement) (old after : FormerLines) →
     AreOfTailIfAny kind earlier (given ∷ coming) standing old → (standing ≡ old.tail.at → ⊥) → IsSameTail old after → IsSizedStatement kind earlier standing (drop standing cards) sized given →
@@ -361,7 +361,7 @@ pub record HasLines (kind : DeckKind) (old : List Card) (parts : ObjectParts) (l
   pub same_kind : (context_from (known_in old)).kind ≡ kind
   pub bindings : AreBindings lines.bindings (context_from (known_in old))
   pub listed : List Statement
-  pub shown : let context = context_from (known_in old) in AreShown context.kind context.rows lines.items.now 0 old parts.lines.items (shown_from context [] (reverse (known_in old)) listed)
+  pub shown : let context = context_from (known_in old) in AreShown context.kind context.rows lines.fields.now 0 old parts.lines.items (shown_from context [] (reverse (known_in old)) listed)
 
 pub has-lines : (chosen_kind kind : DeckKind) (old cards : List Card) (name : List ℕ) (former : Former) (parts : ObjectParts) (lines : FormerLines) → IsFormerOf old former →
     (let given : Deck = record { name = name; cards = old } in ArePartsOf old parts (object_of given)) → AreChosen chosen_kind (length old) (length cards) former parts lines → former.kind ≡ kind → HasLines kind old parts lines
@@ -382,10 +382,10 @@ has-lines chosen_kind kind old cards name former parts lines is are chosen k =
         rows = chosen.bases ∙ are.rows;
       };
       listed = reverse others;
-      shown = subst (λ (i : List code.Item). AreShown context.kind context.rows i 0 old parts.lines.items (shown_from context [] (reverse known) (reverse others))) (sym chosen.items)
-          (subst (λ (d : DeckKind). AreShown d context.rows parts.items.items 0 old parts.lines.items (shown_from context [] (reverse known) (reverse others))) are.kind
-          (subst (λ (r : List BlockRow). AreShown parts.kind r parts.items.items 0 old parts.lines.items (shown_from context [] (reverse known) (reverse others))) are.rows
-          (subst (AreShown parts.kind parts.bases parts.items.items 0 old parts.lines.items) listing are.shown)));
+      shown = subst (λ (i : FieldLists). AreShown context.kind context.rows i 0 old parts.lines.items (shown_from context [] (reverse known) (reverse others))) (sym chosen.fields)
+          (subst (λ (d : DeckKind). AreShown d context.rows parts.fields 0 old parts.lines.items (shown_from context [] (reverse known) (reverse others))) are.kind
+          (subst (λ (r : List BlockRow). AreShown parts.kind r parts.fields 0 old parts.lines.items (shown_from context [] (reverse known) (reverse others))) are.rows
+          (subst (AreShown parts.kind parts.bases parts.fields 0 old parts.lines.items) listing are.shown)));
     }
 
 behind-none : (lines : List Line) → lines_behind 0 lines ≡ lines
@@ -397,27 +397,27 @@ behind-some zero line lines some = absurd (omega (arith, some))
 behind-some (suc count) line lines some = refl
 
 -- lines behind some cards, and the statements that they show
-record ShowBehind (context : Context) (items : List code.Item) (lines : List Line) (earlier coming listed : List Statement) : Type 0 where
+record ShowBehind (context : Context) (lists : FieldLists) (lines : List Line) (earlier coming listed : List Statement) : Type 0 where
   stood : ℕ
   ahead : List Card
-  shown : AreShown context.kind context.rows items stood ahead lines (shown_from context earlier coming listed)
+  shown : AreShown context.kind context.rows lists stood ahead lines (shown_from context earlier coming listed)
 
-show-behind : (context : Context) (items : List code.Item) (front earlier coming listed : List Statement) (count standing : ℕ) (cards : List Card) (lines : List Line) →
-    AreShown context.kind context.rows items standing cards lines (shown_from context earlier (front ++ coming) listed) → stood earlier + count ≡ stood (reverse front ++ earlier) →
-    ShowBehind context items (lines_behind count lines) (reverse front ++ earlier) coming listed
-show-behind context items [] earlier coming listed count standing cards lines h n =
+show-behind : (context : Context) (lists : FieldLists) (front earlier coming listed : List Statement) (count standing : ℕ) (cards : List Card) (lines : List Line) →
+    AreShown context.kind context.rows lists standing cards lines (shown_from context earlier (front ++ coming) listed) → stood earlier + count ≡ stood (reverse front ++ earlier) →
+    ShowBehind context lists (lines_behind count lines) (reverse front ++ earlier) coming listed
+show-behind context lists [] earlier coming listed count standing cards lines h n =
     let none : count ≡ 0 = omega (arith, n) in
-    record { stood = standing; ahead = cards; shown = subst (λ (l : List Line). AreShown context.kind context.rows items standing cards l (shown_from context earlier coming listed)) (sym (ap (λ k. lines_behind k lines) none ∙ behind-none lines)) h }
-show-behind context items (first ∷ front) earlier coming listed count standing cards [] h n = absurd h
-show-behind context items (first ∷ front) earlier coming listed count standing cards (line ∷ lines) h n =
+    record { stood = standing; ahead = cards; shown = subst (λ (l : List Line). AreShown context.kind context.rows lists standing cards l (shown_from context earlier coming listed)) (sym (ap (λ k. lines_behind k lines) none ∙ behind-none lines)) h }
+show-behind context lists (first ∷ front) earlier coming listed count standing cards [] h n = absurd h
+show-behind context lists (first ∷ front) earlier coming listed count standing cards (line ∷ lines) h n =
     let whole = reverse-onto first front earlier in
     let place = ap (λ l. stood l) whole in
     let own : length first.cards ≡ line.cards = ap length (sym h.0.cards) ∙ length-take-le line.cards cards h.0.within in
     let parts = cards_in-append (reverse front) (first ∷ earlier) in
     let one = length-append (cards_in earlier) first.cards in
     let some = h.0.some in
-    let rest = show-behind context items front (first ∷ earlier) coming listed (count - line.cards) (standing + line.cards) (drop line.cards cards) lines h.1 (omega (arith, n, place, own, parts, one)) in
-    subst (λ (both : List Line × List Statement). ShowBehind context items both.0 both.1 coming listed) (λ i. (sym (behind-some count line lines (omega (arith, n, place, own, parts, one, some))) i, whole i)) rest
+    let rest = show-behind context lists front (first ∷ earlier) coming listed (count - line.cards) (standing + line.cards) (drop line.cards cards) lines h.1 (omega (arith, n, place, own, parts, one)) in
+    subst (λ (both : List Line × List Statement). ShowBehind context lists both.0 both.1 coming listed) (λ i. (sym (behind-some count line lines (omega (arith, n, place, own, parts, one, some))) i, whole i)) rest
 
 -- settled alike from the last ones on, and so from the first ones on
 alike-onward : (kind : DeckKind) (before others earlier statements later coming : List Statement) → AreSettledAlike kind before others earlier statements →
@@ -450,9 +450,9 @@ tail-beside kind old cards former parts lines chosen has k tail = by (chosen.tai
         ∙ append_assoc (reverse split.old_front) (reverse split.old_tail) (reverse tail.behind) in
         let whole : reverse (reverse split.old_front) ++ [] ≡ split.old_front = append-none (reverse (reverse split.old_front)) ∙ back in
         let own = ap (λ l. stood l) whole in
-        let shown = show-behind context lines.items.now (reverse split.old_front) [] later has.listed (length old - former.tail) 0 old parts.lines.items
-        (subst (λ (l : List Statement). AreShown context.kind context.rows lines.items.now 0 old parts.lines.items (shown_from context [] l has.listed)) all has.shown) (omega (arith, old_place, own)) in
-        let there = subst (λ (both : List Line × List Statement). ShowBehind context lines.items.now both.0 both.1 later has.listed) (λ i. (sym left i, whole i)) shown in
+        let shown = show-behind context lines.fields.now (reverse split.old_front) [] later has.listed (length old - former.tail) 0 old parts.lines.items
+        (subst (λ (l : List Statement). AreShown context.kind context.rows lines.fields.now 0 old parts.lines.items (shown_from context [] l has.listed)) all has.shown) (omega (arith, old_place, own)) in
+        let there = subst (λ (both : List Line × List Statement). ShowBehind context lines.fields.now both.0 both.1 later has.listed) (λ i. (sym left i, whole i)) shown in
         let front : reverse (reverse split.new_front) ++ [] ≡ split.new_front = append-none (reverse (reverse split.new_front)) ∙ reverse-reverse split.new_front in
         record {
           same_kind = has.same_kind;
@@ -482,7 +482,7 @@ front-beside kind old cards former parts lines chosen has k same =
       same_kind = has.same_kind;
       bindings = has.bindings;
       same = subst (λ n. take n old ≡ take n cards) (sym (chosen.before k)) same;
-      shown = subst (λ (l : List Line). AreShown context.kind context.rows lines.items.now 0 old l (shown_from context [] (reverse (known_in old)) has.listed)) (sym (chosen.alike k)) has.shown;
+      shown = subst (λ (l : List Line). AreShown context.kind context.rows lines.fields.now 0 old l (shown_from context [] (reverse (known_in old)) has.listed)) (sym (chosen.alike k)) has.shown;
     }
 
 -- what is kept of the deck before an edit goes beside a walk that begins

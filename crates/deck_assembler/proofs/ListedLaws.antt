@@ -2,13 +2,8 @@
 use Rattle.std.{proofs.Common.{◌≡◌, ◌∙◌, ℕ, ◌+◌, ◌/◌, ◌%◌, ◌^◌, ◌<◌, Bool, true, false, ◌&&◌, List, [], ◌∷◌, ◌++◌, flat_map, refl, ap, ap₂, sym, arith, if◌then◌else◌}, specs.Prelude.{nat_lt, nat_eq}, proofs.lemmas.Bool.{and_parts, ltb-true}}
 use Rattle.definitions.specs.{Kinds.word_bits, Layout.{Layout, Based}, LinkLines.unfit_words, Operands.{Operand, WordsOperand, TextOperand}, StatementItems.{Item, Content, Known, Linked}, Words.{width_of, cut}, declared.deck_kind.DeckKind.DeckKind, declared.letter.Letter.Letter, Laws.Filling.HasFields}
 use Rattle.statement_coder.{specs.Joins.WordItems.{is_several, known_words, words_of, in_words, listed_fields}, proofs.JoinLaws.{width-listed, joined-listed, same-words_of}}
-use Rattle.deck_objects.specs.Joins.LineItems.{AreBitsOf}
+use Rattle.deck_objects.{specs.Joins.LineItems.AreBitsOf, proofs.WordFields.unfit-known_words}
 use Rattle.deck_assembler.proofs.KnownLaws.{unfit-append, unfit-known}
-
--- known words fit
-unfit-known_words : (layout : Layout) (based : Based) (word from : ℕ) (words : List ℕ) → unfit_words layout based from (known_words word words) ≡ []
-unfit-known_words layout based word from [] = refl
-unfit-known_words layout based word from (n ∷ words) = unfit-known_words layout based word (from + word) words
 
 unfit-cond : (layout : Layout) (based : Based) (from word bits : ℕ) (field : Item) (words : List ℕ) (b : Bool) → field.content ≡ Known bits →
     unfit_words layout based from (if b then known_words word words else field ∷ []) ≡ unfit_words layout based from (field ∷ [])

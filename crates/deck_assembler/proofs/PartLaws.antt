@@ -3,37 +3,37 @@ use Rattle.std.{proofs.Common.{◌≡◌, ◌∙◌, ℕ, ◌+◌, List, [], ◌
 use Rattle.deck_objects.specs.{Joins.CodedLines.{IsCoded, IsStored, AreShown, AreCoded}, Joins.PartsOf.ArePartsOf, declared.lines.CodedLine.CodedLine, declared.lines.Line.Line, declared.object.ObjectParts.ObjectParts}
 use Rattle.deck_assembler.{proofs.ReverseLaws.map-reverse, specs.Joins.SizedDecks.AreListedFrom, specs.Joins.SharedNames.entries_to, specs.Joins.Walks.{Whole, IsWhole, all_settled, context_in, AreShownTo, AreLinedAs}, specs.Joins.DeckWalks.{IsDone, IsListing, shown_with}, specs.declared.deck_lines.DeckLines.DeckLines, specs.declared.deck_walk.Making.Making}
 use Rattle.definitions.{specs.Cards.Card, specs.DeckInput.Deck, specs.DeckKinds.{up_to_end, behind_end, kind_of_statements}, specs.Entries.entries_of, specs.Lengths.BlockRow, specs.Objects.{Shown, shown_of, only_listed, coded_of, context_of, object_in, object_of}, specs.Settled.Settled, specs.Settling.settled_all, specs.StatementItems.Context, specs.Statements.{Statement, statements_of}, specs.Words.Coded, specs.declared.deck_kind.DeckKind.DeckKind, specs.declared.deck_kind.DeckKind.TheVariants.{Rel, Abs, Periph}, proofs.ReachLaws.statements-reach, proofs.RiseLaws.statements-laid_out}
-use Rattle.statement_coder.specs.declared.items.Item as code
+use Rattle.deck_objects.specs.declared.lines.FieldLists.{FieldLists}
 
 -- lines behind which no card is left
-shown-all : (kind : DeckKind) (rows : List BlockRow) (items : List code.Item) (before : ℕ) (cards : List Card) (lines : List Line) (shown : List Shown) (stood : ℕ) (ahead : List Card) →
-    AreShownTo kind rows items before cards lines shown stood ahead → ahead ≡ [] → AreShown kind rows items before cards lines shown
-shown-all kind rows items before cards [] [] stood ahead h e = h.1 ∙ e
-shown-all kind rows items before cards [] (one ∷ shown) stood ahead h e = h
-shown-all kind rows items before cards (line ∷ lines) [] stood ahead h e = h
-shown-all kind rows items before cards (line ∷ lines) (one ∷ shown) stood ahead h e = (h.0, shown-all kind rows items (before + line.cards) (drop line.cards cards) lines shown stood ahead h.1 e)
+shown-all : (kind : DeckKind) (rows : List BlockRow) (lists : FieldLists) (before : ℕ) (cards : List Card) (lines : List Line) (shown : List Shown) (stood : ℕ) (ahead : List Card) →
+    AreShownTo kind rows lists before cards lines shown stood ahead → ahead ≡ [] → AreShown kind rows lists before cards lines shown
+shown-all kind rows lists before cards [] [] stood ahead h e = h.1 ∙ e
+shown-all kind rows lists before cards [] (one ∷ shown) stood ahead h e = h
+shown-all kind rows lists before cards (line ∷ lines) [] stood ahead h e = h
+shown-all kind rows lists before cards (line ∷ lines) (one ∷ shown) stood ahead h e = (h.0, shown-all kind rows lists (before + line.cards) (drop line.cards cards) lines shown stood ahead h.1 e)
 
 -- the statements up to END among those that are shown
 abbrev coded_among : List Shown → List Coded
 coded_among shown = filter_map (λ (one : Shown). one.coded) shown
 
 -- a line more, by what it stores
-abbrev MoreCoded : DeckKind → List BlockRow → List code.Item → List Line → Option CodedLine → List Coded → Type 0
-MoreCoded kind rows items lines stored all = elim stored [
-  | None ↦ AreCoded kind rows items lines all
-  | Some line ↦ elim all [ [] ↦ ⊥ | coded ∷ others ↦ IsCoded kind rows items line coded × AreCoded kind rows items lines others ]
+abbrev MoreCoded : DeckKind → List BlockRow → FieldLists → List Line → Option CodedLine → List Coded → Type 0
+MoreCoded kind rows lists lines stored all = elim stored [
+  | None ↦ AreCoded kind rows lists lines all
+  | Some line ↦ elim all [ [] ↦ ⊥ | coded ∷ others ↦ IsCoded kind rows lists line coded × AreCoded kind rows lists lines others ]
 ]
 
 abbrev with_coded : Option Coded → List Coded → List Coded
 with_coded None others = others
 with_coded (Some coded) others = coded ∷ others
 
-more-coded : (kind : DeckKind) (rows : List BlockRow) (items : List code.Item) (lines : List Line) (stored : Option CodedLine) (coded : Option Coded) (others : List Coded) → IsStored kind rows items stored coded →
-    AreCoded kind rows items lines others → MoreCoded kind rows items lines stored (with_coded coded others)
-more-coded kind rows items lines None None others h rest = rest
-more-coded kind rows items lines None (Some coded) others h rest = absurd h
-more-coded kind rows items lines (Some line) None others h rest = absurd h
-more-coded kind rows items lines (Some line) (Some coded) others h rest = (h, rest)
+more-coded : (kind : DeckKind) (rows : List BlockRow) (lists : FieldLists) (lines : List Line) (stored : Option CodedLine) (coded : Option Coded) (others : List Coded) → IsStored kind rows lists stored coded →
+    AreCoded kind rows lists lines others → MoreCoded kind rows lists lines stored (with_coded coded others)
+more-coded kind rows lists lines None None others h rest = rest
+more-coded kind rows lists lines None (Some coded) others h rest = absurd h
+more-coded kind rows lists lines (Some line) None others h rest = absurd h
+more-coded kind rows lists lines (Some line) (Some coded) others h rest = (h, rest)
 
 coded-among : (one : Shown) (shown : List Shown) → coded_among (one ∷ shown) ≡ with_coded one.coded (coded_among shown)
 coded-among one shown = step one.coded
@@ -42,14 +42,14 @@ coded-among one shown = step one.coded
     step None = refl
     step (Some coded) = refl
 
-coded-shown : (kind : DeckKind) (rows : List BlockRow) (items : List code.Item) (before : ℕ) (cards : List Card) (lines : List Line) (shown : List Shown) → AreShown kind rows items before cards lines shown →
-    AreCoded kind rows items lines (coded_among shown)
-coded-shown kind rows items before cards [] [] h = tt
-coded-shown kind rows items before cards [] (one ∷ shown) h = absurd h
-coded-shown kind rows items before cards (line ∷ lines) [] h = absurd h
-coded-shown kind rows items before cards (line ∷ lines) (one ∷ shown) h =
-    subst (MoreCoded kind rows items lines line.coded) (sym (coded-among one shown))
-    (more-coded kind rows items lines line.coded one.coded (coded_among shown) h.0.stored (coded-shown kind rows items (before + line.cards) (drop line.cards cards) lines shown h.1))
+coded-shown : (kind : DeckKind) (rows : List BlockRow) (lists : FieldLists) (before : ℕ) (cards : List Card) (lines : List Line) (shown : List Shown) → AreShown kind rows lists before cards lines shown →
+    AreCoded kind rows lists lines (coded_among shown)
+coded-shown kind rows lists before cards [] [] h = tt
+coded-shown kind rows lists before cards [] (one ∷ shown) h = absurd h
+coded-shown kind rows lists before cards (line ∷ lines) [] h = absurd h
+coded-shown kind rows lists before cards (line ∷ lines) (one ∷ shown) h =
+    subst (MoreCoded kind rows lists lines line.coded) (sym (coded-among one shown))
+    (more-coded kind rows lists lines line.coded one.coded (coded_among shown) h.0.stored (coded-shown kind rows lists (before + line.cards) (drop line.cards cards) lines shown h.1))
 
 among-up_to_end : (context : Context) (settled : List Settled) → coded_among (map (shown_of context) settled) ≡ map (coded_of context) settled
 among-up_to_end context [] = refl
@@ -76,15 +76,15 @@ entries-all Periph settled = refl
 
 -- all lines of a deck
 done-shown : (whole : Whole) (lines : DeckLines) → IsListing whole [] lines →
-    AreShown whole.deck.kind whole.rows lines.items.items 0 whole.cards lines.lines.items (shown_with whole (reverse whole.others))
+    AreShown whole.deck.kind whole.rows lines.fields 0 whole.cards lines.lines.items (shown_with whole (reverse whole.others))
 done-shown whole lines listing = step listing.coming listing.all listing.listed
   where
     step : (coming : List Statement) → listing.passed ++ coming ≡ reverse whole.others → AreListedFrom lines.stood (drop lines.stood whole.cards) [] coming →
-        AreShown whole.deck.kind whole.rows lines.items.items 0 whole.cards lines.lines.items (shown_with whole (reverse whole.others))
+        AreShown whole.deck.kind whole.rows lines.fields 0 whole.cards lines.lines.items (shown_with whole (reverse whole.others))
     step [] all h =
         let passed : listing.passed ≡ reverse whole.others = sym (append-nil listing.passed) ∙ all in
         let lined = subst (λ (l : List Statement). AreLinedAs whole (shown_with whole l) lines) passed listing.lined in
-        shown-all whole.deck.kind whole.rows lines.items.items 0 whole.cards lines.lines.items (shown_with whole (reverse whole.others)) lines.stood (drop lines.stood whole.cards) lined h
+        shown-all whole.deck.kind whole.rows lines.fields 0 whole.cards lines.lines.items (shown_with whole (reverse whole.others)) lines.stood (drop lines.stood whole.cards) lined h
     step (given ∷ coming) all h = absurd h
 
 -- what the statements were coded with is what the definitions have
@@ -99,7 +99,7 @@ pub record AreMade (whole : Whole) (made : Making) (parts : ObjectParts) : Type 
   pub rows : parts.bases ≡ whole.rows
   pub literals : parts.literals.items ≡ whole.deck.literals
   pub lines : parts.lines.items ≡ made.lines.lines.items
-  pub items : parts.items.items ≡ made.lines.items.items
+  pub fields : parts.fields ≡ made.lines.fields
   pub entries : parts.entries.items ≡ made.names
   pub externals : parts.externals.items ≡ whole.deck.externals
 
@@ -113,11 +113,11 @@ made-parts name whole made parts is done are =
     let shown = done-shown whole made.lines done.listing in
     let listing : shown_with whole (reverse whole.others) ≡ reverse (map only_listed whole.others ++ map (shown_of context) settled) =
     ap (λ (c : Context). reverse (map (shown_of c) settled) ++ map only_listed (reverse whole.others)) same ∙ sym (shown-object context settled whole.others) in
-    let moved = λ (P : DeckKind → List BlockRow → List code.Item → List Line → Type 0) (h : P kind whole.rows made.lines.items.items made.lines.lines.items).
-    subst (λ (k : DeckKind). P k parts.bases parts.items.items parts.lines.items) (sym are.kind)
-    (subst (λ (r : List BlockRow). P kind r parts.items.items parts.lines.items) (sym are.rows)
-    (subst (λ (i : List code.Item). P kind whole.rows i parts.lines.items) (sym are.items)
-    (subst (λ (l : List Line). P kind whole.rows made.lines.items.items l) (sym are.lines) h))) in
+    let moved = λ (P : DeckKind → List BlockRow → FieldLists → List Line → Type 0) (h : P kind whole.rows made.lines.fields made.lines.lines.items).
+    subst (λ (k : DeckKind). P k parts.bases parts.fields parts.lines.items) (sym are.kind)
+    (subst (λ (r : List BlockRow). P kind r parts.fields parts.lines.items) (sym are.rows)
+    (subst (λ (i : FieldLists). P kind whole.rows i parts.lines.items) (sym are.fields)
+    (subst (λ (l : List Line). P kind whole.rows made.lines.fields l) (sym are.lines) h))) in
     record {
       kind = are.kind;
       rows = are.rows ∙ is.rows;
@@ -125,11 +125,11 @@ made-parts name whole made parts is done are =
       entries = are.entries ∙ done.noted ∙ entries-all kind settled;
       externals = are.externals ∙ is.sized.externals;
       shown = moved (λ k r i l. AreShown k r i 0 whole.cards l (reverse (map only_listed whole.others ++ map (shown_of context) settled)))
-          (subst (AreShown kind whole.rows made.lines.items.items 0 whole.cards made.lines.lines.items) listing shown);
+          (subst (AreShown kind whole.rows made.lines.fields 0 whole.cards made.lines.lines.items) listing shown);
       coded = moved (λ k r i l. AreCoded k r i l (reverse (map (coded_of context) settled)))
-          (subst (AreCoded kind whole.rows made.lines.items.items made.lines.lines.items)
+          (subst (AreCoded kind whole.rows made.lines.fields made.lines.lines.items)
           (ap coded_among (listing ∙ shown-object context settled whole.others) ∙ coded-object context settled whole.others)
-          (coded-shown kind whole.rows made.lines.items.items 0 whole.cards made.lines.lines.items (shown_with whole (reverse whole.others)) shown));
+          (coded-shown kind whole.rows made.lines.fields 0 whole.cards made.lines.lines.items (shown_with whole (reverse whole.others)) shown));
       laid = statements-laid_out kind whole.known context refl;
       reach = statements-reach kind whole.known context;
       few = is.few;

@@ -19,9 +19,9 @@ use crate::deck_view::DeckView;
 use crate::former_lines::FormerLine;
 use crate::line_coder::statement_line;
 use cards::Card;
-use deck_objects::Line;
+use deck_objects::{FieldLists, Line};
 use operations::Letters;
-use statement_coder::{Item, Meter, ReadOperand};
+use statement_coder::{Meter, ReadOperand};
 use std::alloc::{AllocError, Global};
 
 /// The lines so far with the fields that they list, how many cards they have, and the index of the
@@ -29,7 +29,7 @@ use std::alloc::{AllocError, Global};
 #[derive(Drop)]
 pub(crate) struct DeckLines {
     pub(crate) lines: Vec<Line>,
-    pub(crate) items: Vec<Item>,
+    pub(crate) fields: FieldLists,
     pub(crate) stood: usize,
     block: u32,
 }
@@ -54,13 +54,17 @@ pub(crate) fn later_cards(cards: &[Card], count: usize) -> &[Card]
 
 impl DeckLines {
     /// Those of no statement, with memory for so many lines and for so many fields.
-    pub(crate) fn new(alloc: Global, room: usize, items: usize) -> Result<DeckLines, AllocError>
+    pub(crate) fn new(
+        alloc: Global,
+        room: usize,
+        fields: &FieldLists,
+    ) -> Result<DeckLines, AllocError>
         ensures lined { IfOk result (λ lines. (whole : Whole) → AreLined whole [] lines) }
         ensures stood { IfOk result (λ lines. lines.stood ≡ 0) }
     {
         Ok(DeckLines {
             lines: Vec::with_capacity(alloc, room)?,
-            items: Vec::with_capacity(alloc, items)?,
+            fields: FieldLists::with_room(alloc, fields)?,
             stood: 0,
             block: 0,
         })
@@ -85,7 +89,7 @@ impl DeckLines {
         ensures sized { meter.new.sized ≡ meter.old.sized }
     {
         let block = block_index(view.bases.rows(), sized.sizing.block(), self.block);
-        let line = statement_line(view, read, sized, block, &mut self.items, meter)?;
+        let line = statement_line(view, read, sized, block, &mut self.fields, meter)?;
         self.lines.push(line)?;
         self.block = block;
         self.stood = self.stood.saturating_add(sized.cards as usize);
@@ -104,12 +108,12 @@ impl DeckLines {
             let whole = whole_of view.now known others in
             let settled = settle whole.deck.kind (settled_all whole.deck.kind earlier) given in
             IsWhole whole → IsSizedStatement whole.deck.kind earlier self.old.stood (drop self.old.stood whole.cards) sized.now given → has_row settled.block whole.rows ≡ true →
-            found.now.line.now.letters ≡ (shown_of (context_in whole) settled).letters → IsCoded whole.deck.kind rows found.now.items.now found.now.coded.now (coded_of (context_in whole) settled) →
+            found.now.line.now.letters ≡ (shown_of (context_in whole) settled).letters → IsCoded whole.deck.kind rows found.now.fields.now found.now.coded.now (coded_of (context_in whole) settled) →
             AreLined whole earlier self.old → AreLined whole (given ∷ earlier) self.new) }
         ensures stood { OnOk result (self.new.stood ≡ min (self.old.stood + sized.now.cards) (2 ^ 64 - 1)) }
     {
         let block = block_index(view.bases.rows(), sized.sizing.block(), self.block);
-        let line = copied_line(found.coded, block, found.items, &mut self.items)?;
+        let line = copied_line(found.coded, block, found.fields, &mut self.fields)?;
         self.lines.push(Line {
             cards: sized.cards as u32,
             letters: found.line.letters.copied(),

@@ -15,6 +15,7 @@ use crate::deck_view::DeckView;
 use crate::entry_names::EntryNames;
 use crate::former_lines::{FormerLine, FormerLines};
 use crate::{Piece, SizedDeck, SizedStatement};
+use deck_objects::FieldLists;
 use statement_coder::{Meter, kept_operand};
 use std::alloc::{AllocError, Global};
 use std::hash::RandomState;
@@ -38,14 +39,14 @@ impl Making {
         alloc: Global,
         keys: RandomState,
         view: &DeckView<'_>,
-        items: usize,
+        fields: &FieldLists,
     ) -> Result<Making, AllocError>
         ensures made { IfOk result (λ made. (known others : List statements.Statement) (former : FormerLines) → let whole = whole_of view.now known others in
             IsWhole whole → IsBeside whole.deck.kind whole.cards [] (reverse known) 0 former → IsWalkedBeside whole (sized_in whole.deck.pieces) made former) }
         ensures stood { IfOk result (λ made. made.lines.stood ≡ 0) }
     {
         Ok(Making {
-            lines: DeckLines::new(alloc, line_room(view.deck), items)?,
+            lines: DeckLines::new(alloc, line_room(view.deck), fields)?,
             names: EntryNames::new(alloc, keys),
         })
     }
@@ -214,7 +215,7 @@ pub(crate) fn walk(
     ensures anew { OnOk result (CountsWalkAnew view.now former.entry meter.old meter.new) }
     ensures sized { meter.new.sized ≡ meter.old.sized }
 {
-    let mut made = Making::new(alloc, keys, view, former.items.len())?;
+    let mut made = Making::new(alloc, keys, view, former.fields)?;
     let mut left = former;
     made.add_pieces(view, view.deck.pieces(), &mut left, same, meter)?;
     list_all(&mut made.lines, view.deck.behind())?;

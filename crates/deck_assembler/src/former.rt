@@ -182,7 +182,7 @@ impl Former {
         FormerLines {
             left: front.lines,
             tail: self.tail_lines(alike, old, count),
-            items: parts.items.as_slice(),
+            fields: &parts.fields,
             before: front.cards,
             bindings: self.bindings(&parts.bases),
         }

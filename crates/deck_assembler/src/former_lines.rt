@@ -13,15 +13,15 @@ ghost use Rattle.deck_assembler.specs.Joins.Rebindings.{AreBindings};
 
 use crate::deck_view::DeckView;
 use crate::rebinding::{Bindings, Rebinding};
-use deck_objects::{CodedLine, Line};
-use statement_coder::{Item, KeptSizing, ReadOperand};
+use deck_objects::{CodedLine, FieldLists, Line};
+use statement_coder::{KeptSizing, ReadOperand};
 
 /// The line of a statement in the object before an edit, and what names meant there.
 #[derive(Clone, Copy)]
 pub(crate) struct FormerLine<'a> {
     pub(crate) line: &'a Line,
     pub(crate) coded: &'a CodedLine,
-    pub(crate) items: &'a [Item],
+    pub(crate) fields: &'a FieldLists,
     pub(crate) bindings: Bindings<'a>,
 }
 
@@ -39,7 +39,7 @@ pub(crate) struct TailLines<'a> {
 pub(crate) struct FormerLines<'a> {
     pub(crate) left: &'a [Line],
     pub(crate) tail: TailLines<'a>,
-    pub(crate) items: &'a [Item],
+    pub(crate) fields: &'a FieldLists,
     pub(crate) before: usize,
     pub(crate) bindings: Bindings<'a>,
 }
@@ -54,13 +54,13 @@ pub(crate) fn ends_within(stood: usize, count: u32, before: usize) -> bool
 
 impl<'a> FormerLines<'a> {
     /// No lines: all statements of this deck are coded.
-    pub(crate) fn none(view: &DeckView<'a>) -> FormerLines<'a>
+    pub(crate) fn none(view: &DeckView<'a>, nothing: &'a FieldLists) -> FormerLines<'a>
         ensures { IsBare result }
     {
         FormerLines {
             left: &[],
             tail: TailLines { left: &[], at: 0 },
-            items: &[],
+            fields: nothing,
             before: 0,
             bindings: view.bindings(),
         }
@@ -98,7 +98,7 @@ impl<'a> FormerLines<'a> {
         Some(FormerLine {
             line,
             coded,
-            items: self.items,
+            fields: self.fields,
             bindings: self.bindings,
         })
     }
@@ -122,7 +122,7 @@ impl<'a> FormerLines<'a> {
         Some(FormerLine {
             line,
             coded,
-            items: self.items,
+            fields: self.fields,
             bindings: self.bindings,
         })
     }

@@ -19,20 +19,24 @@ use crate::deck_walk::walk;
 use crate::former::EditedDeck;
 use crate::former_lines::FormerLines;
 use cards::Card;
-use deck_objects::{Object, ObjectParts};
+use deck_objects::{FieldLists, Object, ObjectParts};
 use statement_coder::Meter;
 use std::alloc::{AllocError, Global};
 use std::hash::RandomState;
 use use_blocks::Bases;
 
 /// The lines of the object before, or none.
-fn lines_or_none<'a>(former: Option<FormerLines<'a>>, view: &DeckView<'a>) -> FormerLines<'a>
+fn lines_or_none<'a>(
+    former: Option<FormerLines<'a>>,
+    view: &DeckView<'a>,
+    nothing: &'a FieldLists,
+) -> FormerLines<'a>
     ensures some { IfSome former.entry (λ lines. result ≡ lines) }
     ensures none { former.entry ≡ None → IsBare result }
 {
     match former {
         Some(lines) => lines,
-        None => FormerLines::none(view),
+        None => FormerLines::none(view, nothing),
     }
 }
 
@@ -76,12 +80,13 @@ fn parts_beside<'a>(
         deck,
         bases: &bases,
     };
+    let nothing = FieldLists::none(alloc);
     let same = do_mean_same(&former, &view);
     let made = walk(
         alloc,
         keys,
         &view,
-        lines_or_none(former, &view),
+        lines_or_none(former, &view, &nothing),
         same,
         meter,
     )?;
@@ -90,7 +95,7 @@ fn parts_beside<'a>(
     Ok(ObjectParts {
         kind: deck.kind(),
         lines: lines.lines,
-        items: lines.items,
+        fields: lines.fields,
         bases,
         literals,
         entries,

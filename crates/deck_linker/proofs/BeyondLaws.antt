@@ -1,8 +1,8 @@
 -- Whether an object stores a word beyond its memory, by its lines and its literals.
 use Rattle.std.{proofs.Common.{ℕ, zero, suc, ◌≡◌, ◌+◌, ◌≤◌, Bool, true, false, not, ◌&&◌, ◌||◌, cond, List, [], ◌∷◌, Option, Some, None, length, take, drop, refl, sym, ap, ap₂, ◌∙◌, arith}, specs.Prelude.{map, nat_lt, nat_le, filter, flat_map, reverse, slice_get}, specs.List.list_any, proofs.lemmas.List.{length-drop, reverse-append}, proofs.lemmas.List.Folds.list_any-append, proofs.lemmas.Bool.Decides.nat_tests}
-use Rattle.definitions.specs.{Blocks.{is_common, literals_block}, Characters.same_text, Cards.Card, Kinds.memory_end, Lengths.BlockRow, Layout.{addressed, block_words, has_beyond, is_beyond, literal_stored}, Objects.Object, StatementItems.Item, Words.{Coded, Linking, StoredWord, stored_words}, declared.deck_kind.DeckKind.DeckKind}
+use Rattle.definitions.specs.{Blocks.{is_common, literals_block}, Characters.same_text, Cards.Card, Kinds.{memory_end, word_bits}, Lengths.BlockRow, Layout.{addressed, block_words, has_beyond, is_beyond, literal_stored}, Objects.Object, StatementItems.{Item, known}, Words.{Coded, Linking, StoredWord, stored_words}, declared.deck_kind.DeckKind.DeckKind}
 use Rattle.statement_coder.specs.Joins.Items.{item_as}
-use Rattle.statement_coder.specs.declared.items.Item as code
+use Rattle.deck_objects.specs.declared.lines.FieldLists.{FieldLists}
 use Rattle.deck_objects.specs.{Joins.CodedLines.{AreCoded, IsCoded, IsNamed}, Joins.LineItems.{AreBitsOf, AreKept, kept_from, kept_items}, Joins.PartsOf.ArePartsOf, declared.lines.CodedLine.CodedLine, declared.lines.Line.Line, declared.lines.LineFields.LineFields, declared.object.ObjectParts.ObjectParts}
 use Rattle.deck_objects.specs.declared.lines.LineFields.TheVariants as fields
 use Rattle.deck_linker.{specs.Joins.Beyond.{coded_beyond, has_items, keeps_fields, literals_beyond, stores_beyond}, proofs.TestLaws.lt-true, proofs.WordLaws.{any-block, list_any-same}}
@@ -126,19 +126,21 @@ some-items (other ∷ kept) [] bits = absurd (none-left other kept (bits.none re
 some-items (other ∷ kept) (item ∷ items) bits = refl
 
 -- so many of a list, which has as many
-some-listed : (count : ℕ) (all : List code.Item) → count ≤ length all → nat_lt 0 count ≡ has_items (map item_as (take count all))
-some-listed zero all h = refl
-some-listed (suc count) [] h = absurd (omega arith)
-some-listed (suc count) (item ∷ all) h = lt-true 0 (suc count) (omega arith)
+some-listed : {A : Type 0} (field : A → Item) (count : ℕ) (all : List A) → count ≤ length all → nat_lt 0 count ≡ has_items (map field (take count all))
+some-listed field zero all h = refl
+some-listed field (suc count) [] h = absurd (omega arith)
+some-listed field (suc count) (x ∷ all) h = lt-true 0 (suc count) (omega arith)
 
 -- a line keeps fields
-keeps : (kind : DeckKind) (items : List code.Item) (line : CodedLine) (place end : ℕ) (kept : LineFields) → AreKept kind items line kept →
-    keeps_fields kept ≡ has_items (kept_from kind items place end kept)
-keeps kind items line place end fields.Absent h = refl
-keeps kind items line place end (fields.Known bits) h = refl
-keeps kind items line place end (fields.Listed first count) h =
-    some-listed count (drop first items) (let within = h.0 in omega (arith, length-drop first items))
-keeps kind items line place end fields.Zeros h = refl
+keeps : (kind : DeckKind) (lists : FieldLists) (line : CodedLine) (place end : ℕ) (kept : LineFields) → AreKept kind lists line kept →
+    keeps_fields kept ≡ has_items (kept_from kind lists place end kept)
+keeps kind lists line place end fields.Absent h = refl
+keeps kind lists line place end (fields.Known bits) h = refl
+keeps kind lists line place end (fields.Words first count) h =
+    some-listed (known (word_bits kind)) count (drop first lists.words.items) (let within = h.1.0 in omega (arith, length-drop first lists.words.items))
+keeps kind lists line place end (fields.Listed first count) h =
+    some-listed item_as count (drop first lists.items.items) (let within = h.0 in omega (arith, length-drop first lists.items.items))
+keeps kind lists line place end fields.Zeros h = refl
 
 -- the block of a line
 named : (o : Option BlockRow) (block name : List ℕ) → IsNamed o block → elim o [ None ↦ false | Some row ↦ same_text row.name name ] ≡ same_text block name
@@ -161,24 +163,24 @@ turned false false c true = refl
 turned false false c false = refl
 
 -- a line is its statement
-line-coded : (kind : DeckKind) (rows : List BlockRow) (items : List code.Item) (row : BlockRow) (line : CodedLine) (coded : Coded) → IsCoded kind rows items line coded →
+line-coded : (kind : DeckKind) (rows : List BlockRow) (lists : FieldLists) (row : BlockRow) (line : CodedLine) (coded : Coded) → IsCoded kind rows lists line coded →
     line_of_row kind rows row line ≡ coded_beyond kind row coded
-line-coded kind rows items row line coded is =
+line-coded kind rows lists row line coded is =
     let stores : stores_beyond kind row.base line.place line.end ≡ stores_beyond kind row.base coded.settled.place coded.settled.end =
     ap₂ (λ (place end : ℕ). stores_beyond kind row.base place end) is.place is.end in
     let begins : not line.begins_run ≡ not coded.settled.begins_run = ap not is.begins_run in
     let keeps_some : keeps_fields line.fields ≡ has_items coded.fields =
-    keeps kind items line line.place line.end line.fields is.kept ∙ some-items (kept_items kind items line) coded.fields is.fields in
+    keeps kind lists line line.place line.end line.fields is.kept ∙ some-items (kept_items kind lists line) coded.fields is.fields in
     let block : is_named_at rows line.block row.name ≡ same_text coded.settled.block row.name = named (slice_get rows line.block) coded.settled.block row.name is.block in
     ap₂ (λ (a b : Bool). a && (b && (keeps_fields line.fields && is_named_at rows line.block row.name))) stores begins
     ∙ ap₂ (λ (c d : Bool). stores_beyond kind row.base coded.settled.place coded.settled.end && (not coded.settled.begins_run && (c && d))) keeps_some block
     ∙ turned (stores_beyond kind row.base coded.settled.place coded.settled.end) (not coded.settled.begins_run) (has_items coded.fields) (same_text coded.settled.block row.name)
 
 -- the statements of lines, by what the first line stores
-abbrev CodedBy : DeckKind → List BlockRow → List code.Item → List Line → Option CodedLine → List Coded → Type 0
-CodedBy kind rows items lines stored all = elim stored [
-  | None ↦ AreCoded kind rows items lines all
-  | Some line ↦ elim all [ [] ↦ ⊥ | coded ∷ others ↦ IsCoded kind rows items line coded × AreCoded kind rows items lines others ]
+abbrev CodedBy : DeckKind → List BlockRow → FieldLists → List Line → Option CodedLine → List Coded → Type 0
+CodedBy kind rows lists lines stored all = elim stored [
+  | None ↦ AreCoded kind rows lists lines all
+  | Some line ↦ elim all [ [] ↦ ⊥ | coded ∷ others ↦ IsCoded kind rows lists line coded × AreCoded kind rows lists lines others ]
 ]
 
 -- whether a line stores a word beyond memory, by what it stores
@@ -186,19 +188,19 @@ abbrev beyond_by : DeckKind → List BlockRow → BlockRow → Option CodedLine 
 beyond_by kind rows row stored = elim stored [ None ↦ false | Some line ↦ line_of_row kind rows row line ]
 
 -- lines are their statements
-lines-coded : (kind : DeckKind) (rows : List BlockRow) (items : List code.Item) (row : BlockRow) (lines : List Line) (all : List Coded) → AreCoded kind rows items lines all →
+lines-coded : (kind : DeckKind) (rows : List BlockRow) (lists : FieldLists) (row : BlockRow) (lines : List Line) (all : List Coded) → AreCoded kind rows lists lines all →
     list_any (listed_of_row kind rows row) lines ≡ list_any (coded_beyond kind row) all
-lines-coded kind rows items row [] [] are = refl
-lines-coded kind rows items row [] (coded ∷ others) are = absurd are
-lines-coded kind rows items row (line ∷ lines) all are = by_line line.coded all (λ (others : List Coded). lines-coded kind rows items row lines others) are
+lines-coded kind rows lists row [] [] are = refl
+lines-coded kind rows lists row [] (coded ∷ others) are = absurd are
+lines-coded kind rows lists row (line ∷ lines) all are = by_line line.coded all (λ (others : List Coded). lines-coded kind rows lists row lines others) are
   where
     by_line : (stored : Option CodedLine) (all : List Coded) →
-        ((others : List Coded) → AreCoded kind rows items lines others → list_any (listed_of_row kind rows row) lines ≡ list_any (coded_beyond kind row) others) →
-        CodedBy kind rows items lines stored all →
+        ((others : List Coded) → AreCoded kind rows lists lines others → list_any (listed_of_row kind rows row) lines ≡ list_any (coded_beyond kind row) others) →
+        CodedBy kind rows lists lines stored all →
         (beyond_by kind rows row stored || list_any (listed_of_row kind rows row) lines) ≡ list_any (coded_beyond kind row) all
     by_line None all rest are = rest all are
     by_line (Some coded) [] rest are = absurd are
-    by_line (Some coded) (first ∷ others) rest are = ap₂ (λ (a b : Bool). a || b) (line-coded kind rows items row coded first are.0) (rest others are.1)
+    by_line (Some coded) (first ∷ others) rest are = ap₂ (λ (a b : Bool). a || b) (line-coded kind rows lists row coded first are.0) (rest others are.1)
 
 -- what is found in a list is found from its end
 or-turned : (a b : Bool) → (a || b) ≡ (b || (a || false))
@@ -225,7 +227,7 @@ rows-beyond cards parts object are =
     block : (row : BlockRow) (t : Bool) → kept_beyond parts row t ≡ block_by object row t
     block row true = ap₂ (λ (kind : DeckKind) (literals : List ℕ). literals_beyond kind row.base (length literals)) are.kind are.literals
     block row false =
-        lines-coded parts.kind parts.bases parts.items.items row parts.lines.items (reverse object.coded) are.coded
+        lines-coded parts.kind parts.bases parts.fields row parts.lines.items (reverse object.coded) are.coded
         ∙ any-reverse (coded_beyond parts.kind row) object.coded
         ∙ ap (λ (kind : DeckKind). list_any (coded_beyond kind row) object.coded) are.kind
 

@@ -1,7 +1,7 @@
 -- A deck that has no block of a name stores nothing there.
 use Rattle.std.{proofs.Common.{◌≡◌, ℕ, zero, suc, List, [], ◌∷◌, Option, Some, None, Bool, true, false, ◌||◌, refl, sym, ap, ◌∙◌}, specs.Prelude.{slice_get, reverse}, specs.List.list_any, proofs.lemmas.List.Folds.list_any-append, proofs.lemmas.List.reverse-append}
 use Rattle.definitions.specs.{Characters.same_text, Lengths.BlockRow, Words.{Coded, Linking, Parcel, onto_runs, parcels_of, runs_of, stored, stored_words, words_in}, declared.deck_kind.DeckKind.DeckKind}
-use Rattle.statement_coder.specs.declared.items.Item as code
+use Rattle.deck_objects.specs.declared.lines.FieldLists.{FieldLists}
 use Rattle.deck_objects.specs.{Joins.CodedLines.{IsNamed, AreCoded}, declared.lines.Line.Line}
 use Rattle.deck_objects.specs.declared.lines.CodedLine as lines
 use Rattle.deck_linker.proofs.UnfitLaws.{IsGoingOn}
@@ -35,14 +35,14 @@ row_other name block (row ∷ rows) zero e h = ap (λ (b : List ℕ). same_text 
 row_other name block (row ∷ rows) (suc i) e h = row_other name block rows i (second_false (is_row_of name row) (list_any (is_row_of name) rows) e) h
 
 -- no statement stands in the block
-none-stands : (name : List ℕ) (kind : DeckKind) (rows : List BlockRow) (items : List code.Item) (statements : List Line) (all : List Coded) → list_any (is_row_of name) rows ≡ false →
-    AreCoded kind rows items statements all → list_any (stands_in name) all ≡ false
-none-stands name kind rows items [] [] e h = refl
-none-stands name kind rows items [] (coded ∷ others) e h = absurd h
-none-stands name kind rows items (line ∷ behind) all e h = step line.coded all (λ others k. none-stands name kind rows items behind others e k) h
+none-stands : (name : List ℕ) (kind : DeckKind) (rows : List BlockRow) (lists : FieldLists) (statements : List Line) (all : List Coded) → list_any (is_row_of name) rows ≡ false →
+    AreCoded kind rows lists statements all → list_any (stands_in name) all ≡ false
+none-stands name kind rows lists [] [] e h = refl
+none-stands name kind rows lists [] (coded ∷ others) e h = absurd h
+none-stands name kind rows lists (line ∷ behind) all e h = step line.coded all (λ others k. none-stands name kind rows lists behind others e k) h
   where
-    step : (stored : Option lines.CodedLine) (all : List Coded) → ((others : List Coded) → AreCoded kind rows items behind others → list_any (stands_in name) others ≡ false) →
-        IsGoingOn kind rows items behind stored all → list_any (stands_in name) all ≡ false
+    step : (stored : Option lines.CodedLine) (all : List Coded) → ((others : List Coded) → AreCoded kind rows lists behind others → list_any (stands_in name) others ≡ false) →
+        IsGoingOn kind rows lists behind stored all → list_any (stands_in name) all ≡ false
     step None all again h = again all h
     step (Some stored) [] again h = absurd h
     step (Some stored) (coded ∷ others) again h = both_false (stands_in name coded) (list_any (stands_in name) others) (row_other name coded.settled.block rows stored.block e h.0.block) (again others h.1)
@@ -68,8 +68,8 @@ one-run kind linking name (coded ∷ others) e =
     ∙ one-run kind linking name others (second_false (stands_in name coded) (list_any (stands_in name) others) e)
 
 -- a deck without a row of the name stores nothing in its block
-pub stored-nowhere : (kind : DeckKind) (linking : Linking) (name : List ℕ) (rows : List BlockRow) (items : List code.Item) (statements : List Line) (all : List Coded) → list_any (is_row_of name) rows ≡ false →
-    AreCoded kind rows items statements (reverse all) → stored_words kind linking name all ≡ []
-stored-nowhere kind linking name rows items statements all e h =
-    let alone = one-run kind linking name all (none-back name all (none-stands name kind rows items statements (reverse all) e h)) in
+pub stored-nowhere : (kind : DeckKind) (linking : Linking) (name : List ℕ) (rows : List BlockRow) (lists : FieldLists) (statements : List Line) (all : List Coded) → list_any (is_row_of name) rows ≡ false →
+    AreCoded kind rows lists statements (reverse all) → stored_words kind linking name all ≡ []
+stored-nowhere kind linking name rows lists statements all e h =
+    let alone = one-run kind linking name all (none-back name all (none-stands name kind rows lists statements (reverse all) e h)) in
     ap (λ (runs : List (List Parcel)). stored kind runs (words_in kind runs)) alone

@@ -19,6 +19,7 @@ fn keeps_fields(fields: LineFields) -> bool
     match fields {
         LineFields::Absent => false,
         LineFields::Known(_) => true,
+        LineFields::Words { count, .. } => count > 0,
         LineFields::Listed { count, .. } => count > 0,
         LineFields::Zeros => true,
     }

@@ -93,8 +93,8 @@ fn push_unfit_line(
     parts: &ObjectParts,
     line: &CodedLine,
 ) -> Result<(), AllocError>
-    requires kept { AreKept based.now.object.kind parts.now.items.items line.now line.now.fields }
-    ensures { OnOk result (out.new ≡ with_lines out.old (unfit_in layout.now based.now parts.now.items.items line.now (slice_get parts.now.bases line.now.block))) }
+    requires kept { AreKept based.now.object.kind parts.now.fields line.now line.now.fields }
+    ensures { OnOk result (out.new ≡ with_lines out.old (unfit_in layout.now based.now parts.now.fields line.now (slice_get parts.now.bases line.now.block))) }
 {
     let LineFields::Listed { first, count } = line.fields else {
         return Ok(());
@@ -103,7 +103,7 @@ fn push_unfit_line(
         return Ok(());
     };
     let from = bit_of(kind(based), line.place);
-    let items = listed(parts.items.as_slice(), first, count);
+    let items = listed(parts.fields.items.as_slice(), first, count);
     push_unfit_items(out, layout, based, row.name(), from, items)
 }
 
@@ -115,8 +115,8 @@ fn push_unfit_of(
     parts: &ObjectParts,
     line: &Line,
 ) -> Result<(), AllocError>
-    requires { IsKept based.now.object.kind parts.now.items.items line.now.coded }
-    ensures { OnOk result (out.new ≡ with_lines out.old (unfit_of layout.now based.now parts.now.bases parts.now.items.items line.now.coded)) }
+    requires { IsKept based.now.object.kind parts.now.fields line.now.coded }
+    ensures { OnOk result (out.new ≡ with_lines out.old (unfit_of layout.now based.now parts.now.bases parts.now.fields line.now.coded)) }
 {
     match &line.coded {
         Some(coded) => push_unfit_line(out, layout, based, parts, coded),
@@ -133,8 +133,8 @@ fn push_unfit_lines(
     parts: &ObjectParts,
     lines: &[Line],
 ) -> Result<(), AllocError>
-    requires { AllAreKept based.now.object.kind parts.now.items.items lines.now }
-    ensures { OnOk result (out.new ≡ with_lines out.old (unfit_lines layout.now based.now parts.now.bases parts.now.items.items lines.now)) }
+    requires { AllAreKept based.now.object.kind parts.now.fields lines.now }
+    ensures { OnOk result (out.new ≡ with_lines out.old (unfit_lines layout.now based.now parts.now.bases parts.now.fields lines.now)) }
 {
     for line in lines {
         push_unfit_of(out, layout, based, parts, line)?;

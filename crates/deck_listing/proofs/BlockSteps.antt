@@ -1,7 +1,7 @@
 -- The words of all blocks: a statement of one block changes the words at its place alone.
 use Rattle.std.{proofs.Common.{◌≡◌, ℕ, zero, suc, ◌+◌, ◌<◌, false, List, [], ◌∷◌, ◌++◌, Option, Some, None, length, get_or, length-set, map, refl, sym, ap, ap₂, subst, ◌∙◌, inl, inr, arith}, specs.Prelude.{Vec, slice_get, slice_set}, specs.List.{AllByRecursion, AllZip}, proofs.lemmas.List.length-append, proofs.lemmas.Map.Keys.{IsDistinct-head, IsDistinct-tail}, proofs.lemmas.Option.{slice_get-get_or, slice_get_read, slice_get_within}}
 use Rattle.definitions.{specs.Characters.same_text, specs.Lengths.BlockRow, specs.Objects.Object, specs.Words.{Coded, Linking, Parcel, runs_of, stored, words_in}, specs.declared.deck_kind.DeckKind.DeckKind, proofs.TextLaws.{same_text-refl, same_text_tells}}
-use Rattle.statement_coder.specs.declared.items.Item as code
+use Rattle.deck_objects.specs.declared.lines.FieldLists.{FieldLists}
 use Rattle.parcel_packer.specs.{Joins.Packing.{Packed, empty_run}, declared.word_spans.WordSpan.WordSpan}
 use Rattle.deck_listing.{specs.Joins.BlockWords.{AreWhole, AreWordsOf, IsFilledWith}, specs.Joins.Walking.{AreEmpty, DoNamesDiffer, DoesFollow, DoesFollowAll, HasRuns, HaveRuns}, proofs.RunSteps.other-runs}
 use Rattle.deck_objects.specs.Joins.CodedLines.{IsNamed}
@@ -59,20 +59,20 @@ row_of rows i name h = by_found (slice_get rows i) refl h
     by_found (Some row) e n = record { row = row; there = e; named = n }
 
 -- the place of a statement's block is one of the words of all blocks
-pub place-within : (kind : DeckKind) (rows : List BlockRow) (items : List code.Item) (linking : Linking) (line : lines.CodedLine) (packed : List Packed) (coded : Coded) (earlier : List Coded) →
-    DoesFollowAll kind rows items linking line packed coded earlier → line.block < length packed
-place-within kind rows items linking line packed coded earlier follows =
+pub place-within : (kind : DeckKind) (rows : List BlockRow) (lists : FieldLists) (linking : Linking) (line : lines.CodedLine) (packed : List Packed) (coded : Coded) (earlier : List Coded) →
+    DoesFollowAll kind rows lists linking line packed coded earlier → line.block < length packed
+place-within kind rows lists linking line packed coded earlier follows =
     let found = row_of rows line.block coded.settled.block follows.is_coded.block in
     let within = slice_get_within rows line.block found.row found.there in
     let same = follows.runs.same in
     omega (arith, within, same)
 
 -- a statement follows those of its block
-pub one-follows : (kind : DeckKind) (rows : List BlockRow) (items : List code.Item) (linking : Linking) (line : lines.CodedLine) (packed : List Packed) (words : Packed) (coded : Coded) (earlier : List Coded) →
-    words ≡ get_or packed line.block words → DoesFollowAll kind rows items linking line packed coded earlier → DoesFollow kind rows items linking coded.settled.block line words coded earlier
-one-follows kind rows items linking line packed words coded earlier e follows =
+pub one-follows : (kind : DeckKind) (rows : List BlockRow) (lists : FieldLists) (linking : Linking) (line : lines.CodedLine) (packed : List Packed) (words : Packed) (coded : Coded) (earlier : List Coded) →
+    words ≡ get_or packed line.block words → DoesFollowAll kind rows lists linking line packed coded earlier → DoesFollow kind rows lists linking coded.settled.block line words coded earlier
+one-follows kind rows lists linking line packed words coded earlier e follows =
     let found = row_of rows line.block coded.settled.block follows.is_coded.block in
-    let there = slice_get_read packed (length packed) line.block words refl (place-within kind rows items linking line packed coded earlier follows) e in
+    let there = slice_get_read packed (length packed) line.block words refl (place-within kind rows lists linking line packed coded earlier follows) e in
     record {
       is_coded = follows.is_coded;
       laid = follows.laid;
@@ -81,10 +81,10 @@ one-follows kind rows items linking line packed words coded earlier e follows =
     }
 
 -- the words of all blocks with a statement more, which changes those of its own
-pub all-runs : (kind : DeckKind) (rows : List BlockRow) (items : List code.Item) (linking : Linking) (line : lines.CodedLine) (packed : List Packed) (new : Packed) (coded : Coded) (earlier : List Coded) →
-    DoNamesDiffer rows → DoesFollowAll kind rows items linking line packed coded earlier → HasRuns kind linking coded.settled.block (coded ∷ earlier) new →
+pub all-runs : (kind : DeckKind) (rows : List BlockRow) (lists : FieldLists) (linking : Linking) (line : lines.CodedLine) (packed : List Packed) (new : Packed) (coded : Coded) (earlier : List Coded) →
+    DoNamesDiffer rows → DoesFollowAll kind rows lists linking line packed coded earlier → HasRuns kind linking coded.settled.block (coded ∷ earlier) new →
     HaveRuns kind linking rows (coded ∷ earlier) (slice_set packed line.block new)
-all-runs kind rows items linking line packed new coded earlier differ follows put = record {
+all-runs kind rows lists linking line packed new coded earlier differ follows put = record {
   same = length-set packed line.block new ∙ follows.runs.same;
   each = by_row;
 }

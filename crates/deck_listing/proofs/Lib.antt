@@ -7,6 +7,7 @@ pub mod ListingLaws
 pub mod BehindLaws
 mod PutSteps
 mod FieldSteps
+mod KnownWords
 mod LiteralSteps
 mod LineSteps
 mod RunSteps

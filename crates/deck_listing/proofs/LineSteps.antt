@@ -2,7 +2,7 @@
 use Rattle.std.{proofs.Common.{◌≡◌, ℕ, ◌-◌, ◌*◌, ◌/◌, ◌%◌, ◌≤◌, true, false, List, [], ◌∷◌, refl, sym, ap, subst, ◌∙◌, arith}, proofs.Math.Nat.mul_comm, proofs.lemmas.Nat.pow_pos}
 use Rattle.definitions.{specs.Characters.same_text, specs.Kinds.{units, unit_bits, word_bits}, specs.Lengths.BlockRow, specs.Operations.is_instruction, specs.StatementItems.Item, specs.Words.{Coded, Linking}, specs.declared.deck_kind.DeckKind.DeckKind, specs.declared.deck_kind.DeckKind.TheVariants.{Rel, Abs, Periph}, proofs.TextLaws.same_text-true, specs.Laws.Filling.{DoFill, HasFields}, specs.Laws.Rising.run_end}
 use Rattle.definitions.specs.Operations as op
-use Rattle.statement_coder.specs.declared.items.Item as code
+use Rattle.deck_objects.specs.declared.lines.FieldLists.{FieldLists}
 use Rattle.operations.specs.Joins.OperationsAs.{operation_as}
 use Rattle.parcel_packer.{specs.Joins.Packing.{OpenRun, Packed, moved, put_bits}, proofs.PutLaws.unit_some}
 use Rattle.deck_listing.{specs.Joins.Putting.{StandsAt, ArePut, IsReady}, specs.Joins.Walking.DoesFollow, proofs.PutSteps.put_one}
@@ -11,8 +11,8 @@ use Rattle.deck_objects.specs.declared.lines.CodedLine as lines
 use Rattle.deck_objects.specs.declared.lines.LineFields.TheVariants as variant
 
 -- a line that is ready stands behind the run
-pub ready-stands : (kind : DeckKind) (items : List code.Item) (line : lines.CodedLine) (packed : Packed) → IsReady kind items line packed → StandsAt (unit_bits kind) packed.run (unit_bits kind * line.place)
-ready-stands kind items line packed ready = stands kind packed.run line.place ready.whole ready.behind
+pub ready-stands : (kind : DeckKind) (lists : FieldLists) (line : lines.CodedLine) (packed : Packed) → IsReady kind lists line packed → StandsAt (unit_bits kind) packed.run (unit_bits kind * line.place)
+ready-stands kind lists line packed ready = stands kind packed.run line.place ready.whole ready.behind
   where
     stands : (kind : DeckKind) (run : OpenRun) (place : ℕ) → run.filled ≡ 0 → run.place ≤ place → StandsAt (unit_bits kind) run (unit_bits kind * place)
     stands Rel run place h k = record { begins = (omega arith, λ _. omega arith, λ some. absurd (omega arith)); room = omega arith }
@@ -29,11 +29,11 @@ abbrev with_zeros : DeckKind → OpenRun → ℕ → ℕ → OpenRun
 with_zeros kind run word count = put_bits (unit_bits kind) false (word_bits kind * count) 0 (moved (unit_bits kind) (word_bits kind * word) run)
 
 -- the zeros of a BSSZ, put as words
-pub zeros_put : (kind : DeckKind) (items : List code.Item) (linking : Linking) (line : lines.CodedLine) (old new : Packed) (unit : ℕ) →
-    IsReady kind items line old → line.fields ≡ variant.Zeros → unit ≡ units kind →
+pub zeros_put : (kind : DeckKind) (lists : FieldLists) (linking : Linking) (line : lines.CodedLine) (old new : Packed) (unit : ℕ) →
+    IsReady kind lists line old → line.fields ≡ variant.Zeros → unit ≡ units kind →
     new ≡ record { kind = old.kind; run = with_zeros old.kind old.run (line.place / unit) ((line.end - line.place) / unit); earlier = old.earlier } →
-    ArePut (unit_bits kind) (is_instruction (operation_as line.operation)) linking old.run (unit_bits kind * line.place) (kept_items kind items line) new.run
-zeros_put kind items linking line old new unit ready zeros e h =
+    ArePut (unit_bits kind) (is_instruction (operation_as line.operation)) linking old.run (unit_bits kind * line.place) (kept_items kind lists line) new.run
+zeros_put kind lists linking line old new unit ready zeros e h =
     let size = unit_bits kind in
     let word = line.place / units kind in
     let count = (line.end - line.place) / units kind in
@@ -44,7 +44,7 @@ zeros_put kind items linking line old new unit ready zeros e h =
     let wide : word_bits kind * count ≡ item.width = mul_comm (word_bits kind) count in
     let here = word_place kind line.place word (ready.from_word zeros) refl in
     rw (ready.plain zeros, zeros)
-    (put_one size false linking old.run new.run (size * line.place) item 0 (unit_some kind) (ready-stands kind items line old ready) refl (pow_pos item.width)
+    (put_one size false linking old.run new.run (size * line.place) item 0 (unit_some kind) (ready-stands kind lists line old ready) refl (pow_pos item.width)
     (is_run ∙ ap (λ w. put_bits size false w 0 (moved size (word_bits kind * word) old.run)) wide ∙ ap (λ p. put_bits size false item.width 0 (moved size p old.run)) here))
 
 -- fields that are others to whoever links fill as much
@@ -59,15 +59,15 @@ some_kept (k ∷ kept) [] same h = cc (same.none refl)
 some_kept (k ∷ kept) (f ∷ fields) same h = tt
 
 -- a statement of the block that begins no run is ready to be put
-pub follows-ready : (kind : DeckKind) (rows : List BlockRow) (items : List code.Item) (linking : Linking) (block : List ℕ) (line : lines.CodedLine) (packed : Packed) (coded : Coded) (earlier : List Coded) →
-    DoesFollow kind rows items linking block line packed coded earlier → same_text coded.settled.block block ≡ true → line.begins_run ≡ false → IsReady kind items line packed
-follows-ready kind rows items linking block line packed coded earlier follows here joins =
+pub follows-ready : (kind : DeckKind) (rows : List BlockRow) (lists : FieldLists) (linking : Linking) (block : List ℕ) (line : lines.CodedLine) (packed : Packed) (coded : Coded) (earlier : List Coded) →
+    DoesFollow kind rows lists linking block line packed coded earlier → same_text coded.settled.block block ≡ true → line.begins_run ≡ false → IsReady kind lists line packed
+follows-ready kind rows lists linking block line packed coded earlier follows here joins =
     let is_coded = follows.is_coded in
     let laid = follows.laid in
     let place = is_coded.place in
     let end = is_coded.end in
     let no_run : coded.settled.begins_run ≡ false = sym is_coded.begins_run ∙ joins in
-    let kept = kept_items kind items line in
+    let kept = kept_items kind lists line in
     let of_block : run_end coded.settled.block earlier ≡ run_end block earlier = ap (λ b. run_end b earlier) (same_text-true coded.settled.block block here) in
     let first = laid.behind in
     let second = follows.runs.place in

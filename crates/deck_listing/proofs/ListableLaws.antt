@@ -2,7 +2,7 @@
 use Rattle.std.{proofs.Common.{◌≡◌, ◌≢◌, ℕ, ◌+◌, ◌-◌, ◌*◌, ◌%◌, ◌^◌, ◌<◌, ◌≤◌, true, false, List, [], ◌∷◌, ◌++◌, Option, None, Some, ◌⊎◌, inl, inr, ⊎_elim, reverse, refl, arith}, specs.List.AllByRecursion, proofs.lemmas.List.reverse-append, proofs.lemmas.List.Elements.All-from_recursion}
 use Rattle.definitions.specs.{Cards.Card, Kinds.{most_words, unit_bits, units, word_bits}, Lengths.BlockRow, Objects.Object, Operations.{Operation, is_instruction}, StatementItems.Item, Words.{Coded, width_of}, declared.deck_kind.DeckKind.DeckKind, declared.deck_kind.DeckKind.TheVariants.{Rel, Abs, Periph}, Laws.Filling.{DoFill, HasFields}, Laws.Reaching.{DoReach, DoesReach}, Laws.Rising.AreLaidOut}
 use Rattle.definitions.specs.Operations as op
-use Rattle.statement_coder.specs.declared.items.Item as code
+use Rattle.deck_objects.specs.declared.lines.FieldLists.{FieldLists}
 use Rattle.deck_objects.specs.{Joins.CodedLines.{AreCoded, IsCoded}, Joins.PartsOf.ArePartsOf, declared.lines.CodedLine.CodedLine, declared.lines.Line.Line, declared.object.ObjectParts.ObjectParts}
 use Rattle.deck_listing.{specs.Joins.ListedParts.{AreListable, IsListable, IsListableLine}, specs.Joins.WordLines.has_one_line, proofs.FieldTexts.has_one_line-true}
 
@@ -67,8 +67,8 @@ whole-width Periph coded sound other =
     (fill-width Periph coded.settled.place coded.settled.end coded.fields sound.filled)
 
 -- what a line stores is listed
-listable-of : (kind : DeckKind) (rows : List BlockRow) (items : List code.Item) (stored : CodedLine) (coded : Coded) → IsCoded kind rows items stored coded → IsSound kind coded → IsListable kind items stored
-listable-of kind rows items stored coded is sound = record {
+listable-of : (kind : DeckKind) (rows : List BlockRow) (lists : FieldLists) (stored : CodedLine) (coded : Coded) → IsCoded kind rows lists stored coded → IsSound kind coded → IsListable kind lists stored
+listable-of kind rows lists stored coded is sound = record {
   kept = is.kept;
   zeros = rw is.operation is.zeros;
   short = λ one. rw is.fields.width (short-width kind coded sound (rw is.operation at one));
@@ -77,32 +77,32 @@ listable-of kind rows items stored coded is sound = record {
 }
 
 -- the first of lines, which may store a statement, and the others
-abbrev FirstCoded : DeckKind → List BlockRow → List code.Item → Option CodedLine → List Line → List Coded → Type 0
-FirstCoded kind rows items None lines all = AreCoded kind rows items lines all
-FirstCoded kind rows items (Some stored) lines [] = ⊥
-FirstCoded kind rows items (Some stored) lines (coded ∷ others) = IsCoded kind rows items stored coded × AreCoded kind rows items lines others
+abbrev FirstCoded : DeckKind → List BlockRow → FieldLists → Option CodedLine → List Line → List Coded → Type 0
+FirstCoded kind rows lists None lines all = AreCoded kind rows lists lines all
+FirstCoded kind rows lists (Some stored) lines [] = ⊥
+FirstCoded kind rows lists (Some stored) lines (coded ∷ others) = IsCoded kind rows lists stored coded × AreCoded kind rows lists lines others
 
-first-coded : (kind : DeckKind) (rows : List BlockRow) (items : List code.Item) (line : Line) (found : Option CodedLine) (lines : List Line) (all : List Coded) → line.coded ≡ found →
-    AreCoded kind rows items (line ∷ lines) all → FirstCoded kind rows items found lines all
-first-coded kind rows items line None lines all e h = rw e at h
-first-coded kind rows items line (Some stored) lines [] e h = rw e at h
-first-coded kind rows items line (Some stored) lines (coded ∷ others) e h = rw e at h
+first-coded : (kind : DeckKind) (rows : List BlockRow) (lists : FieldLists) (line : Line) (found : Option CodedLine) (lines : List Line) (all : List Coded) → line.coded ≡ found →
+    AreCoded kind rows lists (line ∷ lines) all → FirstCoded kind rows lists found lines all
+first-coded kind rows lists line None lines all e h = rw e at h
+first-coded kind rows lists line (Some stored) lines [] e h = rw e at h
+first-coded kind rows lists line (Some stored) lines (coded ∷ others) e h = rw e at h
 
 -- what a line stores is listed, and so are the lines behind it
-both-listable : (kind : DeckKind) (rows : List BlockRow) (items : List code.Item) (found : Option CodedLine) (lines : List Line) (all : List Coded) →
-    ((others : List Coded) → AreCoded kind rows items lines others → AllByRecursion (IsSound kind) others → AllByRecursion (λ (shown : Line). IsListableLine kind items shown.coded) lines) →
-    FirstCoded kind rows items found lines all → AllByRecursion (IsSound kind) all →
-    IsListableLine kind items found × AllByRecursion (λ (shown : Line). IsListableLine kind items shown.coded) lines
-both-listable kind rows items None lines all behind h s = (tt, behind all h s)
-both-listable kind rows items (Some stored) lines [] behind h s = absurd h
-both-listable kind rows items (Some stored) lines (first ∷ others) behind h s = (listable-of kind rows items stored first h.0 s.0, behind others h.1 s.1)
+both-listable : (kind : DeckKind) (rows : List BlockRow) (lists : FieldLists) (found : Option CodedLine) (lines : List Line) (all : List Coded) →
+    ((others : List Coded) → AreCoded kind rows lists lines others → AllByRecursion (IsSound kind) others → AllByRecursion (λ (shown : Line). IsListableLine kind lists shown.coded) lines) →
+    FirstCoded kind rows lists found lines all → AllByRecursion (IsSound kind) all →
+    IsListableLine kind lists found × AllByRecursion (λ (shown : Line). IsListableLine kind lists shown.coded) lines
+both-listable kind rows lists None lines all behind h s = (tt, behind all h s)
+both-listable kind rows lists (Some stored) lines [] behind h s = absurd h
+both-listable kind rows lists (Some stored) lines (first ∷ others) behind h s = (listable-of kind rows lists stored first h.0 s.0, behind others h.1 s.1)
 
 -- what all lines store is listed
-lines-listable : (kind : DeckKind) (rows : List BlockRow) (items : List code.Item) (lines : List Line) (all : List Coded) → AreCoded kind rows items lines all → AllByRecursion (IsSound kind) all →
-    AllByRecursion (λ (shown : Line). IsListableLine kind items shown.coded) lines
-lines-listable kind rows items [] all coded sound = tt
-lines-listable kind rows items (line ∷ lines) all coded sound =
-    both-listable kind rows items line.coded lines all (λ others c s. lines-listable kind rows items lines others c s) (first-coded kind rows items line line.coded lines all refl coded) sound
+lines-listable : (kind : DeckKind) (rows : List BlockRow) (lists : FieldLists) (lines : List Line) (all : List Coded) → AreCoded kind rows lists lines all → AllByRecursion (IsSound kind) all →
+    AllByRecursion (λ (shown : Line). IsListableLine kind lists shown.coded) lines
+lines-listable kind rows lists [] all coded sound = tt
+lines-listable kind rows lists (line ∷ lines) all coded sound =
+    both-listable kind rows lists line.coded lines all (λ others c s. lines-listable kind rows lists lines others c s) (first-coded kind rows lists line line.coded lines all refl coded) sound
 
 -- all statements of an object are sound
 all-sound : (kind : DeckKind) (all : List Coded) → AreLaidOut kind all → DoReach kind all → AllByRecursion (IsSound kind) all
@@ -119,9 +119,9 @@ all-reverse P [] h = tt
 all-reverse P (x ∷ xs) h = rw (reverse-append (x ∷ []) xs) (all-push P (reverse xs) x (all-reverse P xs h.1) h.0)
 
 -- the statements of an object are listed
-pub parts-listable : (cards : List Card) (parts : ObjectParts) (object : Object) → ArePartsOf cards parts object → AreListable parts.kind parts.items.items parts.lines.items
+pub parts-listable : (cards : List Card) (parts : ObjectParts) (object : Object) → ArePartsOf cards parts object → AreListable parts.kind parts.fields parts.lines.items
 parts-listable cards parts object are =
     All-from_recursion _ parts.lines.items
-    (lines-listable parts.kind parts.bases parts.items.items parts.lines.items (reverse object.coded) are.coded
+    (lines-listable parts.kind parts.bases parts.fields parts.lines.items (reverse object.coded) are.coded
     (all-reverse (IsSound parts.kind) object.coded
     (all-sound parts.kind object.coded (rw are.kind are.laid) (rw are.kind are.reach))))

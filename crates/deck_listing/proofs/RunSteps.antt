@@ -1,7 +1,7 @@
 -- The runs of a block with one statement more.
 use Rattle.std.{proofs.Common.{◌≡◌, ℕ, ◌-◌, ◌*◌, ◌≤◌, Bool, true, false, List, [], ◌∷◌, ◌++◌, Result, Ok, Err, refl, sym, ap, subst, ◌∙◌, arith, append-nil}, specs.Prelude.OnOk, proofs.Math.Nat.mul_comm}
 use Rattle.definitions.specs.{Characters.same_text, Kinds.unit_bits, Lengths.BlockRow, Operations.is_instruction, StatementItems.Item, Words.{Coded, Linking, Parcel, cut, joined, parcels_from, parcels_of, onto_runs, runs_of, width_of}, declared.deck_kind.DeckKind.DeckKind, Laws.Filling.DoFill, Laws.Rising.{run_end, end_with, end_behind}}
-use Rattle.statement_coder.specs.declared.items.Item as code
+use Rattle.deck_objects.specs.declared.lines.FieldLists.{FieldLists}
 use Rattle.operations.specs.Joins.OperationsAs.{operation_as}
 use Rattle.parcel_packer.{specs.Joins.Packing.{OpenRun, Packed, empty_run}, proofs.PutLaws.{runs_put, runs_begun, unit_some}}
 use Rattle.deck_listing.{specs.Joins.Putting.ArePut, specs.Joins.Walking.{DoesFollow, HasRuns}, proofs.PutSteps.parcels_put, proofs.LineSteps.follows-ready}
@@ -68,17 +68,17 @@ joined-by kind linking instruction place end before old new (k ∷ kept) (field 
     (parts.0 ∙ ap (λ n. old.parcels ++ parcels_from instruction place (cut size count n)) (same.bits linking), parts.1, parts.2, omega arith)
 
 -- a statement of the block joins its run
-pub joined-runs : (kind : DeckKind) (rows : List BlockRow) (items : List code.Item) (linking : Linking) (block : List ℕ) (line : lines.CodedLine) (old new : Packed) (coded : Coded) (earlier : List Coded) →
-    DoesFollow kind rows items linking block line old coded earlier → same_text coded.settled.block block ≡ true → line.begins_run ≡ false →
+pub joined-runs : (kind : DeckKind) (rows : List BlockRow) (lists : FieldLists) (linking : Linking) (block : List ℕ) (line : lines.CodedLine) (old new : Packed) (coded : Coded) (earlier : List Coded) →
+    DoesFollow kind rows lists linking block line old coded earlier → same_text coded.settled.block block ≡ true → line.begins_run ≡ false →
     new.kind ≡ old.kind → new.earlier ≡ old.earlier →
-    ArePut (unit_bits kind) (is_instruction (operation_as line.operation)) linking old.run (unit_bits kind * line.place) (kept_items kind items line) new.run →
+    ArePut (unit_bits kind) (is_instruction (operation_as line.operation)) linking old.run (unit_bits kind * line.place) (kept_items kind lists line) new.run →
     HasRuns kind linking block (coded ∷ earlier) new
-joined-runs kind rows items linking block line old new coded earlier follows here joins same_kind same_earlier put =
+joined-runs kind rows lists linking block line old new coded earlier follows here joins same_kind same_earlier put =
     let is_coded = follows.is_coded in
     let runs = follows.runs in
-    let ready = follows-ready kind rows items linking block line old coded earlier follows here joins in
+    let ready = follows-ready kind rows lists linking block line old coded earlier follows here joins in
     let no_run : coded.settled.begins_run ≡ false = sym is_coded.begins_run ∙ joins in
-    let kept = kept_items kind items line in
+    let kept = kept_items kind lists line in
     let before = run_end block earlier in
     let parts = joined-by kind linking (is_instruction (operation_as line.operation)) line.place line.end before old.run new.run kept coded.fields
     is_coded.fields ready.filled ready.ordered runs.whole runs.empty runs.place put in

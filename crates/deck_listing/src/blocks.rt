@@ -71,7 +71,7 @@ pub(crate) fn words_of_parts<L: Linking>(
     ensures { IfOk result (λ blocks. (cards : List Card) (object : definitions.Object) → ArePartsOf cards parts.now object →
         AreBlockWords (L.linking linking.now) object blocks.items) }
 {
-    let fields = parts.lines.len().saturating_add(parts.items.len());
+    let fields = parts.lines.len().saturating_add(parts.fields.len());
     let mut packed = empty_blocks(alloc, parts.kind, parts.bases.rows(), fields)?;
     put_lines(&mut packed, parts, linking)?;
     filled_blocks(alloc, packed.as_slice())

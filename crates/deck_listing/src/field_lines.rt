@@ -1,5 +1,5 @@
 //! The words that fields fill, a line each.
-ghost use Rattle.std.specs.Prelude.{◌≡◌, ◌≤◌, ◌<◌, ◌+◌, ◌-◌, ◌*◌, ◌/◌, ◌%◌, ◌^◌, ◌++◌, List, map};
+ghost use Rattle.std.specs.Prelude.{◌≡◌, ◌≤◌, ◌<◌, ◌+◌, ◌-◌, ◌*◌, ◌/◌, ◌%◌, ◌^◌, ◌++◌, List, length, map};
 ghost use Rattle.definitions.specs.Kinds.{word_bits};
 ghost use Rattle.definitions.specs.Listing.{unlinked};
 ghost use Rattle.definitions.specs.Words.{content_bits, cut, joined, width_of};
@@ -129,6 +129,18 @@ pub(crate) fn push_word_lines(
                 }
             }
         }
+    }
+}
+
+/// The lines of words that are known, from one on.
+pub(crate) fn push_known_words(text: &mut Sheet, kind: DeckKind, first: u64, words: &[u64])
+    requires few { first + length words.now < 2 ^ 60 }
+    ensures { text.new ≡ text.old ++ word_lines kind first words.now }
+{
+    let mut word = first;
+    for bits in words {
+        push_word_line(text, kind, word, *bits);
+        word += 1;
     }
 }
 

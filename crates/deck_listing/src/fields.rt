@@ -9,9 +9,51 @@ ghost use Rattle.deck_objects.specs.Joins.LineItems.{AreShort};
 ghost use Rattle.deck_listing.specs.Joins.Putting.{StandsAt, ArePut};
 
 use deck_objects::{Linking, linked_bits};
+use definitions::DeckKind;
 use parcel_packer::{Field, Words};
-use statement_coder::Item;
+use statement_coder::{Content, Item};
 use std::alloc::AllocError;
+
+/// A field, as the object of a deck of a kind lists it.
+pub(crate) trait ListedField {
+    ghost use Rattle.std.specs.Prelude.{◌≡◌};
+    ghost use Rattle.definitions.specs.StatementItems as definitions;
+    ghost use Rattle.definitions.specs.declared.deck_kind.DeckKind as kinds;
+    ghost use Rattle.statement_coder.specs.Joins.Items.{item_as};
+
+    ghost field: { kinds.DeckKind → Self → definitions.Item };
+
+    fn item(&self, kind: DeckKind) -> Item
+        ensures { item_as result ≡ field kind self.now };
+}
+
+impl ListedField for Item {
+    ghost use Rattle.statement_coder.specs.Joins.Items.{item_as};
+
+    ghost field = { λ kind. item_as };
+
+    #[inline(always)]
+    fn item(&self, _kind: DeckKind) -> Item {
+        *self
+    }
+}
+
+/// A word that is known, by its bits.
+impl ListedField for u64 {
+    ghost use Rattle.definitions.specs.Kinds.{word_bits};
+    ghost use Rattle.definitions.specs.StatementItems.{known};
+
+    ghost field = { λ kind. known (word_bits kind) };
+
+    #[inline(always)]
+    fn item(&self, kind: DeckKind) -> Item {
+        Item {
+            width: kind.word_bits(),
+            content: Content::Known(*self),
+            letter: None,
+        }
+    }
+}
 
 /// Puts a field at a bit of the block; one without bits leaves the words as they are.
 #[inline(always)]
@@ -46,23 +88,25 @@ pub(crate) fn put_item<L: Linking>(
 }
 
 /// Puts fields one behind the other, the first at a bit of the block.
-pub(crate) fn put_fields<L: Linking>(
+pub(crate) fn put_fields<L: Linking, F: ListedField>(
     words: &mut Words,
     linking: &L,
+    kind: DeckKind,
     from: u32,
     is_instruction: bool,
-    fields: &[Item],
+    fields: &[F],
 ) -> Result<(), AllocError>
-    requires short { AreShort (map item_as fields.now) }
+    requires short { AreShort (map (F.field kind) fields.now) }
     requires stands { StandsAt (unit_bits words.old.kind) words.old.run from }
-    requires within { from + width_of (map item_as fields.now) ≤ most_bits words.old.kind }
+    requires within { from + width_of (map (F.field kind) fields.now) ≤ most_bits words.old.kind }
     ensures kind { OnOk result (words.new.kind ≡ words.old.kind) }
     ensures earlier { OnOk result (words.new.earlier ≡ words.old.earlier) }
-    ensures put { OnOk result (ArePut (unit_bits words.old.kind) is_instruction (L.linking linking.now) words.old.run from (map item_as fields.now) words.new.run) }
+    ensures put { OnOk result (ArePut (unit_bits words.old.kind) is_instruction (L.linking linking.now) words.old.run from (map (F.field kind) fields.now) words.new.run) }
 {
     let mut end = from;
-    for item in fields {
-        put_item(words, linking, end, is_instruction, item)?;
+    for field in fields {
+        let item = field.item(kind);
+        put_item(words, linking, end, is_instruction, &item)?;
         end += item.width;
     }
     Ok(())

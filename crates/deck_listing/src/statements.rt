@@ -8,10 +8,11 @@ ghost use Rattle.deck_listing.specs.Joins.ListedParts.{AreListable, IsListable, 
 ghost use Rattle.deck_listing.specs.Joins.WordLines.{fields_text, has_one_line};
 ghost use Rattle.deck_objects.specs.Joins.LineItems.{AreShort};
 ghost use Rattle.statement_coder.specs.Joins.Items.{item_as};
+ghost use Rattle.statement_coder.specs.Joins.WordItems.{known_words};
 ghost use Rattle.operations.specs.Joins.OperationsAs.{operation_as};
 
 use crate::card_line::CardLine;
-use crate::field_lines::{joined_fields, push_word_lines};
+use crate::field_lines::{joined_fields, push_known_words, push_word_lines};
 use crate::lines::{push_card_lines, push_central_line, push_letters_line};
 use crate::sheet::Sheet;
 use cards::Card;
@@ -72,18 +73,36 @@ fn push_fields(text: &mut Sheet, parts: &ObjectParts, stored: &CodedLine, items:
     push_word_lines(text, kind, &parts.bases, word as u64, items);
 }
 
+/// The lines of words that a statement stores, and that are known.
+#[inline(always)]
+fn push_words(text: &mut Sheet, parts: &ObjectParts, stored: &CodedLine, words: &[u64])
+    requires stored { operation_as stored.now.operation ≢ op.Bssz }
+    requires fields { AreShort (known_words (word_bits parts.now.kind) words.now) }
+    requires several { has_one_line parts.now.kind (operation_as stored.now.operation) ≡ false }
+    requires few { length words.now < 2 ^ 32 }
+    ensures { text.new ≡ text.old ++ fields_text parts.now.kind (unlinked parts.now.bases) (operation_as stored.now.operation) stored.now.place
+        (known_words (word_bits parts.now.kind) words.now) }
+{
+    let word = stored.place / parts.kind.units();
+    push_known_words(text, parts.kind, u64::from(word), words);
+}
+
 /// The lines of what a statement stores; the zeros of a BSSZ have none.
 fn push_stored(text: &mut Sheet, parts: &ObjectParts, stored: &CodedLine)
-    requires { IsListable parts.now.kind parts.now.items.items stored.now }
-    ensures { text.new ≡ text.old ++ stored_text parts.now.kind parts.now.bases parts.now.items.items (Some stored.now) }
+    requires { IsListable parts.now.kind parts.now.fields stored.now }
+    ensures { text.new ≡ text.old ++ stored_text parts.now.kind parts.now.bases parts.now.fields (Some stored.now) }
 {
     match stored.fields {
         LineFields::Absent | LineFields::Zeros => {}
         LineFields::Known(bits) => {
             push_fields(text, parts, stored, &[stored.known_field(parts.kind, bits)]);
         }
+        LineFields::Words { first, count } => {
+            let words = listed(parts.fields.words.as_slice(), first, count);
+            push_words(text, parts, stored, words);
+        }
         LineFields::Listed { first, count } => {
-            let fields = listed(parts.items.as_slice(), first, count);
+            let fields = listed(parts.fields.items.as_slice(), first, count);
             push_fields(text, parts, stored, fields);
         }
     }
@@ -98,8 +117,8 @@ fn push_statement(
     shown: &Line,
 )
     requires few { next.old + length cards.now < 2 ^ 60 }
-    requires listable { IsListableLine parts.now.kind parts.now.items.items shown.now.coded }
-    ensures text { text.new ≡ text.old ++ line_text parts.now.kind parts.now.bases parts.now.items.items next.old cards.now shown.now }
+    requires listable { IsListableLine parts.now.kind parts.now.fields shown.now.coded }
+    ensures text { text.new ≡ text.old ++ line_text parts.now.kind parts.now.bases parts.now.fields next.old cards.now shown.now }
     ensures next { next.new ≡ next.old + length cards.now }
 {
     push_card_lines(text, next, cards);
@@ -122,8 +141,8 @@ pub(crate) fn split_cards(cards: &[Card], count: u32) -> (&[Card], &[Card])
 /// The lines of all statements of a deck with these cards.
 pub(crate) fn push_statements(text: &mut Sheet, cards: &[Card], parts: &ObjectParts)
     requires few { length cards.now < 2 ^ 60 }
-    requires listable { AreListable parts.now.kind parts.now.items.items parts.now.lines.items }
-    ensures { text.new ≡ text.old ++ lines_text parts.now.kind parts.now.bases parts.now.items.items 0 cards.now parts.now.lines.items }
+    requires listable { AreListable parts.now.kind parts.now.fields parts.now.lines.items }
+    ensures { text.new ≡ text.old ++ lines_text parts.now.kind parts.now.bases parts.now.fields 0 cards.now parts.now.lines.items }
 {
     let mut next = CardLine::first();
     let mut ahead = cards;

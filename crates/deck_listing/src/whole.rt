@@ -49,7 +49,7 @@ pub fn errors(object: &Object) -> u64
 /// Appends the listing of a deck with this name and these cards, from what its object keeps.
 fn push_parts(text: &mut Sheet, name: &DeckName, cards: &[Card], parts: &ObjectParts)
     requires few { length cards.now < 2 ^ 60 }
-    requires listable { AreListable parts.now.kind parts.now.items.items parts.now.lines.items }
+    requires listable { AreListable parts.now.kind parts.now.fields parts.now.lines.items }
     ensures { text.new ≡ text.old ++ parts_text name.now cards.now parts.now }
 {
     push_deck_line(text, name, parts.kind);
@@ -64,7 +64,7 @@ fn listing_room(object: &Object) -> usize {
     let parts = object.parts();
     let cards = object.cards().len().saturating_mul(CARD_ROOM);
     let statements = parts.lines.len().saturating_mul(STATEMENT_ROOM);
-    let items = parts.items.len().saturating_mul(ITEM_ROOM);
+    let items = parts.fields.len().saturating_mul(ITEM_ROOM);
     cards
         .saturating_add(statements)
         .saturating_add(items)

@@ -12,25 +12,24 @@ ghost use Rattle.deck_listing.specs.Joins.Putting.{ArePut, IsReady};
 ghost use Rattle.deck_listing.specs.Joins.Walking.{AreEmpty, DoNamesDiffer, DoesFollow, DoesFollowAll, HasObject, HasRuns, HaveRuns, IsNext, IsNextOfAll};
 
 use crate::fields::{put_fields, put_item};
-use deck_objects::{CodedLine, LineFields, Linking, ObjectParts, listed};
+use deck_objects::{CodedLine, FieldLists, LineFields, Linking, ObjectParts, listed};
 use definitions::DeckKind;
 use parcel_packer::Words;
-use statement_coder::Item;
 use std::alloc::AllocError;
 
 /// Puts the fields of a line into its block.
 fn put_line<L: Linking>(
     words: &mut Words,
     kind: DeckKind,
-    items: &[Item],
+    lists: &FieldLists,
     linking: &L,
     line: &CodedLine,
 ) -> Result<(), AllocError>
-    requires { IsReady kind items.now line.now words.old }
+    requires { IsReady kind lists.now line.now words.old }
     ensures kind { OnOk result (words.new.kind ≡ words.old.kind) }
     ensures earlier { OnOk result (words.new.earlier ≡ words.old.earlier) }
     ensures put { OnOk result (ArePut (unit_bits kind) (is_instruction (operation_as line.now.operation)) (L.linking linking.now)
-        words.old.run (unit_bits kind * line.now.place) (kept_items kind items.now line.now) words.new.run) }
+        words.old.run (unit_bits kind * line.now.place) (kept_items kind lists.now line.now) words.new.run) }
 {
     let from = kind.unit_bits() * line.place;
     let is_instruction = line.operation.is_instruction();
@@ -40,9 +39,13 @@ fn put_line<L: Linking>(
             let field = line.known_field(kind, bits);
             put_item(words, linking, from, is_instruction, &field)
         }
+        LineFields::Words { first, count } => {
+            let own = listed(lists.words.as_slice(), first, count);
+            put_fields(words, linking, kind, from, is_instruction, own)
+        }
         LineFields::Listed { first, count } => {
-            let fields = listed(items, first, count);
-            put_fields(words, linking, from, is_instruction, fields)
+            let fields = listed(lists.items.as_slice(), first, count);
+            put_fields(words, linking, kind, from, is_instruction, fields)
         }
         LineFields::Zeros => {
             let units = kind.units();
@@ -58,15 +61,15 @@ fn put_next<L: Linking>(
     linking: &L,
     line: &CodedLine,
 ) -> Result<(), AllocError>
-    requires { IsNext parts.now.kind parts.now.bases parts.now.items.items (L.linking linking.now) line.now words.old }
+    requires { IsNext parts.now.kind parts.now.bases parts.now.fields (L.linking linking.now) line.now words.old }
     ensures { OnOk result ((coded : Coded) (earlier : List Coded) →
-        DoesFollow parts.now.kind parts.now.bases parts.now.items.items (L.linking linking.now) coded.settled.block line.now words.old coded earlier →
+        DoesFollow parts.now.kind parts.now.bases parts.now.fields (L.linking linking.now) coded.settled.block line.now words.old coded earlier →
         HasRuns parts.now.kind (L.linking linking.now) coded.settled.block (coded ∷ earlier) words.new) }
 {
     if line.begins_run {
         return words.begin_run();
     }
-    put_line(words, parts.kind, parts.items.as_slice(), linking, line)
+    put_line(words, parts.kind, &parts.fields, linking, line)
 }
 
 /// Puts a line into the words of its block, which are at its place among those of all blocks.
@@ -77,9 +80,9 @@ fn put_coded<L: Linking>(
     line: &CodedLine,
 ) -> Result<(), AllocError>
     requires names { DoNamesDiffer parts.now.bases }
-    requires next { IsNextOfAll parts.now.kind parts.now.bases parts.now.items.items (L.linking linking.now) line.now blocks.old.items }
+    requires next { IsNextOfAll parts.now.kind parts.now.bases parts.now.fields (L.linking linking.now) line.now blocks.old.items }
     ensures { OnOk result ((coded : Coded) (earlier : List Coded) →
-        DoesFollowAll parts.now.kind parts.now.bases parts.now.items.items (L.linking linking.now) line.now blocks.old.items coded earlier →
+        DoesFollowAll parts.now.kind parts.now.bases parts.now.fields (L.linking linking.now) line.now blocks.old.items coded earlier →
         HaveRuns parts.now.kind (L.linking linking.now) parts.now.bases (coded ∷ earlier) blocks.new.items) }
 {
     put_next(&mut blocks[line.block as usize], parts, linking, line)

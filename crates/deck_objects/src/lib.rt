@@ -24,7 +24,7 @@ mod linking;
 
 pub use entries::Entry;
 pub use line_bits::LineBits;
-pub use lines::{CodedLine, Line, LineFields, listed};
+pub use lines::{CodedLine, FieldLists, Line, LineFields, listed};
 pub use linking::{Linking, Unlinked, coded_or_zero, linked_bits};
 pub use object::{Object, ObjectParts};
 pub use shared_object::SharedObject;

@@ -5,11 +5,10 @@ ghost use Rattle.definitions.specs.Objects.{object_of};
 ghost use Rattle.deck_objects.specs.Joins.PartsOf.{ArePartsOf};
 
 use crate::entries::Entry;
-use crate::lines::Line;
+use crate::lines::{FieldLists, Line};
 use cards::{Card, DeckName};
 use definitions::DeckKind;
 use expr_forms::Name;
-use statement_coder::Item;
 use std::marker::Model;
 use use_blocks::Bases;
 
@@ -20,7 +19,7 @@ pub struct ObjectParts {
     /// The statements in order, those behind END among them.
     pub lines: Vec<Line>,
     /// The fields that lines have lists of.
-    pub items: Vec<Item>,
+    pub fields: FieldLists,
     pub bases: Bases,
     pub literals: Vec<u64>,
     pub entries: Vec<Entry>,

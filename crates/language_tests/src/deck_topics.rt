@@ -116,6 +116,11 @@ fn coded_line(answer: &mut Answer, line: &CodedLine) {
     match line.fields {
         LineFields::Absent => answer.word("absent"),
         LineFields::Known(bits) => answer.octal(&bits.get()),
+        LineFields::Words { first, count } => {
+            answer.word("words");
+            answer.number(&first);
+            answer.number(&count)
+        }
         LineFields::Listed { first, count } => {
             answer.word("listed");
             answer.number(&first);
@@ -146,12 +151,15 @@ fn object(answer: &mut Answer, topic: &str, parts: &ObjectParts, done: &Meter) {
     meter(answer, done)
 }
 
-/// The fields, the entries, the externals, the literals and the blocks of an object.
+/// The fields, the words, the entries, the externals, the literals and the blocks of an object.
 fn names(answer: &mut Answer, parts: &ObjectParts) {
-    for field in &parts.items {
+    for field in &parts.fields.items {
         item(answer, field);
         answer.word(";");
     }
+    answer.word("words");
+    words(answer, parts.fields.words.as_slice());
+    answer.word(";");
     for entry in &parts.entries {
         answer.word("entry");
         answer.bare(entry.name().as_slice());

@@ -79,7 +79,7 @@ flag-same before stood cards letters behind which =
 
 -- what is stated of lines is what is stated of the statements that they show
 flags-same : (parts : ObjectParts) (before stood : ℕ) (cards : List Card) (lines : List Line) (all : List Shown) →
-    AreShown parts.kind parts.bases parts.items.items stood cards lines all → (cards ≡ []) ⊎ (before ≡ stood) →
+    AreShown parts.kind parts.bases parts.fields stood cards lines all → (cards ≡ []) ⊎ (before ≡ stood) →
     flags_in before cards lines ≡ flat_map shown_flag all
 flags-same parts before stood cards [] [] are which = refl
 flags-same parts before stood cards [] (statement ∷ others) are which = absurd are
@@ -90,7 +90,7 @@ flags-same parts before stood cards (shown ∷ lines) (statement ∷ others) are
     (flag-same before stood own shown.letters (is_none shown.coded) (⊎_elim (λ none. inl (take-none shown.cards cards none)) (λ same. inr same) which)
     ∙ ap (λ (n : ℕ). flag_of n own shown.letters (is_none shown.coded)) are.0.before
     ∙ ap₂ (λ (c : List Card) (l : List ℕ). flag_of statement.statement.before c l (is_none shown.coded)) are.0.cards are.0.letters
-    ∙ ap (λ (b : Bool). flag_of statement.statement.before statement.statement.cards statement.letters b) (behind-same parts.kind parts.bases parts.items.items shown.coded statement.coded are.0.stored))
+    ∙ ap (λ (b : Bool). flag_of statement.statement.before statement.statement.cards statement.letters b) (behind-same parts.kind parts.bases parts.fields shown.coded statement.coded are.0.stored))
     (flags-same parts (before + length own) (stood + shown.cards) (drop shown.cards cards) lines others are.1 (behind-cards shown.cards before stood cards which))
 
 -- those of a deck
@@ -170,7 +170,7 @@ short-reverse (x ∷ xs) h = rw (reverse-append (x ∷ []) xs) (short-append (re
 
 -- and so has a line
 short-lines : (parts : ObjectParts) (stood : ℕ) (cards : List Card) (lines : List Line) (all : List Shown) →
-    AreShown parts.kind parts.bases parts.items.items stood cards lines all → AllByRecursion IsShort all → AllByRecursion (λ (shown : Line). length shown.letters ≤ 9) lines
+    AreShown parts.kind parts.bases parts.fields stood cards lines all → AllByRecursion IsShort all → AllByRecursion (λ (shown : Line). length shown.letters ≤ 9) lines
 short-lines parts stood cards [] [] are short = tt
 short-lines parts stood cards [] (statement ∷ others) are short = absurd are
 short-lines parts stood cards (shown ∷ lines) [] are short = absurd are

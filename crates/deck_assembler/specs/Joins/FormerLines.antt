@@ -7,15 +7,15 @@ use Rattle.deck_assembler.specs.{Joins.DeckWalks.IsWalked, Joins.Heads.{AreHeadL
 -- the same tail, fields and names
 pub record IsSameTail (old new : FormerLines) : Type 0 where
   pub tail : new.tail ≡ old.tail
-  pub items : new.items.now ≡ old.items.now
+  pub fields : new.fields.now ≡ old.fields.now
   pub bindings : new.bindings ≡ old.bindings
 
 -- the line that was found is one of these
 pub record IsOneOf (old new : FormerLines) (found : FormerLine) : Type 0 where
   pub coded : found.line.now.coded ≡ Some found.coded.now
-  pub items : found.items.now ≡ old.items.now
+  pub fields : found.fields.now ≡ old.fields.now
   pub bindings : found.bindings ≡ old.bindings
-  pub same_items : new.items.now ≡ old.items.now
+  pub same_fields : new.fields.now ≡ old.fields.now
   pub same_bindings : new.bindings ≡ old.bindings
 
 -- the first of the lines that are left is taken: it has so many cards, which are among the unchanged ones
@@ -74,7 +74,7 @@ pub record WasLine (kind : DeckKind) (found : FormerLine) (settled : Settled) : 
   pub bindings : AreBindings found.bindings context
   pub alike : unnumbered other ≡ unnumbered settled
   pub letters : found.line.now.letters ≡ (shown_of context other).letters
-  pub coded : IsCoded context.kind context.rows found.items.now found.coded.now (coded_of context other)
+  pub coded : IsCoded context.kind context.rows found.fields.now found.coded.now (coded_of context other)
 
 -- all names mean in a deck that is viewed what they did in the one before
 pub record MeanAsViewed (bindings : Bindings) (view : DeckView) : Type 0 where
@@ -100,7 +100,7 @@ pub record AreBeside (kind : DeckKind) (cards : List Card) (context : Context) (
   pub same_kind : context.kind ≡ kind
   pub bindings : AreBindings former.bindings context
   pub same : take former.before old_cards ≡ take former.before cards
-  pub shown : AreShown context.kind context.rows former.items.now stood (drop stood old_cards) former.left.now (shown_from context earlier coming listed)
+  pub shown : AreShown context.kind context.rows former.fields.now stood (drop stood old_cards) former.left.now (shown_from context earlier coming listed)
 
 -- or none is left
 abbrev pub AreBesideIfAny : DeckKind → List Card → List Statement → ℕ → FormerLines → Type 0
@@ -119,7 +119,7 @@ pub record AreOfTail (kind : DeckKind) (context : Context) (earlier coming betwe
   pub listed : List Statement
   pub old_stood : ℕ
   pub old_ahead : List Card
-  pub shown : AreShown context.kind context.rows former.items.now old_stood old_ahead former.tail.left.now (shown_from context passed later listed)
+  pub shown : AreShown context.kind context.rows former.fields.now old_stood old_ahead former.tail.left.now (shown_from context passed later listed)
   pub alike : AreAlikeOn kind passed later (reverse between ++ earlier) tail
 
 -- or there are none
@@ -139,7 +139,7 @@ pub record AreOfHead (former : Former) (parts : ObjectParts) (lines : FormerLine
 
 -- these lines were chosen of the object before an edit, beside a deck of this kind; so many cards has the old deck, and so many the edited one
 pub record AreChosen (kind : DeckKind) (old count : ℕ) (former : Former) (parts : ObjectParts) (lines : FormerLines) : Type 0 where
-  pub items : lines.items.now ≡ parts.items.items
+  pub fields : lines.fields.now ≡ parts.fields
   pub symbols : lines.bindings.symbols.now ≡ former.symbols
   pub literals : lines.bindings.literals.now ≡ former.literals
   pub bases : lines.bindings.bases.now ≡ parts.bases

@@ -1,11 +1,29 @@
 -- The fields of a statement, as a line keeps them.
-use Rattle.std.specs.Prelude.{ℕ, ◌≡◌, ◌≤◌, ◌<◌, ◌+◌, ◌^◌, List, [], ◌∷◌, Bool, true, false, length}
+use Rattle.std.specs.Prelude.{ℕ, ◌≡◌, ◌≤◌, ◌<◌, ◌+◌, ◌^◌, List, [], ◌∷◌, Bool, true, false, length, take, drop}
 use Rattle.definitions.specs.{Layout.{Layout, Based}, LinkLines.unfit_words, Operands.Operand, StatementItems.Item, Words.{Linking, width_of, joined}, declared.deck_kind.DeckKind.DeckKind, Settled.Settled, Settling.View, Laws.Filling.{HasFields, DoFill}}
 use Rattle.statement_coder.specs.declared.items.Item as code
-use Rattle.statement_coder.specs.{Joins.CodedItems.{AreTold, zeros_of, is_zeros, stores_zeros}, Joins.Sizings.IsSizing, Joins.WordItems.listed_fields, declared.coded.CodedItems.CodedItems, declared.sizing.Sizing.Sizing}
-use Rattle.deck_objects.specs.Joins.LineItems.{listed, AreShort}
+use Rattle.statement_coder.specs.{Joins.CodedItems.{AreTold, zeros_of, is_zeros, stores_zeros}, Joins.Sizings.IsSizing, Joins.WordItems.{known_words, listed_fields}, declared.coded.CodedItems.CodedItems, declared.sizing.Sizing.Sizing}
+use Rattle.deck_objects.specs.Joins.LineItems.{listed, words_listed, AreShort}
+use Rattle.deck_objects.specs.declared.lines.FieldLists.{FieldLists}
 use Rattle.deck_objects.specs.declared.lines.LineFields as kept
 use Rattle.deck_objects.specs.declared.lines.LineFields.TheVariants as fields
+
+-- a list begins with another: nothing before the old end is changed
+abbrev pub BeginsWith : {A : Type 0} → List A → List A → Type 0
+BeginsWith before after = take (length before) after ≡ before
+
+-- and so do the lists of an object
+abbrev pub AreKeptOn : FieldLists → FieldLists → Type 0
+AreKeptOn before after = BeginsWith before.words.items after.words.items × BeginsWith before.items.items after.items.items
+
+-- or are as they were
+abbrev pub AreUnchanged : FieldLists → FieldLists → Type 0
+AreUnchanged before after = (after.words.items ≡ before.words.items) × (after.items.items ≡ before.items.items)
+
+-- the words that were put at the end of a list are these fields
+pub record ArePut (width : ℕ) (fields : List Item) (before after : List ℕ) : Type 0 where
+  pub kept : BeginsWith before after
+  pub told : known_words width (drop (length before) after) ≡ fields
 
 -- fields of known bits have so many bits together, and are this number
 pub record AreTogether (fields : List Item) (width bits : ℕ) : Type 0 where
@@ -23,12 +41,14 @@ pub record IsNumber (fields : List Item) (bits : ℕ) : Type 0 where
 abbrev pub IsOneNumber : List Item → ℕ → Type 0
 IsOneNumber fields bits = HasFields fields × IsNumber fields bits
 
--- what a line keeps of these fields of an operand, with the fields of its object
-abbrev pub AreKeptAs : DeckKind → Operand → Sizing → kept.LineFields → List code.Item → List Item → Type 0
-AreKeptAs kind operand sizing fields.Absent items told = told ≡ []
-AreKeptAs kind operand sizing (fields.Known bits) items told = IsOneNumber (listed_fields kind operand told) bits
-AreKeptAs kind operand sizing (fields.Listed first count) items told = (first + count ≤ length items) × (listed items first count ≡ listed_fields kind operand told)
-AreKeptAs kind operand sizing fields.Zeros items told = told ≡ zeros_of kind sizing ∷ []
+-- what a line keeps of these fields of an operand, with the lists of its object
+abbrev pub AreKeptAs : DeckKind → Operand → Sizing → kept.LineFields → FieldLists → List Item → Type 0
+AreKeptAs kind operand sizing fields.Absent lists told = told ≡ []
+AreKeptAs kind operand sizing (fields.Known bits) lists told = IsOneNumber (listed_fields kind operand told) bits
+AreKeptAs kind operand sizing (fields.Words first count) lists told =
+    (2 ≤ count) × ((first + count ≤ length lists.words.items) × (words_listed kind lists.words.items first count ≡ listed_fields kind operand told))
+AreKeptAs kind operand sizing (fields.Listed first count) lists told = (first + count ≤ length lists.items.items) × (listed lists.items.items first count ≡ listed_fields kind operand told)
+AreKeptAs kind operand sizing fields.Zeros lists told = told ≡ zeros_of kind sizing ∷ []
 
 -- whether a line stores zeros
 abbrev pub are_zeros : kept.LineFields → Bool

@@ -2,7 +2,7 @@
 use Rattle.std.specs.Prelude.{ℕ, ◌≡◌, ⊤, ◌≤◌, ◌<◌, ◌+◌, List, [], ◌∷◌, ◌++◌, Option, true, is_some, take, drop, length, reverse}
 use Rattle.cards.specs.{Joins.Spans.statement_at, declared.statement_list.Span.Span}
 use Rattle.definitions.specs.{Cards.Card, Laws.Edits.{Edited, IsUntouched}, Statements.Statement, declared.deck_kind.DeckKind.DeckKind}
-use Rattle.deck_assembler.specs.{Joins.Agreements.{left, HasFront, HaveSameEnd}, Joins.Formers.known_in, Joins.SizedDecks.{IsSizedStatement, AreSizedFrom}, Joins.Sizers.{stood, ahead, IsNext, IsSizer}, Joins.Tails.{AreKeptAlike, HaveOneTail}, declared.old_deck.OldDeck.OldDeck, declared.old_deck.Stage.Stage, declared.sized_statement.SizedStatement.SizedStatement, declared.sizer.Sizer.Sizer}
+use Rattle.deck_assembler.specs.{Joins.Agreements.{left, HasFront, HaveSameEnd}, Joins.Formers.known_in, Joins.SizedDecks.{IsSizedStatement, AreSizedFrom}, Joins.Sizers.{stood, IsNext, IsSizer}, Joins.Tails.{AreKeptAlike, HaveOneTail}, declared.old_deck.OldDeck.OldDeck, declared.old_deck.Stage.Stage, declared.sized_statement.SizedStatement.SizedStatement, declared.sizer.Sizer.Sizer}
 use Rattle.deck_assembler.specs.declared.old_deck.Stage.TheVariants as stages
 
 -- statements in order are sized behind these of a deck, and so many of its cards stood before them

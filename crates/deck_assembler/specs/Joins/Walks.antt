@@ -1,7 +1,7 @@
 -- The statements of a deck, one after the other, and the lines that show them.
 use Rattle.std.specs.{Prelude.{ℕ, ◌≡◌, ◌≤◌, ◌+◌, List, [], ◌∷◌, Bool, true, false, map, drop, length, reverse}, List.list_any}
 use Rattle.definitions.specs.{Cards.Card, Characters.same_text, Expressions.{Literal, OfNumber}, Lengths.{BlockRow, block_rows}, Objects.{Shown, shown_of}, Settled.{Settled, Definition}, Settling.settled_all, StatementItems.Context, Statements.Statement, Symbols.TooGreat, declared.deck_kind.DeckKind.DeckKind}
-use Rattle.statement_coder.specs.declared.items.Item as code
+use Rattle.deck_objects.specs.declared.lines.FieldLists.{FieldLists}
 use Rattle.deck_objects.specs.{Joins.CodedLines.IsShown, declared.lines.Line.Line}
 use Rattle.deck_assembler.specs.{Joins.DeckParts.DeckParts, Joins.SizedDecks.IsSizedUp, Joins.SharedNames.entries_to, declared.deck_lines.DeckLines.DeckLines, declared.deck_view.DeckView.DeckView}
 
@@ -41,16 +41,16 @@ pub record IsWhole (whole : Whole) : Type 0 where
   pub few : length whole.cards ≤ 20000
 
 -- lines show statements one behind the other: those have the first of these cards, so many stood before them, and so many are behind
-abbrev pub AreShownTo : DeckKind → List BlockRow → List code.Item → ℕ → List Card → List Line → List Shown → ℕ → List Card → Type 0
-AreShownTo kind rows items before cards [] [] stood ahead = (before ≡ stood) × (cards ≡ ahead)
-AreShownTo kind rows items before cards [] (shown ∷ others) stood ahead = ⊥
-AreShownTo kind rows items before cards (line ∷ lines) [] stood ahead = ⊥
-AreShownTo kind rows items before cards (line ∷ lines) (shown ∷ others) stood ahead =
-    IsShown kind rows items before cards line shown × AreShownTo kind rows items (before + line.cards) (drop line.cards cards) lines others stood ahead
+abbrev pub AreShownTo : DeckKind → List BlockRow → FieldLists → ℕ → List Card → List Line → List Shown → ℕ → List Card → Type 0
+AreShownTo kind rows lists before cards [] [] stood ahead = (before ≡ stood) × (cards ≡ ahead)
+AreShownTo kind rows lists before cards [] (shown ∷ others) stood ahead = ⊥
+AreShownTo kind rows lists before cards (line ∷ lines) [] stood ahead = ⊥
+AreShownTo kind rows lists before cards (line ∷ lines) (shown ∷ others) stood ahead =
+    IsShown kind rows lists before cards line shown × AreShownTo kind rows lists (before + line.cards) (drop line.cards cards) lines others stood ahead
 
 -- the lines show these statements, and the cards that are left stand behind them
 abbrev pub AreLinedAs : Whole → List Shown → DeckLines → Type 0
-AreLinedAs whole shown lines = AreShownTo whole.deck.kind whole.rows lines.items.items 0 whole.cards lines.lines.items shown lines.stood (drop lines.stood whole.cards)
+AreLinedAs whole shown lines = AreShownTo whole.deck.kind whole.rows lines.fields 0 whole.cards lines.lines.items shown lines.stood (drop lines.stood whole.cards)
 
 -- the lines show statements up to END, read newest first
 abbrev pub AreLined : Whole → List Statement → DeckLines → Type 0

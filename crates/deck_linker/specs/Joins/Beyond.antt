@@ -26,6 +26,7 @@ coded_beyond kind row coded =
 abbrev pub keeps_fields : LineFields → Bool
 keeps_fields fields.Absent = false
 keeps_fields (fields.Known bits) = true
+keeps_fields (fields.Words first count) = nat_lt 0 count
 keeps_fields (fields.Listed first count) = nat_lt 0 count
 keeps_fields fields.Zeros = true
 

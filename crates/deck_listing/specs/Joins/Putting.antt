@@ -1,7 +1,7 @@
 -- Fields of a statement, put one behind the other into a run.
 use Rattle.std.specs.Prelude.{ℕ, ◌≡◌, ◌+◌, ◌*◌, ◌%◌, ◌<◌, ◌≤◌, List, [], Bool, false}
 use Rattle.definitions.specs.{Kinds.{units, most_words}, Operations.is_instruction, StatementItems.Item, Words.{Linking, width_of}, declared.deck_kind.DeckKind.DeckKind, Laws.Filling.DoFill}
-use Rattle.statement_coder.specs.declared.items.Item as code
+use Rattle.deck_objects.specs.declared.lines.FieldLists.{FieldLists}
 use Rattle.operations.specs.Joins.OperationsAs.{operation_as}
 use Rattle.parcel_packer.specs.Joins.Packing.{OpenRun, Packed, DoItemsFit, MayBegin, moved, put_items}
 use Rattle.deck_objects.specs.Joins.LineItems.{kept_items, AreKept}
@@ -21,15 +21,15 @@ pub record ArePut (size : ℕ) (instruction : Bool) (linking : Linking) (old : O
   pub none : fields ≡ [] → new ≡ old
 
 -- a line may be put behind a run whose parcels are whole
-pub record IsReady (kind : DeckKind) (items : List code.Item) (line : lines.CodedLine) (packed : Packed) : Type 0 where
+pub record IsReady (kind : DeckKind) (lists : FieldLists) (line : lines.CodedLine) (packed : Packed) : Type 0 where
   pub kind_is : packed.kind ≡ kind
   pub whole : packed.run.filled ≡ 0
   pub behind : packed.run.place ≤ line.place
   pub ordered : line.place ≤ line.end
   pub within : line.end ≤ units kind * most_words kind
   -- its fields are short and fill it; zeros fill whole words
-  pub kept : AreKept kind items line line.fields
-  pub filled : DoFill kind line.place line.end (kept_items kind items line)
+  pub kept : AreKept kind lists line line.fields
+  pub filled : DoFill kind line.place line.end (kept_items kind lists line)
   pub plain : line.fields ≡ variant.Zeros → is_instruction (operation_as line.operation) ≡ false
   pub from_word : line.fields ≡ variant.Zeros → line.place % units kind ≡ 0
   pub to_word : line.fields ≡ variant.Zeros → line.end % units kind ≡ 0

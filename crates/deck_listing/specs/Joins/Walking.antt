@@ -1,7 +1,7 @@
 -- The runs of all blocks, as their statements come line by line.
 use Rattle.std.specs.{Prelude.{ℕ, ◌≡◌, ◌≤◌, List, [], ◌++◌, length, map, reverse, slice_get, Some}, List.IsDistinct}
 use Rattle.definitions.specs.{Characters.same_text, Cards.Card, Lengths.BlockRow, Objects.Object, Words.{Coded, Linking, runs_of}, declared.deck_kind.DeckKind.DeckKind, Laws.Reaching.{DoesReach, DoReach}, Laws.Rising.{run_end, IsLaidOut, AreLaidOut}}
-use Rattle.statement_coder.specs.declared.items.Item as code
+use Rattle.deck_objects.specs.declared.lines.FieldLists.{FieldLists}
 use Rattle.parcel_packer.specs.Joins.Packing.{Packed, empty_run, runs_in}
 use Rattle.deck_objects.specs.{Joins.CodedLines.{IsCoded, AreCoded}, Joins.PartsOf.ArePartsOf, declared.lines.Line.Line, declared.object.ObjectParts.ObjectParts}
 use Rattle.deck_objects.specs.declared.lines.CodedLine as lines
@@ -21,18 +21,18 @@ pub record HasRuns (kind : DeckKind) (linking : Linking) (block : List ℕ) (cod
   pub place : packed.run.place ≤ run_end block coded
 
 -- a line is the statement that follows those whose runs are packed
-pub record DoesFollow (kind : DeckKind) (rows : List BlockRow) (items : List code.Item) (linking : Linking) (block : List ℕ)
+pub record DoesFollow (kind : DeckKind) (rows : List BlockRow) (lists : FieldLists) (linking : Linking) (block : List ℕ)
     (line : lines.CodedLine) (packed : Packed) (coded : Coded) (earlier : List Coded) : Type 0 where
-  pub is_coded : IsCoded kind rows items line coded
+  pub is_coded : IsCoded kind rows lists line coded
   pub laid : IsLaidOut kind coded earlier
   pub reach : DoesReach kind coded
   pub runs : HasRuns kind linking block earlier packed
 
 -- a line is some statement that follows those of its block whose runs are packed
-pub record IsNext (kind : DeckKind) (rows : List BlockRow) (items : List code.Item) (linking : Linking) (line : lines.CodedLine) (packed : Packed) : Type 0 where
+pub record IsNext (kind : DeckKind) (rows : List BlockRow) (lists : FieldLists) (linking : Linking) (line : lines.CodedLine) (packed : Packed) : Type 0 where
   pub coded : Coded
   pub earlier : List Coded
-  pub follows : DoesFollow kind rows items linking coded.settled.block line packed coded earlier
+  pub follows : DoesFollow kind rows lists linking coded.settled.block line packed coded earlier
 
 -- no two blocks have one name
 abbrev pub DoNamesDiffer : List BlockRow → Type 0
@@ -44,26 +44,26 @@ pub record HaveRuns (kind : DeckKind) (linking : Linking) (rows : List BlockRow)
   pub each : (i : ℕ) (row : BlockRow) (words : Packed) → slice_get rows i ≡ Some row → slice_get packed i ≡ Some words → HasRuns kind linking row.name coded words
 
 -- a line is the statement that follows those whose runs are packed for all blocks
-pub record DoesFollowAll (kind : DeckKind) (rows : List BlockRow) (items : List code.Item) (linking : Linking)
+pub record DoesFollowAll (kind : DeckKind) (rows : List BlockRow) (lists : FieldLists) (linking : Linking)
     (line : lines.CodedLine) (packed : List Packed) (coded : Coded) (earlier : List Coded) : Type 0 where
-  pub is_coded : IsCoded kind rows items line coded
+  pub is_coded : IsCoded kind rows lists line coded
   pub laid : IsLaidOut kind coded earlier
   pub reach : DoesReach kind coded
   pub runs : HaveRuns kind linking rows earlier packed
 
 -- a line is some statement that follows them
-pub record IsNextOfAll (kind : DeckKind) (rows : List BlockRow) (items : List code.Item) (linking : Linking) (line : lines.CodedLine) (packed : List Packed) : Type 0 where
+pub record IsNextOfAll (kind : DeckKind) (rows : List BlockRow) (lists : FieldLists) (linking : Linking) (line : lines.CodedLine) (packed : List Packed) : Type 0 where
   pub coded : Coded
   pub earlier : List Coded
-  pub follows : DoesFollowAll kind rows items linking line packed coded earlier
+  pub follows : DoesFollowAll kind rows lists linking line packed coded earlier
 
 -- of all these statements, newest first, those before these lines are packed
-pub record AreWalked (kind : DeckKind) (rows : List BlockRow) (items : List code.Item) (linking : Linking)
+pub record AreWalked (kind : DeckKind) (rows : List BlockRow) (lists : FieldLists) (linking : Linking)
     (all : List Coded) (ahead : List Line) (packed : List Packed) : Type 0 where
   pub left : List Coded
   pub earlier : List Coded
   pub split : reverse left ++ earlier ≡ all
-  pub coded : AreCoded kind rows items ahead left
+  pub coded : AreCoded kind rows lists ahead left
   pub laid : AreLaidOut kind (reverse left ++ earlier)
   pub reach : DoReach kind (reverse left ++ earlier)
   pub runs : HaveRuns kind linking rows earlier packed

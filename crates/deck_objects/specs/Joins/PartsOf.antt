@@ -11,8 +11,8 @@ pub record ArePartsOf (cards : List Card) (parts : ObjectParts) (object : Object
   pub entries : parts.entries.items ≡ object.entries
   pub externals : parts.externals.items ≡ object.externals
   -- the lines in the order of the deck; those up to END once more
-  pub shown : AreShown parts.kind parts.bases parts.items.items 0 cards parts.lines.items (reverse object.shown)
-  pub coded : AreCoded parts.kind parts.bases parts.items.items parts.lines.items (reverse object.coded)
+  pub shown : AreShown parts.kind parts.bases parts.fields 0 cards parts.lines.items (reverse object.shown)
+  pub coded : AreCoded parts.kind parts.bases parts.fields parts.lines.items (reverse object.coded)
   -- where its statements stand
   pub laid : AreLaidOut object.kind object.coded
   pub reach : DoReach object.kind object.coded

@@ -49,7 +49,7 @@ returns-clause-parts c =
     let parts : ObjectParts = record {
       kind = c.kind.result;
       lines = made.lines.lines;
-      items = made.lines.items;
+      fields = made.lines.fields;
       bases = c.in_ok-bases.bases;
       literals = c.in_ok-literals.literals;
       entries = c.in_ok-entries.entries;
@@ -60,7 +60,7 @@ returns-clause-parts c =
       rows = refl;
       literals = c.in_ok-literals.ensures.items ∙ c.words.ensures ∙ c.literals.ensures;
       lines = refl;
-      items = refl;
+      fields = refl;
       entries = c.in_ok-entries.ensures;
       externals = c.in_ok-externals.ensures.items ∙ c.externals.ensures;
     } in

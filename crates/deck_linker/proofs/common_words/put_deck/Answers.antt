@@ -24,8 +24,8 @@ nowhere c = λ name none.
     let object = c.args.based.now.object in
     let parts = c.parts.result.now in
     let facts = c.parts.ensures.parts.1 in
-    let Coded : DeckKind → Type 0 = λ kind. AreCoded kind parts.bases parts.items.items parts.lines.items (reverse object.coded) in
-    stored-nowhere object.kind (linking_of c.args.layout.now c.args.based.now) name parts.bases parts.items.items parts.lines.items object.coded (subst (λ (rs : List BlockRow). has_row name rs ≡ false) c.rows-rows.ensures none) (subst Coded facts.kind facts.coded)
+    let Coded : DeckKind → Type 0 = λ kind. AreCoded kind parts.bases parts.fields parts.lines.items (reverse object.coded) in
+    stored-nowhere object.kind (linking_of c.args.layout.now c.args.based.now) name parts.bases parts.fields parts.lines.items object.coded (subst (λ (rs : List BlockRow). has_row name rs ≡ false) c.rows-rows.ensures none) (subst Coded facts.kind facts.coded)
 
 pub returns-then-not-has_common : goal.returns-then-not-has_common
 returns-then-not-has_common c =

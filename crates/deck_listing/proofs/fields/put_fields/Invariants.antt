@@ -1,13 +1,12 @@
 use Rattle.std.proofs.Common.{◌≡◌, ◌+◌, map, take}
 use Rattle.definitions.specs.{Kinds.unit_bits, Words.width_of}
-use Rattle.statement_coder.specs.Joins.Items.{item_as}
 use Rattle.deck_listing.specs.Joins.Putting.{ArePut}
 use Rattle.deck_listing.proofs.fields.put_fields.Given as goal
 
-abbrev pub invariant-loop-item : goal.invariant-loop-item
-invariant-loop-item g l = record {
+abbrev pub invariant-loop-field : goal.invariant-loop-field
+invariant-loop-field g l = record {
   kind : l.words.kind ≡ l.initial.words.kind;
   earlier : l.words.earlier ≡ l.initial.words.earlier;
-  end : l.end ≡ l.from + width_of (map item_as (take l.item-index l.fields));
-  put : ArePut (unit_bits l.initial.words.kind) l.is_instruction (g.L.Linking.linking l.linking) l.initial.words.run l.from (map item_as (take l.item-index l.fields)) l.words.run;
+  end : l.end ≡ l.from + width_of (map (g.F.ListedField.field l.kind) (take l.field-index l.fields));
+  put : ArePut (unit_bits l.initial.words.kind) l.is_instruction (g.L.Linking.linking l.linking) l.initial.words.run l.from (map (g.F.ListedField.field l.kind) (take l.field-index l.fields)) l.words.run;
 }

@@ -9,7 +9,7 @@ put_next-requires g c =
     record {
       coded = next.coded;
       earlier = next.earlier;
-      follows = one-follows parts.kind parts.bases parts.items.items (g.L.Linking.linking c.args.linking.now) c.args.line.now c.args.blocks.now.items c.index_mut.result.now next.coded next.earlier
+      follows = one-follows parts.kind parts.bases parts.fields (g.L.Linking.linking c.args.linking.now) c.args.line.now c.args.blocks.now.items c.index_mut.result.now next.coded next.earlier
           c.index_mut.ensures.value next.follows;
     }
 
@@ -21,6 +21,6 @@ returns g c =
     let packed = c.args.blocks.now.items in
     on_ok_weaker c.put_next.result
     (λ put coded earlier follows.
-    all-runs parts.kind parts.bases parts.items.items linking line packed c.put_next.new.words coded earlier c.requires.names follows
-    (put coded earlier (one-follows parts.kind parts.bases parts.items.items linking line packed c.index_mut.result.now coded earlier c.index_mut.ensures.value follows)))
+    all-runs parts.kind parts.bases parts.fields linking line packed c.put_next.new.words coded earlier c.requires.names follows
+    (put coded earlier (one-follows parts.kind parts.bases parts.fields linking line packed c.index_mut.result.now coded earlier c.index_mut.ensures.value follows)))
     c.put_next.ensures

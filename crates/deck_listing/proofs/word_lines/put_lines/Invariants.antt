@@ -6,4 +6,4 @@ use Rattle.deck_listing.proofs.word_lines.put_lines.Given as goal
 
 abbrev pub invariant-loop-line : goal.invariant-loop-line
 invariant-loop-line g l = (cards : List Card) (object : Object) → ArePartsOf cards l.parts object →
-    AreWalked l.parts.kind l.parts.bases l.parts.items.items (g.L.Linking.linking l.linking) object.coded (drop l.line-index l.line-items) l.blocks.items
+    AreWalked l.parts.kind l.parts.bases l.parts.fields (g.L.Linking.linking l.linking) object.coded (drop l.line-index l.line-items) l.blocks.items

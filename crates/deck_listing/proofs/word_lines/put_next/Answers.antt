@@ -1,9 +1,6 @@
-use Rattle.std.proofs.{Common.{◌*◌, List, ◌∙◌, subst, sym}, lemmas.Result.on_ok_weaker}
-use Rattle.definitions.{specs.Kinds.unit_bits, specs.Operations.is_instruction, proofs.TextLaws.same_text-refl}
-use Rattle.statement_coder.specs.declared.items.Item as code
-use Rattle.operations.specs.Joins.OperationsAs.{operation_as}
-use Rattle.deck_objects.specs.Joins.LineItems.{kept_items}
-use Rattle.deck_listing.{specs.Joins.Putting.{ArePut}, proofs.RunSteps.{begun-runs, joined-runs, on_ok_by}}
+use Rattle.std.proofs.{Common.{◌∙◌, sym}, lemmas.Result.on_ok_weaker}
+use Rattle.definitions.proofs.TextLaws.{same_text-refl}
+use Rattle.deck_listing.proofs.RunSteps.{begun-runs, joined-runs, on_ok_by}
 use Rattle.deck_listing.proofs.word_lines.put_next.Goals as goal
 
 pub returns-then-line : goal.returns-then-line
@@ -22,10 +19,8 @@ returns g c =
     let linking = g.L.Linking.linking c.args.linking.now in
     let old = c.args.words.now in
     let new = c.put_line.new.words in
-    let Put : List code.Item → Type 0 =
-    λ items. ArePut (unit_bits parts.kind) (is_instruction (operation_as line.operation)) linking old.run (unit_bits parts.kind * line.place) (kept_items parts.kind items line) new.run in
     on_ok_by c.put_line.result _ _ _ _
     (λ kind earlier put coded before follows.
-    joined-runs parts.kind parts.bases parts.items.items linking coded.settled.block line old new coded before follows (same_text-refl coded.settled.block) c.if-line.false kind earlier
-    (subst Put c.as_slice.ensures.value put))
+    joined-runs parts.kind parts.bases parts.fields linking coded.settled.block line old new coded before follows (same_text-refl coded.settled.block) c.if-line.false kind earlier
+    put)
     c.put_line.ensures.kind c.put_line.ensures.earlier c.put_line.ensures.put

@@ -14,7 +14,7 @@ returns-clause-lined c =
     let few : length whole.rows ≤ 65 = subst (λ rows. length rows ≤ 65) (sym is.rows) (rows-few whole.deck.kind known) in
     let named = block-named c.rows.result.now whole.rows c.block.result.now settled.block c.block_index-block.result c.rows.ensures (c.block.ensures ∙ sized.sizing.block) c.block_index-block.ensures few has in
     let stored = c.in_ok-line.ensures.line whole.deck.kind old_rows whole.rows (coded_of (context_in whole) settled) coded named in
-    let new : DeckLines = record { lines = c.push.new.self; items = c.copied_line.new.items; stood = c.saturating_add-self.result; block = c.block_index-block.result } in
+    let new : DeckLines = record { lines = c.push.new.self; fields = c.copied_line.new.lists; stood = c.saturating_add-self.result; block = c.block_index-block.result } in
     subst (λ (shown : List Shown). AreLinedAs whole shown new) (sym (reverse-step (shown_of (context_in whole) settled) (map (shown_of (context_in whole)) before)))
     (lined-step whole (reverse (map (shown_of (context_in whole)) before)) (shown_of (context_in whole) settled)
     (record { cards = c.args.sized.now.cards; letters = c.copied.result; coded = Some c.in_ok-line.line }) self new c.in_ok-push.ensures.items c.copied_line.ensures.kept

@@ -1,4 +1,4 @@
-use Rattle.std.proofs.Common.{◌∙◌, List, inl, inr, ap, sym, subst}
+use Rattle.std.proofs.Common.{◌∙◌, List, inl, inr, ap, refl, sym, subst}
 use Rattle.deck_objects.specs.declared.lines.Line.{Line}
 use Rattle.deck_assembler.specs.Joins.{Heads.AreHeadLines, TailLines.lines_behind}
 use Rattle.deck_assembler.proofs.former.Former.lines.Goals as goal
@@ -9,7 +9,7 @@ returns c =
     let front = c.front_lines-front.ensures in
     let all = c.as_slice-all.ensures.value in
     record {
-      items = c.as_slice.ensures.value;
+      fields = refl;
       symbols = c.bindings.ensures.symbols;
       literals = c.bindings.ensures.literals;
       bases = c.bindings.ensures.rows;

@@ -2,7 +2,7 @@
 use Rattle.std.proofs.Common.{◌≡◌, ◌∷◌, ◌++◌, ◌∙◌, List, true≢false, sym, subst}
 use Rattle.cards.specs.Joins.Spans.{statement_at}
 use Rattle.definitions.specs.Statements.{Statement}
-use Rattle.deck_assembler.{specs.Joins.Agreements.left, specs.Joins.DeckParts.sized_in, specs.Joins.Meetings.WillAgreeAt, specs.Joins.OldDecks.IsAtStage, specs.Joins.Sizers.ahead, proofs.DueLaws.{IsNextAlike, next-cut, next-first, next-same}, proofs.MeetLaws.{goes-on, soon-next, tail-next, tail-stays}, proofs.OldLaws.{at_stage, same-again, same-at}}
+use Rattle.deck_assembler.{specs.Joins.Agreements.left, specs.Joins.DeckParts.sized_in, specs.Joins.Meetings.WillAgreeAt, specs.Joins.OldDecks.IsAtStage, proofs.DueLaws.{IsNextAlike, next-cut, next-first, next-same}, proofs.MeetLaws.{goes-on, soon-next, tail-next, tail-stays}, proofs.OldLaws.{at_stage, same-again, same-at}}
 use Rattle.deck_assembler.specs.declared.old_deck.Stage.TheVariants as stages
 use Rattle.deck_assembler.proofs.old_deck.OldDeck.stays_in_tail.Goals as goal
 
